@@ -133,9 +133,9 @@ def callees_with_edits(function, report, edited):
     return blame - {function}, others
 
 
-def judge(edit, report, edited, written, names=None, is_mended=False):
-    """What a check makes of the edit. `edited` are the functions with edits in it, `written` the names in the
-    function's written answers, and `names` those of all its goals without the edit, where they were asked for."""
+def judge(edit, report, edited, names=None, is_mended=False):
+    """What a check makes of the edit. `edited` are the functions with edits in it, and `names` those of all goals that
+    the edit's function has without it, where they were asked for."""
     said = [report.functions[part] for part in parts_of(edit.function, report)]
     words = {it.word for it in said} - {None}
     if not words:
@@ -145,13 +145,16 @@ def judge(edit, report, edited, written, names=None, is_mended=False):
         return Verdict(MISSED, f"`{edit.function}` is proved with it{more}")
     if "could not tell" in words:
         return Verdict(UNSURE, "the prover could not tell")
+    goals = {goal: values for it in said for goal, values in it.open.items()}
+    faults = [fault for it in said for fault in it.faults]
+    # A goal is tried by the contracts of what is called, also where that isn't proved.
+    verdict = judge_answers(faults, is_mended) or judge_goals(goals, faults, names)
+    if verdict and verdict.kind == REFUSED:
+        return verdict
     blame, others = callees_with_edits(edit.function, report, edited)
     if blame:
         return Verdict(CALLEE, f"it calls {listed(blame)}, which has an edit", blame)
-    goals = {goal: values for it in said for goal, values in it.open.items()}
-    faults = [fault for it in said for fault in it.faults]
-    return (judge_answers(faults, is_mended) or judge_goals(goals, faults, written, names)
-            or judge_rest(goals, faults, others, is_mended))
+    return verdict or judge_rest(goals, faults, others, is_mended)
 
 
 def judge_answers(faults, is_mended):
@@ -160,9 +163,9 @@ def judge_answers(faults, is_mended):
     return next((Verdict(REFUSED, told_fault(fault)) for fault in faults if kind_of(fault) in counted), None)
 
 
-def judge_goals(goals, faults, written, names):
+def judge_goals(goals, faults, names):
     """By the goals that the prover's search doesn't prove."""
-    known = [goal for goal in goals if goal in written or goal in (names or ())]
+    known = [goal for goal in goals if goal in (names or ())]
     # Where no written answer broke, a clause of the contract counts wherever it is to be shown.
     if not faults:
         known += [goal for goal in goals if is_clause(goal) and goal not in known]
@@ -199,15 +202,6 @@ def told_fault(fault):
     text = re.sub(r"\s+", " ", fault.text)
     at = text.find("the goal fails")
     return f"`{fault.name}`: {text[:100]}{' .. ' + text[at:at + 120] if at > 100 else text[100:200]}"
-
-
-def written_names(folder, function):
-    """The names of the written answers."""
-    try:
-        with open(answers_path(folder, function), encoding="utf-8") as source:
-            return set(re.findall(r"(?m)^(?:pub )?(\S+) :", source.read()))
-    except FileNotFoundError:
-        return set()
 
 
 def answers_path(folder, function):
