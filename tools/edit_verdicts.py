@@ -41,7 +41,7 @@ class Said:
     are told; and what is wrong in its written answers."""
 
     def __init__(self):
-        self.word, self.callees, self.open, self.faults = None, [], {}, []
+        self.word, self.reason, self.callees, self.open, self.faults = None, "", [], {}, []
 
 
 class Report:
@@ -75,7 +75,8 @@ class Report:
     def add_function(self, symbol, word, more, goals):
         said = self.of(self.name(symbol))
         reason, _, called = more.partition("it calls ")
-        said.word, said.callees = word, [self.name(it) for it in re.findall("`([^`]+)`", called)]
+        said.word, said.reason = word, more
+        said.callees = [self.name(it) for it in re.findall("`([^`]+)`", called)]
         named = re.findall("`([^`]+)`", reason.partition("did not prove")[2])
         said.open = dict.fromkeys(named, "") | goals
 
@@ -147,14 +148,13 @@ def judge(edit, report, edited, names=None, is_mended=False):
         return Verdict(UNSURE, "the prover could not tell")
     goals = {goal: values for it in said for goal, values in it.open.items()}
     faults = [fault for it in said for fault in it.faults]
-    # A goal is tried by the contracts of what is called, also where that isn't proved.
-    verdict = judge_answers(faults, is_mended) or judge_goals(goals, faults, names)
-    if verdict and verdict.kind == REFUSED:
-        return verdict
     blame, others = callees_with_edits(edit.function, report, edited)
-    if blame:
+    verdict = (judge_answers(faults, is_mended) or judge_goals(goals, faults, names)
+               or judge_rest(goals, faults, others, is_mended))
+    # Goals are tried by the contracts of what is called, also where that isn't proved.
+    if blame and (not verdict or verdict.kind not in (REFUSED, MEND, ASK)):
         return Verdict(CALLEE, f"it calls {listed(blame)}, which has an edit", blame)
-    return verdict or judge_rest(goals, faults, others, is_mended)
+    return verdict or Verdict(UNSURE, f"{said[0].word}{said[0].reason}")
 
 
 def judge_answers(faults, is_mended):
@@ -191,7 +191,7 @@ def judge_rest(goals, faults, others, is_mended):
         return Verdict(SHAPE, f"only goals that it doesn't have without the edit: {listed(goals)}")
     if others:
         return Verdict(UNSURE, f"it calls {listed(others)}, which has no edit and isn't proved")
-    return Verdict(UNSURE, "no reason is told")
+    return None
 
 
 def listed(names):
