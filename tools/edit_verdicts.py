@@ -231,15 +231,19 @@ def mend(folder, function, faults):
 def end_of_term(text, begin):
     """Where the term ends that begins there: as an argument of a function with its own brackets or its name, and else
     with the brackets or the part of a list that it stands in, or with the declaration."""
-    is_argument = bool(re.search(r"[\w)\]}] *(\n +)?$", text[:begin])) and not re.search(r"\bin\s*$", text[:begin])
+    before = text[:begin].rstrip()
+    is_argument = bool(re.search(r"[\w)\]}]$", before)) and not re.search(r"\bin$", before)
+    is_let = text.startswith("let ", begin)
     depth, at = 0, begin
-    for at in range(begin, len(text)):
-        sign = text[at]
-        if depth == 0 and (sign in ")]},|" or sign == "\n" and re.match(r"\n+(\S|$)", text[at:])
-                           or re.match(r"\sin\s", text[at:]) or is_argument and at > begin and sign.isspace()):
-            return at
-        depth += (sign in "([{") - (sign in ")]}")
-    return len(text.rstrip())
+    for at in range(begin, len(text) + 1):
+        sign, behind = text[at:at + 1], text[at:at + 200]
+        if depth == 0 and (sign in tuple(")]},|") or re.match(r"\n+(\S|$)", behind)
+                           or not is_let and re.match(r"\sin\s", behind)
+                           or is_argument and sign.isspace()):
+            break
+        depth += sign in tuple("([{")
+        depth -= sign in tuple(")]}")
+    return begin + len(text[begin:at].rstrip())
 
 
 def ask_for_goals(folder, function, crate, number):
