@@ -46,6 +46,12 @@ def sum_of_folder(top):
     return sum_of(found)
 
 
+def sum_of_crate(crate):
+    """Of the crate's files, and of what its line of crates.txt says."""
+    parts = [sum_of_folder(f"{crate.folder}/{part}") for part in PARTS]
+    return sum_of((crate.name, parts, crate.said, crate.of_kit))
+
+
 class Sums:
     """Sums of what verdicts stand on, each taken once."""
 
@@ -55,10 +61,8 @@ class Sums:
         self.crates, self.rlibs = {}, {}
 
     def of_crate(self, crate):
-        """Of the crate's files, and of what its line of crates.txt says."""
         if crate.name not in self.crates:
-            parts = [sum_of_folder(f"{crate.folder}/{part}") for part in PARTS]
-            self.crates[crate.name] = sum_of((crate.name, parts, crate.said, crate.of_kit))
+            self.crates[crate.name] = sum_of_crate(crate)
         return self.crates[crate.name]
 
     def of_rlib(self, crate):
@@ -93,20 +97,23 @@ def is_built(crate, sums):
         return False
 
 
-def build(crates, sums, say):
-    """Builds the libraries that aren't built, each behind those below it; or returns one that doesn't build."""
+def are_built(crates, sums, as_they_stand, say):
+    """Builds those of the libraries that aren't built of what there is now, each behind those below it; or takes all
+    that there are as they stand. Returns whether all are built."""
     for crate in crates:
+        if as_they_stand and os.path.isdir(crate.rlib):
+            mark(crate, sums)
         if is_built(crate, sums):
             continue
         say(f"try_edits: building the library {crate.name}")
         with tempfile.TemporaryFile("w+", errors="replace") as crate.out:
             if crate.build_rlib(["--jobs", "2"], anew=True):
                 crate.out.seek(0)
-                say(crate.out.read())
-                return crate
+                say(f"{crate.out.read()}\ntry_edits: the library {crate.name} doesn't build")
+                return False
         sums.rlibs.pop(crate.name, None)
         mark(crate, sums)
-    return None
+    return True
 
 
 class Kept:
