@@ -33,7 +33,7 @@ FUNCTION = re.compile(r"fn (\S+): (proved|not proved|no proof|could not tell)\b(
 OPENED = re.compile(r"note: \S+?:\d+:\d+: it is not proved that .*\(`([^`]+)`\)(.*)")
 FAULT = re.compile(r"(?:\./)?(\S+?):(\d+):(\d+): error(\[[\w-]+\])?: (?:`([^`]*)`: )?(.*)")
 VALUES = re.compile(r"note: `([^`]+)` of proofs/(\S+)/Answers\.antt may be false: the known facts allow (.*)")
-ASKED = re.compile(r"help: `Goals` has no `(no-such-goal-\d+)`; rattle asks for (.*?)(?:;|$)")
+ASKED = re.compile(r"help: `Goals` has no `(\S+)`; rattle asks for (.*?)(?:;|$)")
 
 
 class Said:
@@ -134,9 +134,9 @@ def callees_with_edits(function, report, edited):
     return blame - {function}, others
 
 
-def judge(edit, report, edited, names=None, is_mended=False):
-    """What a check makes of the edit. `edited` are the functions with edits in it, and `names` those of all goals that
-    the edit's function has without it, where they were asked for."""
+def judge(edit, report, edited, asked, is_mended):
+    """What a check makes of the edit. `edited` are the functions with edits in it; `asked` has the goals of the edit's
+    function that were asked for, and whether it has them without the edit."""
     said = [report.functions[part] for part in parts_of(edit.function, report)]
     words = {it.word for it in said} - {None}
     if not words:
@@ -149,7 +149,7 @@ def judge(edit, report, edited, names=None, is_mended=False):
     goals = {goal: values for it in said for goal, values in it.open.items()}
     faults = [fault for it in said for fault in it.faults]
     blame, others = callees_with_edits(edit.function, report, edited)
-    verdict = (judge_answers(faults, is_mended) or judge_goals(goals, faults, names)
+    verdict = (judge_answers(faults, is_mended) or judge_goals(goals, faults, asked)
                or judge_rest(goals, faults, others, is_mended))
     # Goals are tried by the contracts of what is called, also where that isn't proved.
     if blame and (not verdict or verdict.kind not in (REFUSED, MEND, ASK)):
@@ -163,17 +163,16 @@ def judge_answers(faults, is_mended):
     return next((Verdict(REFUSED, told_fault(fault)) for fault in faults if kind_of(fault) in counted), None)
 
 
-def judge_goals(goals, faults, names):
+def judge_goals(goals, faults, asked):
     """By the goals that the prover's search doesn't prove."""
-    known = [goal for goal in goals if goal in (names or ())]
     # Where no written answer broke, a clause of the contract counts wherever it is to be shown.
-    if not faults:
-        known += [goal for goal in goals if is_clause(goal) and goal not in known]
+    known = [goal for goal in goals if asked.get(goal) or not faults and is_clause(goal)]
     if known:
         # Best one of which values are known.
         goal = max(known, key=lambda goal: len(goals[goal]))
         return Verdict(REFUSED, f"`{goal}` isn't proved" + (f": {goals[goal][:160]}" if goals[goal] else ""))
-    return Verdict(ASK, "") if goals and names is None else None
+    unknown = [goal for goal in goals if goal not in asked]
+    return Verdict(ASK, "", unknown) if unknown else None
 
 
 def judge_rest(goals, faults, others, is_mended):
@@ -246,8 +245,9 @@ def end_of_term(text, begin):
     return begin + len(text[begin:at].rstrip())
 
 
-def ask_for_goals(folder, function, crate, number):
-    """In a copy of the crate, has the prover tell the goals of the function: it does so where one has no such name."""
+def ask_for_goals(folder, function, crate, names):
+    """In a copy of the crate, has the prover tell which goals of the function have names like these, which aren't
+    there."""
     path = answers_path(folder, function)
     text, alias = "", None
     if os.path.exists(path):
@@ -257,7 +257,6 @@ def ask_for_goals(folder, function, crate, number):
     if not alias:
         os.makedirs(os.path.dirname(path), exist_ok=True)
         text = f"use Rattle.{crate}.proofs.{function.replace('::', '.')}.Goals as goal\n{text}"
-    name = f"no-such-goal-{number}"
+    asked = "".join(f"\n{name} : {alias[1] if alias else 'goal'}.{name}\n{name} c = ?\n" for name in names)
     with open(path, "w", encoding="utf-8") as out:
-        out.write(f"{text}\npub {name} : {alias[1] if alias else 'goal'}.{name}\n{name} c = ?\n")
-    return name
+        out.write(text + asked)
