@@ -8,7 +8,6 @@ ghost use Rattle.nfs_core.specs.Server.{AreAlike, server_of};
 ghost use Rattle.nfs_state.specs.Entries.{IsSendable, entry_of};
 ghost use Rattle.nfs_state.specs.Room.{state_of};
 ghost use Rattle.nfs_state.specs.Store.{OwnersAgree};
-ghost use Rattle.nfs_state.specs.declared.entry.Entry.TheVariants as entries;
 
 use crate::Entered;
 use crate::committing::commit;
@@ -68,41 +67,25 @@ fn enter_decided(
     ensures room { OnErr result (held.old.store.journal.room ≤ held.new.store.journal.room) }
 {
     match copy_of_answer(&decision.answer) {
-        Ok(answer) => enter_call(alloc, held, Call { request, answer }, decision),
+        Ok(copy) => {
+            let Decision { answer, effect } = decision;
+            let live = effect.live();
+            let call = Call {
+                request,
+                answer: copy,
+            };
+            match commit(alloc, held, Entry::Call(call), effect) {
+                Ok(number) => Ok((answer, Entered { number, live })),
+                Err(shortage) => {
+                    drop(answer);
+                    Err(shortage)
+                }
+            }
+        }
         Err(_) => {
             drop(request);
             drop(decision);
             Err(Shortage::Memory)
-        }
-    }
-}
-
-// Enters the call, which was answered as it was decided.
-fn enter_call(
-    alloc: Global,
-    held: &mut Holdings,
-    call: Call,
-    decision: Decision,
-) -> Result<(OpResult, Entered), Shortage>
-    requires next { IsNext held.old.store.journal.history (state_of held.old.store.tables)
-        (entries.Call call) decision.effect }
-    requires answer { decision.answer ≡ call.answer }
-    requires stored { StoreAgrees held.old.store }
-    ensures answer { IfOk result (λ r. r.0 ≡ decision.answer) }
-    ensures entered { IfOk result (λ r. IsEntered (server_of held.old) (server_of held.new)
-        (entry_of call.request r.0) r.1) }
-    ensures kept { OwnersAgree held.new.store }
-    ensures memory { IfErr result (λ e. e ≡ Shortage.Memory) }
-    ensures same { OnErr result (AreAlike (server_of held.old) (server_of held.new)) }
-    ensures room { OnErr result (held.old.store.journal.room ≤ held.new.store.journal.room) }
-{
-    let Decision { answer, effect } = decision;
-    let live = effect.live();
-    match commit(alloc, held, Entry::Call(call), effect) {
-        Ok(number) => Ok((answer, Entered { number, live })),
-        Err(shortage) => {
-            drop(answer);
-            Err(shortage)
         }
     }
 }

@@ -44,7 +44,16 @@ pub fn commit_entry(
     ensures room { OnErr result (store.old.journal.room ≤ store.new.journal.room) }
 {
     match make_ready(alloc, store, &entry, &effect) {
-        Ok(()) => enter_ready(store, entry, effect),
+        Ok(()) => {
+            let number = store.journal.entries.len() as u32;
+            match make_changes(&mut store.tables, &entry, effect, number) {
+                Ok(()) => Ok(push_entry(&mut store.journal.entries, entry)),
+                Err(shortage) => {
+                    drop(entry);
+                    Err(shortage)
+                }
+            }
+        }
         Err(shortage) => {
             drop(entry);
             drop(effect);
@@ -72,43 +81,13 @@ fn make_ready(
     ensures memory { IfErr result (λ e. e ≡ Shortage.Memory) }
 {
     store.journal.entries.reserve(1)?;
+    if effect.is_nothing() {
+        return Ok(());
+    }
     let block = entry.written();
     store
         .tables
         .make_room(alloc, &effect.change, &effect.owner, block)
-}
-
-// Makes the changes of the entry, for which there is room, and adds it to the journal. Memory may be wanted for what is
-// kept for an owner alone, and nothing is changed without it.
-fn enter_ready(store: &mut Store, entry: Entry, effect: Effect) -> Result<u32, Shortage>
-    requires below { length store.old.journal.history.entries < JOURNAL_LIMIT }
-    requires fits { Fits entry effect (state_of store.old.tables) }
-    requires room { 0 < store.old.journal.room }
-    requires tables_room { HasRoom (data_in entry) effect.change store.old.tables
-        × HasOwnerRoom effect.owner store.old.tables }
-    requires given { HasGivenNumbers (state_of store.old.tables) }
-    requires changes { CanChange (state_of store.old.tables).files }
-    requires kept { OwnersAgree store.old }
-    ensures number { IfOk result (λ n. n ≡ length store.old.journal.history.entries) }
-    ensures entry { OnOk result
-        (store.new.journal.history ≡ with_entry entry store.old.journal.history) }
-    ensures state { OnOk result (state_of store.new.tables
-        ≡ after (length store.old.journal.history.entries) entry effect
-        (state_of store.old.tables)) }
-    ensures kept { OnOk result (OwnersAgree store.new) }
-    ensures memory { IfErr result (λ e. e ≡ Shortage.Memory) }
-    ensures ready { kept_in entry ≡ None → IsOk result }
-    ensures same { OnErr result (HoldTheSame store.old store.new) }
-    ensures grows { OnErr result (store.old.journal.room ≤ store.new.journal.room) }
-{
-    let number = store.journal.entries.len() as u32;
-    match make_changes(&mut store.tables, &entry, effect, number) {
-        Ok(()) => Ok(push_entry(&mut store.journal.entries, entry)),
-        Err(shortage) => {
-            drop(entry);
-            Err(shortage)
-        }
-    }
 }
 
 // Makes the changes of the entry, which gets this number, for which there is room.
