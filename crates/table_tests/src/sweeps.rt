@@ -7,6 +7,7 @@ use crate::renewing::Renewing;
 use nfs_core::Core;
 use nfs_leases::{LeaseBook, LeasedCore, PlainLeases, Swept};
 use nfs_operations::setclientid::Setclientid;
+use nfs_operations::setclientid_confirm::SetclientidConfirm;
 use nfs_state::{Moment, Request};
 use nfs_tree::Tree;
 use nfs_xdr::{Address, Answer, Callback, Op, OpResult, Principal, Refusal, Verifier};
@@ -87,12 +88,23 @@ fn answer_once<B: LeaseBook>(leased: &mut LeasedCore<B>, op: &Op) -> (OpResult, 
 fn come<B: LeaseBook>(rt: &impl Abort, leased: &mut LeasedCore<B>, introduction: &Op)
     requires entry { IsTrue (has_entry introduction.now) }
 {
-    let OpResult::Setclientid(Answer::Done(args)) = answer_to(leased, introduction) else {
+    let Some(args) = introduced(&answer_to(leased, introduction)) else {
         panic!(rt; "no client");
     };
-    let confirmation = answer_to(leased, &Op::SetclientidConfirm(args));
-    let wanted = OpResult::SetclientidConfirm(Answer::Done(()));
-    assert!(rt; confirmation.is_same(&wanted));
+    let confirmation = Op::SetclientidConfirm(args);
+    assert!(rt; is_confirmed(&answer_to(leased, &confirmation)));
+}
+
+/// What confirms the client that was introduced with this answer.
+fn introduced(answer: &OpResult) -> Option<SetclientidConfirm> {
+    match answer {
+        OpResult::Setclientid(Answer::Done(args)) => Some(*args),
+        _ => None,
+    }
+}
+
+fn is_confirmed(answer: &OpResult) -> bool {
+    matches!(answer, OpResult::SetclientidConfirm(Answer::Done(())))
 }
 
 /// The client's lease is renewed after the look, and so the client stays. Without room for its end it isn't asked to
@@ -117,8 +129,18 @@ fn change(rt: &impl Abort, leased: &mut LeasedCore<Renewing>) {
 #[test]
 fn a_renewal_between_look_and_close(rt: HostRuntime) -> Result<(), Fail> {
     let mut leased = started(rt.alloc()).ok_or("a core")?;
-    let first = introduction(rt.alloc(), b"a").ok_or("a client")?;
-    come(&rt, &mut leased, &first);
-    change(&rt, &mut leased);
+    let end = come_and_change(&rt, rt.alloc(), &mut leased);
+    drop(leased);
+    end
+}
+
+fn come_and_change(
+    rt: &impl Abort,
+    alloc: Global,
+    leased: &mut LeasedCore<Renewing>,
+) -> Result<(), Fail> {
+    let first = introduction(alloc, b"a").ok_or("a client")?;
+    come(rt, leased, &first);
+    change(rt, leased);
     Ok(())
 }
