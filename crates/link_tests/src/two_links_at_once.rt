@@ -1,12 +1,13 @@
-ghost use Rattle.std.specs.Prelude.{◌≡◌, IfSome};
+ghost use Rattle.std.specs.Prelude.{◌≡◌, IfSome, length, map};
 ghost use Rattle.nfs_threads.specs.Worker.{seats_of};
+ghost use Rattle.nfs_shared.specs.Ends.{AreFresh, AreKept};
 ghost use Rattle.nfs_shared.specs.Naming.{CanBegin};
 
 use crate::board::Board;
 use crate::board_link::BoardLink;
 use nfs_core::{Core, Moment};
 use nfs_server::ServeError;
-use nfs_shared::{Naming, Opened, Seat, Shared, SharedParts};
+use nfs_shared::{Naming, Opened, Receipt, Seat, Shared, SharedParts};
 use nfs_threads::{WorkerEnd, serve_all, workers_keep_receipts};
 use nfs_tree::Tree;
 use std::alloc::Global;
@@ -47,18 +48,82 @@ fn serve_links_in<N: Naming + Send + Sync, R: Threads + Wait + Sleeper + Sync>(
     requires beginning { CanBegin N.run N.start opened core }
     requires tree { N.start.nodes ≡ tree.now.nodes }
 {
-    let Ok(parts) = Shared::<N>::new(alloc, opened, core) else {
-        return None;
-    };
+    match Shared::<N>::new(alloc, opened, core) {
+        Ok(parts) => serve_parts(rt, alloc, parts, tree),
+        Err(core) => {
+            drop(core);
+            None
+        }
+    }
+}
+
+// The same over a state that is shared.
+fn serve_parts<N: Naming + Send + Sync, R: Threads + Wait + Sleeper + Sync>(
+    rt: &R,
+    alloc: Global,
+    parts: SharedParts<N>,
+    tree: &Tree,
+) -> Option<Outcome>
+    requires tree { N.start.nodes ≡ tree.now.nodes }
+    requires fresh { AreFresh N.run.workers parts.seats.items }
+{
     let SharedParts {
         shared,
         seats,
         sweeper,
         sender,
     } = parts;
+    match serve_seats(rt, alloc, &shared, seats, tree) {
+        Some(
+            SeatsBack {
+                seats,
+                receipts,
+                served,
+                read_failures,
+            },
+        ) => {
+            let core = shared.end(receipts.as_slice(), seats, sweeper, sender);
+            let entries = core.journal().entries().len();
+            drop(core);
+            Some(Outcome {
+                served,
+                read_failures,
+                entries,
+            })
+        }
+        None => {
+            drop(shared);
+            None
+        }
+    }
+}
+
+// What came back of the links at some seats.
+#[derive(Drop)]
+struct SeatsBack<N: Naming> {
+    seats: Vec<Seat<N>>,
+    receipts: Vec<Vec<Receipt>>,
+    served: u32,
+    read_failures: u32,
+}
+
+// Serves a link at each of the seats.
+fn serve_seats<N: Naming + Send + Sync, R: Threads + Wait + Sleeper + Sync>(
+    rt: &R,
+    alloc: Global,
+    shared: &Shared<N>,
+    seats: Vec<Seat<N>>,
+    tree: &Tree,
+) -> Option<SeatsBack<N>>
+    requires tree { N.start.nodes ≡ tree.now.nodes }
+    requires fresh { AreFresh N.run.workers seats.items }
+    ensures all { IfSome result (λ back. length back.seats.items ≡ N.run.workers) }
+    ensures kept { IfSome result (λ back.
+        AreKept back.seats.items (map (λ v. v.items) back.receipts.items)) }
+{
     let board = Board::new(alloc, seats.len()).ok()?;
     let links = links_at(alloc, rt, &board, seats)?;
-    let Ok(all) = serve_all(alloc, rt, &shared, tree, links) else {
+    let Ok(all) = serve_all(alloc, rt, shared, tree, links) else {
         return None;
     };
     let (served, read_failures) = count(&all);
@@ -66,11 +131,11 @@ fn serve_links_in<N: Naming + Send + Sync, R: Threads + Wait + Sleeper + Sync>(
         return None;
     };
     workers_keep_receipts::<N, BoardLink<'_, R>>();
-    let core = shared.end(receipts.as_slice(), seats, sweeper, sender);
-    Some(Outcome {
+    Some(SeatsBack {
+        seats,
+        receipts,
         served,
         read_failures,
-        entries: core.journal().entries().len(),
     })
 }
 
