@@ -168,8 +168,8 @@ def judge_goals(goals, faults, asked):
     # Where no written answer broke, a clause of the contract counts wherever it is to be shown.
     known = [goal for goal in goals if asked.get(goal) or not faults and is_clause(goal)]
     if known:
-        # Best one of which values are known.
-        goal = max(known, key=lambda goal: len(goals[goal]))
+        # Best one that values break, and else a clause.
+        goal = max(known, key=lambda goal: (len(goals[goal]), is_clause(goal)))
         return Verdict(REFUSED, f"`{goal}` isn't proved" + (f": {goals[goal][:160]}" if goals[goal] else ""))
     unknown = [goal for goal in goals if goal not in asked]
     return Verdict(ASK, "", unknown) if unknown else None
