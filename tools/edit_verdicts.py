@@ -111,7 +111,7 @@ def kind_of(fault):
 def is_clause(goal):
     """Whether the goal is a clause of the contract, an invariant of a type or of a loop, and not what a call or an
     operation needs."""
-    return bool(re.match("(returns|invariant_of)", goal)) or goal.endswith("-preserved")
+    return bool(re.search("^(returns|invariant_of)(-|$)|-(init|preserved)(-|$)", goal))
 
 
 def callees_with_edits(function, report, edited):
