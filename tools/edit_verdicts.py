@@ -111,7 +111,7 @@ def kind_of(fault):
 def is_clause(goal):
     """Whether the goal is a clause of the contract, an invariant of a type or of a loop, and not what a call or an
     operation needs."""
-    return bool(re.match("(returns|invariant_of)", goal)) or goal.endswith("-preserved")
+    return bool(re.search("^(returns|invariant_of)(-|$)|-(init|preserved)(-|$)", goal))
 
 
 def callees_with_edits(function, report, edited):
@@ -168,8 +168,8 @@ def judge_goals(goals, faults, asked):
     # Where no written answer broke, a clause of the contract counts wherever it is to be shown.
     known = [goal for goal in goals if asked.get(goal) or not faults and is_clause(goal)]
     if known:
-        # Best one of which values are known.
-        goal = max(known, key=lambda goal: len(goals[goal]))
+        # Best one that values break, and else a clause.
+        goal = max(known, key=lambda goal: (len(goals[goal]), is_clause(goal)))
         return Verdict(REFUSED, f"`{goal}` isn't proved" + (f": {goals[goal][:160]}" if goals[goal] else ""))
     unknown = [goal for goal in goals if goal not in asked]
     return Verdict(ASK, "", unknown) if unknown else None
