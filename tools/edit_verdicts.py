@@ -7,8 +7,8 @@ import os
 import re
 from collections import namedtuple
 
-REFUSED, SHAPE, CALLEE, MISSED, BAD, UNSURE, MEND, ASK = ("REFUSED", "PROOF'S SHAPE", "CALLEE", "NOT REFUSED",
-                                                          "BAD EDIT", "COULD NOT TELL", "mend", "ask")
+REFUSED, LISTED, SHAPE, CALLEE, MISSED, BAD, UNSURE, MEND, ASK = (
+    "REFUSED", "LISTED", "PROOF'S SHAPE", "CALLEE", "NOT REFUSED", "BAD EDIT", "COULD NOT TELL", "mend", "ask")
 # What an edit comes to, and why. Where it is to be tried again, `more` says with what.
 Verdict = namedtuple("Verdict", "kind text more", defaults=(None,))
 # One error of the prover: the place, the declaration that it stands in, if that is told, and all that is said.
@@ -26,7 +26,7 @@ KINDS = [
     # A tactic doesn't prove the goal.
     (OPEN, r"^`\w+`: the goal does not follow |^`\w+`: no proof of |^`\w+` found no proof|the goal fails"),
     # It proves something else than is wanted.
-    (TYPE, r"the two types (first |only )?differ |^expected type "),
+    (TYPE, r"the two types (first |only )?differ |^expected type |^on the face "),
 ]
 
 FUNCTION = re.compile(r"fn (\S+): (proved|not proved|no proof|could not tell)\b(.*)")

@@ -7,8 +7,9 @@ from collections import namedtuple
 PARTS = ("src", "specs", "proofs")
 
 # The function is named by its path below the crate, as a check prints it. The changes are lines of files, by the file's
-# path and the line's number from 0; or there are none, and `bad` says why the edit can't be applied.
-Edit = namedtuple("Edit", "crate name why function changes text bad")
+# path and the line's number from 0; or there are none, and `bad` says why the edit can't be applied. `shape` says what
+# refuses it, where that is known to be the proof's shape alone.
+Edit = namedtuple("Edit", "crate name why function changes text bad shape")
 
 
 class BadEdit(Exception):
@@ -27,7 +28,9 @@ def read_edit(path, folder, crate):
         changes, bad = changes_of(text, folder), None
     except BadEdit as error:
         changes, bad = {}, str(error)
-    return Edit(crate, name, text.partition("\n")[0], functions[0] if functions else "", changes, text, bad)
+    shape = re.search("(?m)^shape: (.*)$", text)
+    return Edit(crate, name, text.partition("\n")[0], functions[0] if functions else "", changes, text, bad,
+                shape and shape[1])
 
 
 def changes_of(text, folder):
