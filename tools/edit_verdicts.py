@@ -26,7 +26,7 @@ KINDS = [
     # A tactic doesn't prove the goal.
     (OPEN, r"^`\w+`: the goal does not follow |^`\w+`: no proof of |^`\w+` found no proof|the goal fails"),
     # It proves something else than is wanted.
-    (TYPE, r"the two types (first |only )?differ |^expected type |^on the face "),
+    (TYPE, r"the two types (first |only )?differ\b|^expected type |^on the face "),
 ]
 
 FUNCTION = re.compile(r"fn (\S+): (proved|not proved|no proof|could not tell)\b(.*)")
