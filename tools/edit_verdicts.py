@@ -22,7 +22,7 @@ KINDS = [
     # It names a goal, a place or a field that isn't there.
     (GONE, r"^record \S+ has no field |has no \S+ that can be named from here|is not in scope"),
     # A tactic gave up, and values that break the goal aren't known.
-    (LIMIT, r"(?s)stopped at its own limit(?!.*the goal fails)"),
+    (LIMIT, r"stopped at its own limit(?!.*the goal fails)"),
     # A tactic doesn't prove the goal.
     (OPEN, r"^`\w+`: the goal does not follow |^`\w+`: no proof of |^`\w+` found no proof|the goal fails"),
     # It proves something else than is wanted.
@@ -105,7 +105,8 @@ def parts_of(function, report):
 
 
 def kind_of(fault):
-    return next((kind for kind, words in KINDS if re.search(words, fault.text)), None)
+    text = re.sub(r"\s+", " ", fault.text)
+    return next((kind for kind, words in KINDS if re.search(words, text)), None)
 
 
 def is_clause(goal):
