@@ -22,11 +22,11 @@ KINDS = [
     # It names a goal, a place or a field that isn't there.
     (GONE, r"^record \S+ has no field |has no \S+ that can be named from here|is not in scope"),
     # A tactic gave up, and values that break the goal aren't known.
-    (LIMIT, r"(?s)stopped at its own limit(?!.*the goal fails)"),
+    (LIMIT, r"stopped at its own limit(?!.*the goal fails)"),
     # A tactic doesn't prove the goal.
     (OPEN, r"^`\w+`: the goal does not follow |^`\w+`: no proof of |^`\w+` found no proof|the goal fails"),
     # It proves something else than is wanted.
-    (TYPE, r"the two types (first |only )?differ |^expected type |^on the face "),
+    (TYPE, r"the two types (first |only )?differ\b|^expected type |^on the face "),
 ]
 
 FUNCTION = re.compile(r"fn (\S+): (proved|not proved|no proof|could not tell)\b(.*)")
@@ -105,7 +105,8 @@ def parts_of(function, report):
 
 
 def kind_of(fault):
-    return next((kind for kind, words in KINDS if re.search(words, fault.text)), None)
+    text = re.sub(r"\s+", " ", fault.text)
+    return next((kind for kind, words in KINDS if re.search(words, text)), None)
 
 
 def is_clause(goal):
