@@ -24,7 +24,8 @@ KINDS = [
     # A tactic gave up, and values that break the goal aren't known.
     (LIMIT, r"stopped at its own limit(?!.*the goal fails)"),
     # A tactic doesn't prove the goal.
-    (OPEN, r"^`\w+`: the goal does not follow |^`\w+`: no proof of |^`\w+` found no proof|the goal fails"),
+    (OPEN, r"^`\w+`: the goal does not follow |^`\w+`: no proof of |^`\w+` found no proof|the goal fails"
+           r"|^`cc` proves a path .* and the goal \S+ is not one"),
     # It proves something else than is wanted.
     (TYPE, r"the two types (first |only )?differ\b|^expected type |^on the face "),
 ]
