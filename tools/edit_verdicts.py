@@ -22,7 +22,7 @@ KINDS = [
     # It names a goal, a place or a field that isn't there.
     (GONE, r"^record \S+ has no field |has no \S+ that can be named from here|is not in scope"),
     # A tactic gave up, and values that break the goal aren't known.
-    (LIMIT, r"stopped at its own limit(?!.*the goal fails)"),
+    (LIMIT, r"stopped at its own limit(?!.*the goal fails)|`cc` met a bound of its own before"),
     # A tactic doesn't prove the goal.
     (OPEN, r"^`\w+`: the goal does not follow |^`\w+`: no proof of |^`\w+` found no proof|the goal fails"
            r"|^`cc` proves a path .* and the goal \S+ is not one"),
