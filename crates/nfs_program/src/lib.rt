@@ -17,6 +17,7 @@ mod reporter;
 mod serve_end;
 mod sight;
 mod tree_file;
+mod values;
 
 pub use audit::run_audit;
 pub use beginning::Beginning;

@@ -38,7 +38,7 @@ impl<'a, R: Wait, E: Write + Drop, D: Draft + Drop> Reporter<'a, R, E, D> {
         let mut lines = lines.into_inner();
         if let Some(mut beginning) = sight.into_inner().into_beginning() {
             match journal {
-                Some(journal) => beginning.complete(journal.entries()),
+                Some(journal) => beginning.complete(journal),
                 None => beginning.remove(),
             }
             beginning.tell(&mut lines);

@@ -29,7 +29,7 @@ impl<'a, D: Draft> Sight<'a, D> {
         }
         let more_limits = self.limits.look(journal);
         let more_entries = match &mut self.beginning {
-            Some(beginning) => beginning.take(journal.entries()),
+            Some(beginning) => beginning.take(journal),
             None => false,
         };
         self.is_level = !more_limits && !more_entries;

@@ -80,7 +80,7 @@ fn make_ready(
         → HasRoom (data_in entry.now) effect.now.change store.old.tables → IsOk result }
     ensures memory { IfErr result (λ e. e ≡ Shortage.Memory) }
 {
-    store.journal.entries.reserve(1)?;
+    store.journal.reserve()?;
     if effect.is_nothing() {
         return Ok(());
     }
