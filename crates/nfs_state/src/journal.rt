@@ -1,7 +1,10 @@
-ghost use Rattle.std.specs.Prelude.{◌≡◌, ◌<◌, ◌≤◌, [], ◌∷◌, ◌++◌, nat_le, length, slice_get, IsOk, OnOk};
+ghost use Rattle.std.specs.Prelude.{◌≡◌, ◌<◌, ◌≤◌, [], nat_le, length, slice_get, IsOk, IsTrue, OnOk};
 ghost use Rattle.std.specs.Option.{option_copied};
+ghost use Rattle.nfs_state.specs.Entries.{with_entry};
+ghost use Rattle.nfs_state.specs.MemoryCount.{IsNoCall};
 ghost use Rattle.nfs_state.specs.PieceList.{piece_from};
 
+use crate::memory_count::MemoryCount;
 use crate::piece_list::PieceList;
 use crate::{Entry, JOURNAL_LIMIT};
 use nfs_tree::{Policy, Tree};
@@ -21,8 +24,9 @@ pub struct Journal {
     epoch: u32,
     lease: u32,
     policy: Policy,
-    // Visible in the crate because a call makes room in the list before it changes the state.
-    pub(crate) entries: PieceList<Entry>,
+    entries: PieceList<Entry>,
+    // What the entries count of a run's memory, if that has a bound. Contracts don't see it.
+    memory: MemoryCount,
 }
 
 impl Model for Journal {
@@ -64,6 +68,7 @@ impl Journal {
             lease,
             policy,
             entries: PieceList::new(alloc),
+            memory: MemoryCount::new(),
         }
     }
 
@@ -134,16 +139,44 @@ impl Journal {
     {
         self.entries.len() >= JOURNAL_LIMIT
     }
-}
 
-/// Adds the entry at the end, where there has to be room, and returns its number.
-pub(crate) fn push_entry(entries: &mut PieceList<Entry>, entry: Entry) -> u32
-    requires below { length entries.old.items < JOURNAL_LIMIT }
-    requires room { 0 < entries.old.room }
-    ensures items { entries.new.items ≡ entries.old.items ++ entry ∷ [] }
-    ensures number { result ≡ length entries.old.items }
-{
-    let number = entries.len() as u32;
-    entries.push_reserved(entry);
-    number
+    /// Adds the entry at the end, where there has to be room, and returns its number.
+    pub(crate) fn push(&mut self, entry: Entry) -> u32
+        requires below { length self.old.history.entries < JOURNAL_LIMIT }
+        requires room { 0 < self.old.room }
+        ensures entry { self.new.history ≡ with_entry entry self.old.history }
+        ensures number { result ≡ length self.old.history.entries }
+    {
+        let number = self.entries.len() as u32;
+        self.memory.add(&entry);
+        self.entries.push_reserved(entry);
+        number
+    }
+
+    /// From now on a call is refused, as where memory is, whose entry would bring the count of the entries' memory above so
+    /// many bytes.
+    pub fn set_memory_limit(&mut self, limit: u64)
+        ensures { self.new ≡ self.old }
+    {
+        self.memory.set_limit(limit);
+    }
+
+    /// How many bytes the entries count: each 320, and those of the names, owners, ids and addresses of its operation, and
+    /// what a WRITE writes or a READ gives.
+    pub fn memory(&self) -> u64 {
+        self.memory.len()
+    }
+
+    /// Whether a call was refused for the bound.
+    pub fn is_out_of_memory(&self) -> bool {
+        self.memory.is_full()
+    }
+
+    /// Whether the entry finds room below the bound, if there is one: each that is no call does.
+    pub(crate) fn has_memory_for(&mut self, entry: &Entry) -> bool
+        ensures same { self.new ≡ self.old }
+        ensures no_call { IsNoCall entry.now → IsTrue result }
+    {
+        self.memory.has_room(entry)
+    }
 }

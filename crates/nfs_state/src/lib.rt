@@ -10,6 +10,7 @@ mod entry_kind;
 mod journal;
 mod lease;
 mod limits;
+mod memory_count;
 mod owner_change;
 mod owner_update;
 mod piece_list;
