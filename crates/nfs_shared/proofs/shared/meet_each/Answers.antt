@@ -1,6 +1,5 @@
-use Rattle.std.proofs.Common.{◌≡◌, ◌∙◌, [], ◌∷◌, List, ap, subst, arith, length-append}
+use Rattle.std.proofs.Common.{◌≡◌, ◌∙◌, [], ◌∷◌, ap, arith, length-append}
 use mathlib.Core.List.{IsPrefix}
-use Rattle.nfs_shared.specs.declared.receipt.Receipt.{Receipt}
 use Rattle.nfs_shared.specs.Roll.{list_of}
 use Rattle.nfs_shared.specs.Seats.{SeatView}
 use Rattle.nfs_shared.proofs.Ends.{begin_more, given_more}
@@ -15,7 +14,7 @@ loop-seat-preserved g c =
     let met = c.meet.ensures in
     let here : list_of c.seat.inside.token ≡ seat.receipts.list = ap (λ s. s.receipts.list) c.seat.view_is in
     let all : list_of c.loop-seat.writer ≡ whole = ap (λ m. m.0.list) i.writer in
-    let begins : IsPrefix seat.receipts.list whole = subst (λ (p : List Receipt × List Receipt). IsPrefix p.0 p.1) (λ j. (here j, all j)) met.begins in
+    let begins : IsPrefix seat.receipts.list whole = (met.begins.0, cc (here, all, met.begins.1)) in
     let merged = c.merge.ensures in
     record {
       can = tt;

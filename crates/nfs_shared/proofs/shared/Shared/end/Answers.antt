@@ -1,4 +1,4 @@
-use Rattle.std.proofs.Common.{◌≡◌, ◌∙◌, ◌++◌, List, ap, map, subst, sym, arith, append_assoc}
+use Rattle.std.proofs.Common.{◌≡◌, ◌++◌, List, ap, map, subst, sym, arith, append_assoc}
 use Rattle.nfs_shared.proofs.Ends.{all_apart, all_counted, all_stand}
 use Rattle.nfs_shared.proofs.Giving.{counted}
 use Rattle.nfs_shared.proofs.shared.Shared.end.Goals as goal
@@ -43,8 +43,7 @@ returns-clause-taken g c =
     let taken = c.sender.inside.pass.recalls in
     let begins = c.settle.ensures in
     let left : List Recall = waiting held.hand held.leased.core.recalls in
-    let same : taken ++ (begins.0 ++ left) ≡ held.put.recalls ++ left =
-    sym (append_assoc taken begins.0 left) ∙ ap (λ (rs : List Recall). rs ++ left) begins.1 in
+    let same : taken ++ (begins.0 ++ left) ≡ held.put.recalls ++ left = cc (append_assoc taken begins.0 left, begins.1) in
     let all : AreRecallsOf held.leased.core.journal (taken ++ (begins.0 ++ left)) =
     subst (AreRecallsOf held.leased.core.journal) (sym same) c.held.invariant.0.queued in
     let told : AreRecallsOf held.leased.core.journal (c.args.sender.taken ++ (begins.0 ++ left)) =
