@@ -35,8 +35,20 @@ pub(crate) fn serve<
         Err(fault) => return report(rt, fault),
     };
     match core_of(rt.alloc(), &tree, options.lease, options.epoch) {
-        Ok(core) => serve_core(rt, threads, options, core, &tree),
+        Ok(mut core) => {
+            bound_memory(&mut core, options.memory);
+            serve_core(rt, threads, options, core, &tree)
+        }
         Err(_) => report(rt, Fault::NoMemory),
+    }
+}
+
+// Bounds the memory of the core's entries by so many MiB, if there is to be a bound.
+fn bound_memory(core: &mut Core, memory: Option<u32>)
+    ensures { core.new ≡ core.old }
+{
+    if let Some(memory) = memory {
+        core.set_memory_limit(u64::from(memory) * 1_048_576);
     }
 }
 

@@ -53,7 +53,8 @@ impl Backlog {
             (HasNoPlaceAt (vec_capacity self.old.bytes) self.new journal.now.history.entries) }
     {
         let (start, first) = (self.bytes.len(), self.count);
-        for entry in journal.piece_from(first) {
+        let piece = journal.piece_from(first);
+        for entry in piece {
             let most = if self.count == first {
                 usize::MAX
             } else {

@@ -9,6 +9,7 @@ mod draft;
 mod fault;
 mod faults;
 mod journal_file;
+mod memory_reach;
 mod numbers;
 mod once;
 mod pieces;

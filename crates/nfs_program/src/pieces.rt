@@ -48,10 +48,7 @@ pub(crate) fn make_places<T: Wire, V: Values<T>>(
     };
     make_place(buffer, &count)?;
     for number in 0..values.count() {
-        let Some(value) = values.value(number) else {
-            unreachable!()
-        };
-        make_place(buffer, value)?;
+        make_place(buffer, values.value(number))?;
     }
     Ok(())
 }
@@ -95,10 +92,7 @@ pub(crate) fn put_many<T: Wire, V: Values<T>, J: Sink>(
 {
     put(file, buffer, &(values.count() as u32))?;
     for number in 0..values.count() {
-        let Some(value) = values.value(number) else {
-            unreachable!()
-        };
-        put(file, buffer, value)?;
+        put(file, buffer, values.value(number))?;
     }
     Ok(())
 }

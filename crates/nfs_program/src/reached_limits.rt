@@ -4,6 +4,7 @@ ghost use Rattle.nfs_program.specs.declared.reached_limits.Reach.TheVariants as 
 ghost use Rattle.nfs_state.specs.PieceList.{piece_from};
 ghost use Rattle.nfs_program.specs.ReachedLimits.{after_telling, gives_last_client, has_last_client, noted};
 
+use crate::memory_reach::MemoryReach;
 use nfs_core::{Entry, JOURNAL_LIMIT, Journal};
 use nfs_forms::Answer;
 use nfs_owners::CLIENT_LIMIT;
@@ -17,6 +18,7 @@ pub(crate) struct ReachedLimits {
     seen: usize,
     clients: Reach,
     journal: Reach,
+    memory: MemoryReach,
 }
 
 /// How far a run is from a limit.
@@ -30,7 +32,7 @@ pub(crate) enum Reach {
 
 impl Reach {
     // What is known of the limit once it was looked whether it is reached.
-    fn noted(self, is_reached: bool) -> Reach
+    pub(crate) fn noted(self, is_reached: bool) -> Reach
         ensures { result ≡ noted self is_reached }
     {
         match self {
@@ -64,6 +66,7 @@ impl ReachedLimits {
             seen: 0,
             clients: Reach::Below,
             journal: Reach::Below,
+            memory: MemoryReach::new(),
         }
     }
 
@@ -79,6 +82,7 @@ impl ReachedLimits {
         ensures left { result ≡ nat_lt self.new.seen (length journal.now.history.entries) }
     {
         self.journal = self.journal.noted(journal.is_full());
+        self.memory.look(journal);
         let next = journal.piece_from(self.seen);
         self.clients = self.clients.noted(give_last_client(next));
         self.seen += next.len();
@@ -98,6 +102,7 @@ impl ReachedLimits {
         self.journal = self
             .journal
             .told(lines, "the journal is full", JOURNAL_LIMIT);
+        self.memory.tell(lines);
     }
 }
 

@@ -1,7 +1,6 @@
 //! Values in order, whether they stand in one piece or in many.
 
-ghost use Rattle.std.specs.Prelude.{◌≡◌, length, slice_get};
-ghost use Rattle.std.specs.Option.{option_copied};
+ghost use Rattle.std.specs.Prelude.{◌≡◌, ◌<◌, get_or, length};
 
 use nfs_core::{Entry, Journal};
 
@@ -16,9 +15,10 @@ pub(crate) trait Values<T> {
     fn count(&self) -> usize
         ensures { result ≡ length (values self.now) };
 
-    /// The value with this number, if there is one.
-    fn value(&self, number: usize) -> Option<&T>
-        ensures { option_copied result ≡ slice_get (values self.now) number };
+    /// The value with this number, of those that there are.
+    fn value(&self, number: usize) -> &T
+        requires { number < length (values self.now) }
+        ensures { result.now ≡ get_or (values self.now) number result.now };
 }
 
 impl<'a, T> Values<T> for &'a [T] {
@@ -28,11 +28,8 @@ impl<'a, T> Values<T> for &'a [T] {
         self.len()
     }
 
-    fn value(&self, number: usize) -> Option<&T> {
-        match self.get(number) {
-            Some(value) => Some(value),
-            None => None,
-        }
+    fn value(&self, number: usize) -> &T {
+        &self[number]
     }
 }
 
@@ -44,7 +41,10 @@ impl Values<Entry> for Journal {
         self.len()
     }
 
-    fn value(&self, number: usize) -> Option<&Entry> {
-        self.entry(number)
+    fn value(&self, number: usize) -> &Entry {
+        match self.entry(number) {
+            Some(entry) => entry,
+            None => unreachable!(),
+        }
     }
 }
