@@ -50,7 +50,7 @@ pub(crate) fn serve_ongoing<
     };
     let beginning = beginning_of(rt, &names, core.journal());
     listening.tell(rt, tree, options);
-    let reporter = Reporter::new(&threads, rt.stderr(), beginning);
+    let reporter = Reporter::new(&threads, rt.stderr(), beginning, options.memory);
     let Ok(door) = open_door(rt, threads, options, listening.listener) else {
         drop(core);
         let _ = reporter.end(None);

@@ -5,12 +5,12 @@ use std::io::Write;
 
 const MIB: u64 = 1_048_576;
 
-/// How near the memory of a run's entries has come to its bound, if it has one.
+/// How near the memory of a run's entries has come to its bound.
 #[derive(Drop)]
 pub(crate) struct MemoryReach {
-    // What the entries counted at the last look, and the bound.
+    // The bound in MiB, and how many bytes the entries counted at the last look.
+    limit: u32,
     len: u64,
-    limit: u64,
     // How many tenths of the bound were passed, and how many of these were told.
     passed: u64,
     told: u64,
@@ -20,10 +20,10 @@ pub(crate) struct MemoryReach {
 
 impl MemoryReach {
     /// Nothing was looked at.
-    pub(crate) fn new() -> MemoryReach {
+    pub(crate) fn new(limit: u32) -> MemoryReach {
         MemoryReach {
+            limit,
             len: 0,
-            limit: u64::MAX,
             passed: 0,
             told: 0,
             full: Reach::Below,
@@ -33,15 +33,14 @@ impl MemoryReach {
     /// Looks at what the journal's entries count.
     pub(crate) fn look(&mut self, journal: &Journal) {
         self.len = journal.memory();
-        self.limit = journal.memory_limit();
-        let tenths = self.len.saturating_mul(10).checked_div(self.limit);
+        let tenths = (self.len.saturating_mul(10) / MIB).checked_div(u64::from(self.limit));
         self.passed = min(tenths.unwrap_or(0), 9);
         self.full = self.full.noted(journal.is_out_of_memory());
     }
 
     /// Tells the last tenth that was passed, and that a call was refused, each once.
     pub(crate) fn tell<E: Write>(&mut self, lines: &mut E) {
-        let (len, limit) = (self.len / MIB, self.limit / MIB);
+        let (len, limit) = (self.len / MIB, self.limit);
         if self.passed > self.told {
             let _ = writeln!(lines, "memory: {len} of {limit} MiB");
             self.told = self.passed;

@@ -18,7 +18,7 @@ pub(crate) struct ReachedLimits {
     seen: usize,
     clients: Reach,
     journal: Reach,
-    memory: MemoryReach,
+    memory: Option<MemoryReach>,
 }
 
 /// How far a run is from a limit.
@@ -56,8 +56,8 @@ impl Reach {
 }
 
 impl ReachedLimits {
-    /// None, and no entry was looked at.
-    pub(crate) fn new() -> ReachedLimits
+    /// None, and no entry was looked at. The memory of the entries has a bound of so many MiB, if it has one.
+    pub(crate) fn new(memory: Option<u32>) -> ReachedLimits
         ensures seen { result.seen ≡ 0 }
         ensures clients { result.clients ≡ reaches.Below }
         ensures journal { result.journal ≡ reaches.Below }
@@ -66,7 +66,7 @@ impl ReachedLimits {
             seen: 0,
             clients: Reach::Below,
             journal: Reach::Below,
-            memory: MemoryReach::new(),
+            memory: memory.map(|limit| MemoryReach::new(limit)),
         }
     }
 
@@ -82,7 +82,9 @@ impl ReachedLimits {
         ensures left { result ≡ nat_lt self.new.seen (length journal.now.history.entries) }
     {
         self.journal = self.journal.noted(journal.is_full());
-        self.memory.look(journal);
+        if let Some(memory) = &mut self.memory {
+            memory.look(journal);
+        }
         let next = journal.piece_from(self.seen);
         self.clients = self.clients.noted(give_last_client(next));
         self.seen += next.len();
@@ -102,7 +104,9 @@ impl ReachedLimits {
         self.journal = self
             .journal
             .told(lines, "the journal is full", JOURNAL_LIMIT);
-        self.memory.tell(lines);
+        if let Some(memory) = &mut self.memory {
+            memory.tell(lines);
+        }
     }
 }
 

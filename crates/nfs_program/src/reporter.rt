@@ -15,10 +15,16 @@ pub struct Reporter<'a, R, E, D> {
 }
 
 impl<'a, R: Wait, E: Write + Drop, D: Draft + Drop> Reporter<'a, R, E, D> {
-    /// For a run that begins. Where the beginning of its journal can't be kept, that is told.
-    pub fn new(rt: &'a R, lines: E, beginning: Option<Beginning<'a, D>>) -> Reporter<'a, R, E, D> {
+    /// For a run that begins, in which the memory of the entries has a bound of so many MiB, if it has one. Where the
+    /// beginning of its journal can't be kept, that is told.
+    pub fn new(
+        rt: &'a R,
+        lines: E,
+        beginning: Option<Beginning<'a, D>>,
+        memory: Option<u32>,
+    ) -> Reporter<'a, R, E, D> {
         let mut lines = lines;
-        let mut sight = Sight::new(beginning);
+        let mut sight = Sight::new(beginning, memory);
         sight.tell(&mut lines);
         Reporter {
             rt,

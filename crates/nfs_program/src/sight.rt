@@ -13,9 +13,10 @@ pub(crate) struct Sight<'a, D> {
 }
 
 impl<'a, D: Draft> Sight<'a, D> {
-    pub(crate) fn new(beginning: Option<Beginning<'a, D>>) -> Sight<'a, D> {
+    /// Nothing was seen. The memory of the entries has a bound of so many MiB, if it has one.
+    pub(crate) fn new(beginning: Option<Beginning<'a, D>>, memory: Option<u32>) -> Sight<'a, D> {
         Sight {
-            limits: ReachedLimits::new(),
+            limits: ReachedLimits::new(memory),
             beginning,
             is_level: false,
         }

@@ -167,11 +167,6 @@ impl Journal {
         self.memory.len()
     }
 
-    /// The bound of that count, in bytes; without one `u64::MAX`.
-    pub fn memory_limit(&self) -> u64 {
-        self.memory.limit()
-    }
-
     /// Whether a call was refused for the bound.
     pub fn is_out_of_memory(&self) -> bool {
         self.memory.is_full()

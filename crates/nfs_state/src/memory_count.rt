@@ -31,11 +31,6 @@ impl MemoryCount {
         self.limit = limit;
     }
 
-    /// The bound.
-    pub(crate) fn limit(&self) -> u64 {
-        self.limit
-    }
-
     /// How many bytes are counted.
     pub(crate) fn len(&self) -> u64 {
         self.len
