@@ -88,11 +88,26 @@ fn answer_once<B: LeaseBook>(leased: &mut LeasedCore<B>, op: &Op) -> (OpResult, 
 fn come<B: LeaseBook>(rt: &impl Abort, leased: &mut LeasedCore<B>, introduction: &Op)
     requires entry { IsTrue (has_entry introduction.now) }
 {
-    let Some(args) = introduced(&answer_to(leased, introduction)) else {
+    let Some(args) = introduce(leased, introduction) else {
         panic!(rt; "no client");
     };
+    assert!(rt; confirm(leased, args));
+}
+
+// The client is introduced. Returns what confirms it.
+fn introduce<B: LeaseBook>(
+    leased: &mut LeasedCore<B>,
+    introduction: &Op,
+) -> Option<SetclientidConfirm>
+    requires entry { IsTrue (has_entry introduction.now) }
+{
+    introduced(&answer_to(leased, introduction))
+}
+
+// Whether the client is confirmed by this.
+fn confirm<B: LeaseBook>(leased: &mut LeasedCore<B>, args: SetclientidConfirm) -> bool {
     let confirmation = Op::SetclientidConfirm(args);
-    assert!(rt; is_confirmed(&answer_to(leased, &confirmation)));
+    is_confirmed(&answer_to(leased, &confirmation))
 }
 
 /// What confirms the client that was introduced with this answer.
