@@ -7,8 +7,8 @@ import os
 import re
 from collections import namedtuple
 
-REFUSED, LISTED, SHAPE, CALLEE, MISSED, BAD, UNSURE, MEND, ASK = (
-    "REFUSED", "LISTED", "PROOF'S SHAPE", "CALLEE", "NOT REFUSED", "BAD EDIT", "COULD NOT TELL", "mend", "ask")
+REFUSED, SHAPE, CALLEE, MISSED, BAD, UNSURE, MEND, ASK = (
+    "REFUSED", "PROOF'S SHAPE", "CALLEE", "NOT REFUSED", "BAD EDIT", "COULD NOT TELL", "mend", "ask")
 # What an edit comes to, and why. Where it is to be tried again, `more` says with what.
 Verdict = namedtuple("Verdict", "kind text more", defaults=(None,))
 # One error of the prover: the place, the declaration that it stands in, if that is told, and all that is said.

@@ -7,9 +7,8 @@ from collections import namedtuple
 PARTS = ("src", "specs", "proofs")
 
 # The function is named by its path below the crate, as a check prints it. The changes are lines of files, by the file's
-# path and the line's number from 0; or there are none, and `bad` says why the edit can't be applied. `shape` says what
-# refuses it, where that is known to be the proof's shape alone.
-Edit = namedtuple("Edit", "crate name why function changes text bad shape")
+# path and the line's number from 0; or there are none, and `bad` says why the edit can't be applied.
+Edit = namedtuple("Edit", "crate name why function changes text bad")
 
 
 class BadEdit(Exception):
@@ -28,9 +27,7 @@ def read_edit(path, folder, crate):
         changes, bad = changes_of(text, folder), None
     except BadEdit as error:
         changes, bad = {}, str(error)
-    shape = re.search("(?m)^shape: (.*)$", text)
-    return Edit(crate, name, text.partition("\n")[0], functions[0] if functions else "", changes, text, bad,
-                shape and shape[1])
+    return Edit(crate, name, text.partition("\n")[0], functions[0] if functions else "", changes, text, bad)
 
 
 def changes_of(text, folder):

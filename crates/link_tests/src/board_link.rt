@@ -4,6 +4,7 @@ use crate::board::Board;
 use nfs_core::Moment;
 use nfs_server::{DeviceFailed, Duplex, ServeError, Stopped};
 use nfs_threads::Links;
+use std::alloc::AllocError;
 use std::thread;
 use std::time::{Clock as Sleeper, Duration};
 
@@ -142,6 +143,10 @@ impl<'a, R: Sleeper + Sync> Links for BoardLink<'a, R> {
             write_failures: 0,
         };
         Some((device, Stopped::at(self.moment)))
+    }
+
+    fn wait_for_memory(&mut self) -> Result<bool, AllocError> {
+        Err(AllocError)
     }
 
     fn end(&self, _outcome: Result<usize, ServeError>) {}

@@ -51,7 +51,7 @@ fn serve_two<R: Threads + Wait + Clock + Net<Listener = TcpListener, Stream = Tc
                 × (core.journal.nodes ≡ tree.now.nodes) }
         {
             let run = serve_on(alloc, rt, listener, core, tree, 2).ok()?;
-            let entries = run.core.journal().entries().len();
+            let entries = run.core.journal().len();
             Some((count(run.workers.as_slice()), entries))
         },
     );

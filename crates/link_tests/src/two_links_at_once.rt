@@ -83,7 +83,7 @@ fn serve_parts<N: Naming + Send + Sync, R: Threads + Wait + Sleeper + Sync>(
             },
         ) => {
             let core = shared.end(receipts.as_slice(), seats, sweeper, sender);
-            let entries = core.journal().entries().len();
+            let entries = core.journal().len();
             drop(core);
             Some(Outcome {
                 served,

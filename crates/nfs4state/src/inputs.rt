@@ -8,20 +8,22 @@ use nfs_program::{Fault, read_tree};
 use nfs_server::Counted;
 use nfs_tree::{DEFAULT_TREE, Tree, TreeError};
 use std::alloc::Global;
+use std::io::Eprint;
 use std::{fs, io};
 
 /// The journal's file, whose failures are told and counted.
-pub(crate) type JournalFile<'r, 'p> = Counted<Told<'r, 'p, NewFile<'r, 'p>>>;
+pub(crate) type JournalFile<'r, 'p, E> = Counted<Told<'p, E, NewFile<'r, 'p>>>;
 
-/// The journal's file, which isn't touched yet, if there is to be one.
-pub(crate) fn journal_file<'r, 'p>(
+/// The journal's file, which isn't touched yet, if there is to be one. What is wrong with it goes to `errors`.
+pub(crate) fn journal_file<'r, 'p, E: Eprint + Drop>(
     rt: &'r HostRuntime,
     path: Option<&'p str>,
-) -> Option<JournalFile<'r, 'p>>
+    errors: E,
+) -> Option<JournalFile<'r, 'p, E>>
     ensures { IfSome result (λ file. file.failures ≡ 0) }
 {
     match path {
-        Some(path) => Some(Counted::new(Told::new(rt, path, NewFile::new(rt, path)))),
+        Some(path) => Some(Counted::new(Told::new(errors, path, NewFile::new(rt, path)))),
         None => None,
     }
 }

@@ -3,6 +3,7 @@ use nfs_options::ServeOptions;
 use nfs_program::Fault;
 use nfs_tree::{NodeKind, Tree};
 use std::io;
+use std::io::Eprint;
 use std::net::{SocketAddr, TcpListener};
 
 /// A listener, and the address that it got.
@@ -26,16 +27,16 @@ impl Listening {
         }
     }
 
-    /// Tells the address by a line on standard error, by which a script can know when to connect, and where if the port was
+    /// Tells the address by a line on `errors`, by which a script can know when to connect, and where if the port was
     /// left to the system; and by another one what is served. An error in writing them is ignored, as others are.
-    pub(crate) fn tell(&self, rt: &HostRuntime, tree: &Tree, options: &ServeOptions<'_>) {
+    pub(crate) fn tell<E: Eprint>(&self, errors: &E, tree: &Tree, options: &ServeOptions<'_>) {
         let nodes = tree.nodes().iter();
         let files = nodes
             .filter(|node| matches!(node.kind, NodeKind::File(_)))
             .count();
         let (lease, epoch) = (options.lease, options.epoch);
-        let _ = eprintln!(rt; "listening on {}", self.address);
-        let _ = eprintln!(rt; "serving {files} files, lease {lease} s, epoch {epoch}");
+        let _ = eprintln!(errors; "listening on {}", self.address);
+        let _ = eprintln!(errors; "serving {files} files, lease {lease} s, epoch {epoch}");
     }
 }
 

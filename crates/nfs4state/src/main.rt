@@ -9,6 +9,7 @@ mod new_file;
 mod ongoing;
 mod part_file;
 mod serve;
+mod stand_ins;
 mod told;
 
 use crate::inputs::{core_of, file, journal_file, tree};
@@ -17,6 +18,7 @@ use nfs_core::Moment;
 use nfs_options::{Declined, OnceOptions, Subcommand, options};
 use nfs_program::{Fault, run_audit, run_once};
 use nfs_server::{Counted, Sides};
+use std::io::Eprint;
 use std::process::ExitCode;
 use std::{env, io};
 
@@ -75,7 +77,7 @@ fn once(rt: &HostRuntime, options: &OnceOptions<'_>) -> u8
         sink: Counted::new(rt.stdout()),
     };
     let mut errors = rt.stderr();
-    let mut journal = journal_file(rt, options.journal);
+    let mut journal = journal_file(rt, options.journal, rt);
     run_once(
         rt.alloc(),
         core,
@@ -110,7 +112,7 @@ fn print_usage(rt: &HostRuntime, text: &str) -> ExitCode {
     ExitCode::from(2)
 }
 
-pub(crate) fn report(rt: &HostRuntime, fault: Fault) -> u8 {
-    let _ = rt.eprintln(fault);
+pub(crate) fn report<E: Eprint>(errors: &E, fault: Fault) -> u8 {
+    let _ = errors.eprintln(fault);
     1
 }

@@ -7,16 +7,31 @@ use crate::part_file::{PartFile, PartNames};
 use crate::report;
 use nfs_core::{Core, Journal};
 use nfs_options::{ServeOptions, Until};
-use nfs_program::{Beginning, Fault, Reporter, end_ongoing_run, file_buffer};
+use nfs_program::{
+    Beginning, Fault, LineKind, Lines, Reporter, Teller, end_ongoing_run, file_buffer, lines_to,
+};
 use nfs_threads::{Door, RunEnd, WorkerAccount, accept_for, close_at_end, serve_through};
 use nfs_tree::Tree;
 use std::alloc::{AllocError, Global};
 use std::net::{Net, TcpListener, TcpStream};
 use std::sync::{Arc, Wait};
 use std::thread::Threads;
-use std::time::Clock;
+use std::time::{Clock, Duration};
 
-/// Serves one connection after the other, as many at once as the options say, until what they name ends the run.
+// How many milliseconds the end of a run waits for its last lines at most.
+const LAST_LINES_MILLIS: u64 = 1_000;
+
+// A run that goes on, and its lines.
+#[derive(Drop)]
+struct Ongoing<'a, R> {
+    rt: &'a HostRuntime,
+    threads: &'a R,
+    options: &'a ServeOptions<'a>,
+    lines: &'a Lines,
+}
+
+/// Serves one connection after the other, as many at once as the options say, until what they name ends the run. Its lines
+/// are written by a thread of their own, so that nothing waits for standard error, but the end for a second at most.
 pub(crate) fn serve_ongoing<
     R: Threads
         + Wait
@@ -38,41 +53,23 @@ pub(crate) fn serve_ongoing<
     requires nobody { (number : ℕ) → IsFalse (is_live number core.stored.clients) }
     requires nodes { core.journal.nodes ≡ tree.now.nodes }
 {
-    let alloc = rt.alloc();
-    let Ok(names) = part_names(alloc, options.journal) else {
+    let Ok(lines) = lines_to(rt.alloc(), threads, rt.stderr()) else {
         drop(core);
         return report(rt, Fault::NoMemory);
     };
-    let mut journal = journal_file(rt, options.journal);
-    let Ok(mut buffer) = file_buffer(alloc, &journal) else {
-        drop(core);
-        return report(rt, Fault::NoMemory);
+    let run = Ongoing {
+        rt,
+        threads: &threads,
+        options,
+        lines: &lines,
     };
-    let beginning = beginning_of(rt, &names, core.journal());
-    listening.tell(rt, tree, options);
-    let reporter = Reporter::new(&threads, rt.stderr(), beginning);
-    let Ok(door) = open_door(rt, threads, options, listening.listener) else {
-        drop(core);
-        let _ = reporter.end(None);
-        return report(rt, Fault::NoMemory);
-    };
-    match serve_through(alloc, &threads, &door, &reporter, core, tree) {
-        Ok(run) => {
-            tell_no_connection(rt, options, &run);
-            let status = end_ongoing_run(&mut buffer, &run, reporter, &mut journal);
-            drop(run);
-            status
-        }
-        Err(core) => {
-            drop(core);
-            let _ = reporter.end(None);
-            report(rt, Fault::NoMemory)
-        }
-    }
+    let status = run.serve(listening, core, tree);
+    lines.finish(&threads, Duration::from_millis(LAST_LINES_MILLIS));
+    status
 }
 
-// The door for the connections of this listener, which is closed by what is to end the run.
-fn open_door<
+impl<
+    'a,
     R: Threads
         + Wait
         + Clock
@@ -81,22 +78,81 @@ fn open_door<
         + Send
         + Sync
         + 'static,
->(
-    rt: &HostRuntime,
-    threads: R,
-    options: &ServeOptions<'_>,
-    listener: TcpListener,
-) -> Result<Arc<Door, Global>, AllocError> {
-    let door = Arc::new(rt.alloc(), Door::new(options.connections))?;
-    if !accept_for(threads, listener, Arc::try_clone(&door)?) {
-        return Err(AllocError);
-    }
-    if options.until == Some(Until::InputEnds)
-        && !close_at_end(threads, rt.stdin(), Arc::try_clone(&door)?)
+> Ongoing<'a, R> {
+    // Serves until the run ends, and tells the fault, if it has one. Returns the program's exit status.
+    fn serve(&self, listening: Listening, core: Core, tree: &Tree) -> u8
+        requires empty { core.journal.entries ≡ [] }
+        requires nobody { (number : ℕ) → IsFalse (is_live number core.stored.clients) }
+        requires nodes { core.journal.nodes ≡ tree.now.nodes }
     {
-        return Err(AllocError);
+        let alloc = self.rt.alloc();
+        let path = self.options.journal;
+        let Ok(names) = part_names(alloc, path) else {
+            drop(core);
+            return self.report_no_memory();
+        };
+        let mut journal = journal_file(self.rt, path, self.teller(LineKind::Journal));
+        let Ok(mut buffer) = file_buffer(alloc, &journal) else {
+            drop(core);
+            return self.report_no_memory();
+        };
+        let beginning = beginning_of(self.rt, &names, core.journal());
+        listening.tell(&self.teller(LineKind::Run), tree, self.options);
+        let reporter = Reporter::new(self.threads, self.lines, beginning, self.options.memory);
+        let Ok(door) = self.open_door(listening.listener) else {
+            drop(core);
+            let _ = reporter.end(None);
+            return self.report_no_memory();
+        };
+        match serve_through(alloc, self.threads, &door, &reporter, core, tree) {
+            Ok(run) => {
+                self.tell_no_connection(&run);
+                let status = end_ongoing_run(&mut buffer, &run, reporter, &mut journal);
+                drop(run);
+                status
+            }
+            Err(core) => {
+                drop(core);
+                let _ = reporter.end(None);
+                self.report_no_memory()
+            }
+        }
     }
-    Ok(door)
+
+    // The door for the connections of this listener, which is closed by what is to end the run.
+    fn open_door(&self, listener: TcpListener) -> Result<Arc<Door, Global>, AllocError> {
+        let (threads, options) = (*self.threads, self.options);
+        let door = Arc::new(self.rt.alloc(), Door::new(options.connections))?;
+        if !accept_for(threads, listener, Arc::try_clone(&door)?) {
+            return Err(AllocError);
+        }
+        if options.until == Some(Until::InputEnds)
+            && !close_at_end(threads, self.rt.stdin(), Arc::try_clone(&door)?)
+        {
+            return Err(AllocError);
+        }
+        Ok(door)
+    }
+
+    // Where the input ended before any connection came, a line says which option doesn't look at it.
+    fn tell_no_connection(&self, run: &RunEnd) {
+        let is_unused = |worker: &WorkerAccount| worker.shift.connections.is_empty();
+        if self.options.until == Some(Until::InputEnds) && run.workers.iter().all(is_unused) {
+            let teller = self.teller(LineKind::Run);
+            let _ = eprintln!(teller;
+                "the input ended before a connection came; `--until-killed` doesn't look at it"
+            );
+        }
+    }
+
+    fn report_no_memory(&self) -> u8 {
+        report(&self.teller(LineKind::Run), Fault::NoMemory)
+    }
+
+    // What tells the lines of this kind.
+    fn teller(&self, kind: LineKind) -> Teller<'a, R> {
+        Teller::new(self.threads, self.lines, kind)
+    }
 }
 
 // The names of the journal's file as it goes, if there is to be one.
@@ -121,15 +177,5 @@ fn beginning_of<'r, 'n>(
             Some(Beginning::new(rt.alloc(), names.part(), file, journal))
         }
         None => None,
-    }
-}
-
-// Where the input ended before any connection came, a line says which option doesn't look at it.
-fn tell_no_connection(rt: &HostRuntime, options: &ServeOptions<'_>, run: &RunEnd) {
-    let is_unused = |worker: &WorkerAccount| worker.shift.connections.is_empty();
-    if options.until == Some(Until::InputEnds) && run.workers.iter().all(is_unused) {
-        let _ = eprintln!(rt;
-            "the input ended before a connection came; `--until-killed` doesn't look at it"
-        );
     }
 }

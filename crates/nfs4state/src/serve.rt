@@ -6,6 +6,7 @@ use crate::inputs::{core_of, journal_file, tree};
 use crate::listening::Listening;
 use crate::ongoing::serve_ongoing;
 use crate::report;
+use crate::stand_ins::StandIns;
 use nfs_core::Core;
 use nfs_options::ServeOptions;
 use nfs_program::{Fault, end_run, file_buffer};
@@ -35,8 +36,20 @@ pub(crate) fn serve<
         Err(fault) => return report(rt, fault),
     };
     match core_of(rt.alloc(), &tree, options.lease, options.epoch) {
-        Ok(core) => serve_core(rt, threads, options, core, &tree),
+        Ok(mut core) => {
+            bound_memory(&mut core, options.memory);
+            serve_core(rt, threads, options, core, &tree)
+        }
         Err(_) => report(rt, Fault::NoMemory),
+    }
+}
+
+// Bounds the memory of the core's entries by so many MiB, if there is to be a bound.
+fn bound_memory(core: &mut Core, memory: Option<u32>)
+    ensures { core.new ≡ core.old }
+{
+    if let Some(memory) = memory {
+        core.set_memory_limit(u64::from(memory) * 1_048_576);
     }
 }
 
@@ -55,7 +68,12 @@ fn serve_core<
     requires nobody { (number : ℕ) → IsFalse (is_live number core.stored.clients) }
     requires nodes { core.journal.nodes ≡ tree.now.nodes }
 {
-    match Listening::at(rt, options.listen) {
+    // In a run that goes on, lines are written at any time, also while files are opened and closed.
+    let stand_ins = match options.until {
+        None => StandIns::none(),
+        Some(_) => StandIns::of(rt),
+    };
+    let status = match Listening::at(rt, options.listen) {
         Ok(listening) => match options.until {
             None => serve_connections(rt, &threads, options, &listening, core, tree),
             Some(_) => serve_ongoing(rt, threads, options, listening, core, tree),
@@ -64,7 +82,9 @@ fn serve_core<
             drop(core);
             report(rt, fault)
         }
-    }
+    };
+    drop(stand_ins);
+    status
 }
 
 // Serves so many connections, each in a thread of its own.
@@ -84,7 +104,7 @@ fn serve_connections<
 {
     listening.tell(rt, tree, options);
     let alloc = rt.alloc();
-    let mut journal = journal_file(rt, options.journal);
+    let mut journal = journal_file(rt, options.journal, rt);
     let Ok(mut buffer) = file_buffer(alloc, &journal) else {
         drop(core);
         return report(rt, Fault::NoMemory);
@@ -93,7 +113,8 @@ fn serve_connections<
     match serve_on(alloc, threads, listener, core, tree, options.connections) {
         Ok(run) => {
             let mut errors = rt.stderr();
-            let status = end_run(&mut buffer, &run, &mut errors, &mut journal);
+            let memory = options.memory;
+            let status = end_run(&mut buffer, &run, memory, &mut errors, &mut journal);
             drop(run);
             status
         }

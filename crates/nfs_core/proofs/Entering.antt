@@ -257,6 +257,7 @@ no_expiry server expire core_errors.Memory other kept new step = absurd (other r
 -- a client's end takes no memory beside its entry
 pub expiry_memory : (journal : History) (old : State) (expire : Expire) (effect : Effect) (tables : Tables) → IsExpiry journal old expire effect → TakesNoMemory (entries.Expire expire) effect tables
 expiry_memory journal old expire effect tables expiry = record {
+  call = tt;
   kept = refl;
   owner = subst (λ (e : Effect). HasOwnerRoom e.owner tables) (sym expiry.removal) tt;
   change = subst (λ (e : Effect). HasRoom [] e.change tables) (sym expiry.removal) tt;
@@ -282,6 +283,7 @@ no_revocation journal old revoke (Some effect) none = tt
 -- a delegation's end takes no memory beside its entry
 pub revocation_memory : (journal : History) (old : State) (revoke : Revoke) (effect : Effect) (tables : Tables) → IsRevocation journal old revoke effect → TakesNoMemory (entries.Revoke revoke) effect tables
 revocation_memory journal old revoke effect tables revocation = record {
+  call = tt;
   kept = refl;
   owner = subst (λ (e : Effect). HasOwnerRoom e.owner tables) (sym revocation.removal) tt;
   change = subst (λ (e : Effect). HasRoom [] e.change tables) (sym revocation.removal) tt;
@@ -309,6 +311,7 @@ no_path_mark server path core_errors.Memory other kept new step = absurd (other 
 -- a mark of a client's path takes no memory beside its entry
 pub path_memory : (journal : History) (old : State) (path : Path) (effect : Effect) (tables : Tables) → IsPathMark journal old path effect → TakesNoMemory (entries.Path path) effect tables
 path_memory journal old path effect tables mark = record {
+  call = tt;
   kept = refl;
   owner = subst (λ (e : Effect). HasOwnerRoom e.owner tables) (sym mark.mark) tt;
   change = subst (λ (e : Effect). HasRoom [] e.change tables) (sym mark.mark) tt;

@@ -155,6 +155,14 @@ impl Core {
         }
     }
 
+    /// Bounds the memory of the journal's entries: from now on a call that would bring their count above so many bytes is
+    /// refused, as where memory is. No other entry is.
+    pub fn set_memory_limit(&mut self, limit: u64)
+        ensures { self.new ≡ self.old }
+    {
+        self.held.store.journal.set_memory_limit(limit);
+    }
+
     /// Makes room for one more entry, so that `expire`, `revoke` or `mark_path` takes no memory where it comes next.
     pub fn prepare(&mut self) -> Result<(), CoreError>
         ensures same { AreAlike self.old self.new }

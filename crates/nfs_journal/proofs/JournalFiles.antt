@@ -7,7 +7,6 @@ use Rattle.nfs_journal.specs.Exact.{IsEncoded}
 use Rattle.nfs_journal.specs.File.{file}
 use Rattle.nfs_journal.specs.Journals.{is_journal, history_of, file_of, IsFileOf, Reads, Accepts}
 use Rattle.nfs_journal.proofs.ExactForms.{one_encoded}
-use Rattle.nfs_state.specs.Journal.{RoomyJournal}
 use Rattle.nfs_state.specs.State.{History}
 
 not_both : (b : Bool) → b ≡ false → b ≡ true → ⊥
@@ -23,7 +22,7 @@ no_journal f bytes encoded none h is =
     not_both (is_journal h) (sym of_h ∙ none) is.0
 
 -- what is accepted of the bytes is what they are read as
-pub accepted : (r : Result RoomyJournal AuditError) (f : File) (bytes : List ℕ) → IsEncoded file f bytes
+pub accepted : (r : Result History AuditError) (f : File) (bytes : List ℕ) → IsEncoded file f bytes
     → Accepts r f → Reads r bytes
 accepted (Ok journal) f bytes encoded h =
     subst (λ (x : History). IsFileOf x bytes) (sym h.1) (h.0, encoded)

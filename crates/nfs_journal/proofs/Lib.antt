@@ -1,3 +1,4 @@
+pub mod WritingEntries
 pub mod ExactForms
 pub mod JournalFiles
 pub mod WrongEntries

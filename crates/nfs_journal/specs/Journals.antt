@@ -11,7 +11,6 @@ use Rattle.nfs_state.specs.declared.entry.Entry.{Entry}
 use Rattle.nfs_state.specs.declared.entry.Entry.TheVariants as entries
 use Rattle.nfs_state.specs.declared.journal.TheConstants.{LEASE_MIN, LEASE_MAX}
 use Rattle.nfs_state.specs.Entries.{can_be_asked}
-use Rattle.nfs_state.specs.Journal.{RoomyJournal}
 use Rattle.nfs_state.specs.State.{History}
 use Rattle.nfs_tree.specs.DocumentNodes.{are_of_a_document}
 use Rattle.nfs_tree.specs.Tree.{node_count}
@@ -57,15 +56,15 @@ abbrev pub IsFileOf : History → List ℕ → Type 0
 IsFileOf h bytes = (is_journal h ≡ true) × IsEncoded file (file_of h) bytes
 
 -- What a function returned is the journal whose file the bytes are. Format if they are the file of none.
-abbrev pub Reads : Result RoomyJournal AuditError → List ℕ → Type 0
-Reads (Ok journal) bytes = IsFileOf journal.history bytes
+abbrev pub Reads : Result History AuditError → List ℕ → Type 0
+Reads (Ok journal) bytes = IsFileOf journal bytes
 Reads (Err errors.Format) bytes = (h : History) → IsFileOf h bytes → ⊥
 Reads (Err (errors.WrongAnswer number)) bytes = ⊥
 Reads (Err errors.Memory) bytes = Unit {0}
 
 -- What a function returned is the journal with what the file has, or Format if that is no journal.
-abbrev pub Accepts : Result RoomyJournal AuditError → File → Type 0
-Accepts (Ok journal) f = (is_journal (history_of f) ≡ true) × (journal.history ≡ history_of f)
+abbrev pub Accepts : Result History AuditError → File → Type 0
+Accepts (Ok journal) f = (is_journal (history_of f) ≡ true) × (journal ≡ history_of f)
 Accepts (Err errors.Format) f = is_journal (history_of f) ≡ false
 Accepts (Err e) f = ⊥
 

@@ -1,27 +1,25 @@
 ghost use Rattle.nfs_journal.specs.Audits.{Audits};
 
-use crate::AuditError;
+use crate::{AuditError, FiledJournal};
 use nfs_core::{Core, FollowError, at_most_one_state};
-use nfs_state::Journal;
 use std::alloc::Global;
 
 /// A core to which the journal leads. WrongAnswer with the number of the first entry that can't follow those before it,
 /// if the journal isn't lawful; never Format.
-pub fn audit(alloc: Global, journal: Journal) -> Result<Core, AuditError>
-    ensures { Audits result journal.history }
+pub fn audit(alloc: Global, journal: FiledJournal) -> Result<Core, AuditError>
+    ensures { Audits result journal }
 {
     at_most_one_state();
-    let Ok(mut core) = Core::new(
-        alloc,
-        journal.tree(),
-        journal.lease(),
-        journal.epoch(),
-        journal.policy(),
-    ) else {
+    let FiledJournal {
+        opening,
+        tree,
+        entries,
+    } = journal;
+    let Ok(mut core) = Core::new(alloc, &tree, opening.lease, opening.epoch, opening.policy) else {
         return Err(AuditError::Memory);
     };
     let mut number = 0;
-    for entry in journal.into_entries() {
+    for entry in entries {
         match core.follow(entry) {
             Ok(entered) => number = entered + 1,
             Err(FollowError::NotNext) => return Err(AuditError::WrongAnswer(number)),

@@ -4,7 +4,7 @@ ghost use Rattle.nfs_journal.specs.Journals.{Accepts, Reads, WritesFile, is_entr
 
 use crate::exact::read_exact;
 use crate::file::write_parts;
-use crate::{AuditError, File, Opening};
+use crate::{AuditError, File, FiledJournal, Opening};
 use nfs_state::{Entry, Journal, LEASE_MAX, LEASE_MIN};
 use nfs_tree::Tree;
 use std::alloc::Global;
@@ -15,12 +15,7 @@ use xdr::WireError;
 pub fn write_journal(out: &mut Vec<u8>, journal: &Journal) -> Result<(), AuditError>
     ensures { WritesFile out.old out.new result journal.now.history }
 {
-    match write_parts(
-        out,
-        &Opening::of(journal),
-        journal.tree().nodes(),
-        journal.entries(),
-    ) {
+    match write_parts(out, &Opening::of(journal), journal) {
         Ok(()) => Ok(()),
         Err(WireError::Memory) => Err(AuditError::Memory),
         Err(_) => Err(AuditError::Format),
@@ -28,7 +23,7 @@ pub fn write_journal(out: &mut Vec<u8>, journal: &Journal) -> Result<(), AuditEr
 }
 
 /// The journal whose file these bytes are. Format if they are the file of none.
-pub fn read_journal(alloc: Global, bytes: &[u8]) -> Result<Journal, AuditError>
+pub fn read_journal(alloc: Global, bytes: &[u8]) -> Result<FiledJournal, AuditError>
     ensures { Reads result bytes.now }
 {
     match read_exact::<File>(alloc, bytes) {
@@ -39,7 +34,7 @@ pub fn read_journal(alloc: Global, bytes: &[u8]) -> Result<Journal, AuditError>
 }
 
 // The journal that has what the file has; Format if that is none.
-fn journal_of(file: File) -> Result<Journal, AuditError>
+fn journal_of(file: File) -> Result<FiledJournal, AuditError>
     ensures { Accepts result file }
 {
     let File {
@@ -56,13 +51,11 @@ fn journal_of(file: File) -> Result<Journal, AuditError>
     if !are_entries(tree.len(), entries.as_slice()) {
         return Err(AuditError::Format);
     }
-    Ok(Journal::with_entries(
+    Ok(FiledJournal {
+        opening,
         tree,
-        opening.lease,
-        opening.epoch,
-        opening.policy,
-        entries.into_vec(),
-    ))
+        entries: entries.into_vec(),
+    })
 }
 
 // Whether these are entries that a journal can have whose tree has so many nodes.

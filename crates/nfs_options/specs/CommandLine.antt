@@ -1,5 +1,5 @@
 -- The command line of the program: what its words ask the program to do.
-use Rattle.std.specs.Prelude.{◌≡◌, ◌≢◌, ◌≤◌, ◌⊎◌, ◌∷◌, ◌++◌, [], ℕ, Bool, IsFalse, IsTrue, List, Option, Some, None, codes, false, if◌then◌else◌, option_map, true, unwrap_or, ⊤}
+use Rattle.std.specs.Prelude.{◌≡◌, ◌≢◌, ◌≤◌, ◌⊎◌, ◌∷◌, ◌++◌, [], ℕ, Bool, IfSome, IsFalse, IsSome, IsTrue, List, Option, Some, None, codes, false, if◌then◌else◌, option_map, true, unwrap_or, ⊤}
 use Rattle.std.specs.Borrow.{Bor}
 use Rattle.std.specs.Option.{option_map_or}
 use Rattle.std.specs.Str.{bytes_eq}
@@ -50,7 +50,7 @@ once = with_options (core_options ++ codes "now" ∷ codes "journal" ∷ []) (ne
 
 -- `serve`, with its options, and with flags for when it ends
 abbrev pub serve : App
-serve = with_options (core_options ++ codes "journal" ∷ [])
+serve = with_options (core_options ++ codes "journal" ∷ codes "memory" ∷ [])
     (with_rule (with_rule (with_options (codes "listen" ∷ codes "connections" ∷ [])
     (new_app (codes "serve"))) (flag_rule (codes "until-input-ends")))
     (flag_rule (codes "until-killed")))
@@ -114,6 +114,9 @@ connections_default (Some until) = 64
 abbrev pub connections_max : ℕ
 connections_max = 64
 
+abbrev pub memory_max : ℕ
+memory_max = 1048576
+
 abbrev pub moment_default : ℕ
 moment_default = 0
 
@@ -144,6 +147,13 @@ abbrev pub IsConnections : List Row → Option Until → ℕ → Type 0
 IsConnections rows until =
     IsNumber 1 connections_max (connections_default until) (first_of (codes "connections") rows)
 
+-- the bound of the entries' memory is the one that `--memory` gives, in MiB; without it there is none
+abbrev pub IsMemory : List Row → Option ℕ → Type 0
+IsMemory rows None = first_of (codes "memory") rows ≡ None
+IsMemory rows (Some memory) =
+    IfSome (first_of (codes "memory") rows) (λ text. SpellsWithin 1 memory_max text memory)
+    × IsSome (first_of (codes "memory") rows)
+
 -- the lease is the one that `--lease` gives, or the default
 abbrev pub IsLease : List Row → ℕ → Type 0
 IsLease rows = IsNumber LEASE_MIN LEASE_MAX lease_default (first_of (codes "lease") rows)
@@ -171,6 +181,7 @@ IsServe rows o =
     × IsLease rows o.lease
     × IsEpoch rows o.epoch
     × (text_of o.journal ≡ first_of (codes "journal") rows)
+    × IsMemory rows o.memory
 
 abbrev pub AsksOnce : List Row → Subcommand → Type 0
 AsksOnce rows (subcommand.Once o) = IsOnce rows o
@@ -211,6 +222,10 @@ LacksLease rows = IsNoNumber LEASE_MIN LEASE_MAX (first_of (codes "lease") rows)
 abbrev pub LacksEpoch : List Row → Type 0
 LacksEpoch rows = IsNoNumber 0 epoch_max (first_of (codes "epoch") rows)
 
+-- `--memory` is present, and its value is not a number within the limits
+abbrev pub LacksMemory : List Row → Type 0
+LacksMemory rows = IsNoNumber 1 memory_max (first_of (codes "memory") rows)
+
 -- the value of some option is not a number within its limits
 abbrev pub LacksOnce : List Row → Type 0
 LacksOnce rows = LacksLease rows
@@ -222,7 +237,8 @@ abbrev pub LacksServe : List Row → Type 0
 LacksServe rows = IsBoth rows
     ⊎ (IsNoNumber 1 connections_max (first_of (codes "connections") rows)
     ⊎ (LacksLease rows
-    ⊎ LacksEpoch rows))
+    ⊎ (LacksEpoch rows
+    ⊎ LacksMemory rows)))
 
 -- no file is given
 abbrev pub LacksAudit : List Row → Type 0
@@ -245,9 +261,13 @@ abbrev pub IsOnceWithinLimits : OnceOptions → Type 0
 IsOnceWithinLimits o = (LEASE_MIN ≤ o.lease) × (o.lease ≤ LEASE_MAX)
     × (o.epoch ≤ epoch_max) × (o.moment ≤ moment_max)
 
+abbrev pub IsMemoryWithinLimits : ℕ → Type 0
+IsMemoryWithinLimits memory = (1 ≤ memory) × (memory ≤ memory_max)
+
 abbrev pub IsServeWithinLimits : ServeOptions → Type 0
 IsServeWithinLimits o = (LEASE_MIN ≤ o.lease) × (o.lease ≤ LEASE_MAX)
     × (o.epoch ≤ epoch_max) × (1 ≤ o.connections) × (o.connections ≤ connections_max)
+    × IfSome o.memory IsMemoryWithinLimits
 
 abbrev pub IsWithinLimits : Subcommand → Type 0
 IsWithinLimits (subcommand.Once o) = IsOnceWithinLimits o

@@ -95,7 +95,15 @@ fn serve_command<'a>(alloc: Global) -> Result<Command<'a>, AllocError>
         .arg(connections)?
         .arg(input_ends)?
         .arg(killed)?;
-    with_core_options(alloc, serve)?.arg(journal_option(alloc))
+    let memory = option(
+        alloc,
+        "memory",
+        "MIB",
+        "How much memory the journal's entries may take, 1 to 1048576 MiB; then calls on the state are refused [default: no bound]",
+    );
+    with_core_options(alloc, serve)?
+        .arg(journal_option(alloc))?
+        .arg(memory)
 }
 
 // The options that say which core the calls come to: its tree, its lease and its epoch.

@@ -1,6 +1,6 @@
-ghost use Rattle.std.specs.Prelude.{◌≡◌, IfErr, IfOk, codes};
+ghost use Rattle.std.specs.Prelude.{◌≡◌, IfErr, IfOk, IfSome, codes};
 ghost use Rattle.clap.specs.Words.{found_of, rows_of};
-ghost use Rattle.nfs_options.specs.CommandLine.{IsMemoryOr, IsServe, IsServeWithinLimits, LacksServe, connections_default, connections_max};
+ghost use Rattle.nfs_options.specs.CommandLine.{IsMemory, IsMemoryOr, IsMemoryWithinLimits, IsServe, IsServeWithinLimits, LacksMemory, LacksServe, connections_default, connections_max};
 
 use crate::Declined;
 use crate::name::Name;
@@ -26,6 +26,8 @@ pub struct ServeOptions<'a> {
     pub epoch: u32,
     /// The file to which the journal is written at the end, if there is one.
     pub journal: Option<&'a str>,
+    /// How much memory the journal's entries may take, in MiB, if that has a bound, from 1 to 1,048,576.
+    pub memory: Option<u32>,
 }
 
 /// How many connections to serve before ending.
@@ -36,6 +38,30 @@ const CONNECTIONS: NumberOption = NumberOption {
     most: 64,
     default: 4,
 };
+
+/// How much memory the journal's entries may take. It has no default: without it there is no bound.
+const MEMORY: NumberOption = NumberOption {
+    name: "memory",
+    value_name: "MIB",
+    least: 1,
+    most: 1_048_576,
+    default: 1_048_576,
+};
+
+// The bound of the entries' memory, if one is given.
+fn memory_of(alloc: Global, matches: &ArgMatches<'_>) -> Result<Option<u32>, Declined>
+    ensures ok { IfOk result (IsMemory (rows_of (found_of matches.now))) }
+    ensures limits { IfOk result (λ memory. IfSome memory IsMemoryWithinLimits) }
+    ensures err { IfErr result (IsMemoryOr (LacksMemory (rows_of (found_of matches.now)))) }
+{
+    match matches.get_str(MEMORY.name) {
+        None => Ok(None),
+        Some(text) => match MEMORY.short_number(alloc, Name::Serve, Some(text)) {
+            Ok(memory) => Ok(Some(memory)),
+            Err(declined) => Err(declined),
+        },
+    }
+}
 
 // How many connections to serve before ending, or how many at once in a run that goes on: by default as many as may be.
 fn connections_option(until: Option<Until>) -> NumberOption
@@ -62,6 +88,7 @@ impl<'a> ServeOptions<'a> {
         lease: NumberOption::LEASE.default as u32,
         epoch: NumberOption::EPOCH.default as u32,
         journal: None,
+        memory: None,
     };
 
     /// The options that clap found, with the defaults for the others.
@@ -88,6 +115,7 @@ impl<'a> ServeOptions<'a> {
             lease: lease.short_number(alloc, Name::Serve, matches.get_str(lease.name))?,
             epoch: epoch.short_number(alloc, Name::Serve, matches.get_str(epoch.name))?,
             journal: matches.get_str("journal"),
+            memory: memory_of(alloc, matches)?,
         })
     }
 }

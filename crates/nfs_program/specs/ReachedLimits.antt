@@ -1,18 +1,13 @@
 -- The limits of a run that its journal shows.
-use Rattle.std.specs.Prelude.{Bool, ℕ, List, false, if◌then◌else◌, nat_eq, take, drop}
+use Rattle.std.specs.Prelude.{Bool, ℕ, false, if◌then◌else◌, nat_eq}
 use Rattle.nfs_forms.specs.declared.answer.Answer.TheVariants as answers
 use Rattle.nfs_owners.specs.declared.client_record.TheConstants.{CLIENT_LIMIT}
-use Rattle.nfs_program.specs.declared.reached_limits.TheConstants.{MOST_ENTRIES}
 use Rattle.nfs_program.specs.declared.reached_limits.Reach.{Reach}
 use Rattle.nfs_program.specs.declared.reached_limits.Reach.TheVariants.{Below, Reached, Told}
 use Rattle.nfs_state.specs.declared.entry.Entry.{Entry}
 use Rattle.nfs_state.specs.declared.entry.Entry.TheVariants as entries
 use Rattle.nfs_xdr.specs.declared.op_result.OpResult.{OpResult}
 use Rattle.nfs_xdr.specs.declared.op_result.OpResult.TheVariants as results
-
--- the entries to be looked at after so many
-abbrev pub next_entries : ℕ → List Entry → List Entry
-next_entries seen entries = take MOST_ENTRIES (drop seen entries)
 
 -- whether the answer has the last client number that there is
 abbrev pub has_last_client : OpResult → Bool

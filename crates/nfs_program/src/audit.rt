@@ -38,5 +38,5 @@ fn audit_of(alloc: Global, bytes: &[u8]) -> Result<usize, AuditError>
 {
     let journal = read_journal(alloc, bytes)?;
     let core = audit(alloc, journal)?;
-    Ok(core.journal().entries().len())
+    Ok(core.journal().len())
 }

@@ -40,22 +40,21 @@ impl Backlog {
     /// Takes the next entries of the journal, which begins with those that were taken before, and returns whether some
     /// were left: as many as have no more than `PIECE_LEN` bytes together, or one. An error comes only where an entry has
     /// no form or no room, and those before it were taken.
-    pub(crate) fn take(&mut self, entries: &[Entry]) -> Result<bool, WireError>
-        ensures whole { TakesTo self.old self.new entries.now }
-        ensures within { self.old.count ≤ length entries.now
-            → self.new.count ≤ length entries.now }
-        ensures left { IfOk result (λ left. IsTrue left ↔ self.new.count < length entries.now) }
+    pub(crate) fn take(&mut self, journal: &Journal) -> Result<bool, WireError>
+        ensures whole { TakesTo self.old self.new journal.now.history.entries }
+        ensures within { self.old.count ≤ length journal.now.history.entries
+            → self.new.count ≤ length journal.now.history.entries }
+        ensures left { IfOk result (λ left.
+            IsTrue left ↔ self.new.count < length journal.now.history.entries) }
         ensures some { IfOk result (λ left. IsTrue left → self.old.count < self.new.count) }
         ensures short { (self.new.count ≤ self.old.count + 1)
             ⊎ (length self.new.bytes.items ≤ length self.old.bytes.items + PIECE_LEN) }
         ensures err { OnErr result
-            (HasNoPlaceAt (vec_capacity self.old.bytes) self.new entries.now) }
+            (HasNoPlaceAt (vec_capacity self.old.bytes) self.new journal.now.history.entries) }
     {
-        let (start, first) = (self.bytes.len(), self.count);
-        let Some(rest) = entries.get(first..) else {
-            return Ok(false);
-        };
-        for entry in rest {
+        let (start, first, end) = (self.bytes.len(), self.count, journal.len());
+        let piece = journal.piece_from(first);
+        for entry in piece {
             let most = if self.count == first {
                 usize::MAX
             } else {
@@ -65,7 +64,7 @@ impl Backlog {
                 return Ok(true);
             }
         }
-        Ok(false)
+        Ok(self.count < end)
     }
 
     // Puts the entry behind the bytes that wait, if no more than so many wait then.

@@ -2,7 +2,7 @@ ghost use Rattle.std.specs.Prelude.{◌≡◌, []};
 
 use crate::Draft;
 use crate::backlog::Backlog;
-use nfs_core::{Entry, Journal};
+use nfs_core::Journal;
 use std::alloc::Global;
 use std::io::{Error, ErrorKind, Write};
 use xdr::WireError;
@@ -45,11 +45,11 @@ impl<'a, D: Draft> Beginning<'a, D> {
     }
 
     /// Takes the next of the journal's entries, and returns whether some were left. Nothing is written yet.
-    pub(crate) fn take(&mut self, entries: &[Entry]) -> bool {
+    pub(crate) fn take(&mut self, journal: &Journal) -> bool {
         let State::Kept(backlog) = &mut self.state else {
             return false;
         };
-        match backlog.take(entries) {
+        match backlog.take(journal) {
             Ok(are_left) => are_left,
             Err(error) => {
                 self.state = State::Lost(Error::from(kind_of(error)));
@@ -76,9 +76,9 @@ impl<'a, D: Draft> Beginning<'a, D> {
     }
 
     /// Brings the file up to the journal's last entry.
-    pub(crate) fn complete(&mut self, entries: &[Entry]) {
-        for _ in 0..=entries.len() {
-            let are_left = self.take(entries);
+    pub(crate) fn complete(&mut self, journal: &Journal) {
+        for _ in 0..=journal.len() {
+            let are_left = self.take(journal);
             self.write();
             if !are_left {
                 return;

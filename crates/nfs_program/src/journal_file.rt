@@ -17,7 +17,6 @@ use crate::pieces::{make_place, make_places, put, put_many};
 use nfs_core::Journal;
 use nfs_journal::Opening;
 use nfs_server::{DeviceFailed, Sink, write_to};
-use nfs_state::Entry;
 use nfs_tree::Node;
 use std::alloc::{AllocError, Global};
 use xdr::WireError;
@@ -66,14 +65,14 @@ fn write_file<J: Sink>(buffer: &mut Vec<u8>, journal: &Journal, file: &mut J) ->
         → ¬ (HasRoomForFileOf (vec_capacity buffer.old) journal.now.history) }
 {
     let opening = Opening::of(journal);
-    let (nodes, entries) = (journal.tree().nodes(), journal.entries());
-    match make_room(buffer, &opening, nodes, entries) {
+    let nodes = journal.tree().nodes();
+    match make_room(buffer, &opening, nodes, journal) {
         Err(WireError::Memory) => return Some(Fault::NoMemory),
         Err(_) => return Some(Fault::FileNotWritten),
         Ok(()) => {}
     }
     buffer.clear();
-    match put_file(file, buffer, &opening, nodes, entries) {
+    match put_file(file, buffer, &opening, nodes, journal) {
         Err(DeviceFailed) => Some(Fault::FileNotWritten),
         Ok(()) => None,
     }
@@ -84,21 +83,21 @@ fn make_room(
     buffer: &mut Vec<u8>,
     opening: &Opening,
     nodes: &[Node],
-    entries: &[Entry],
+    journal: &Journal,
 ) -> Result<(), WireError>
     ensures ok { OnOk result (HasPlace forms.opening (vec_capacity buffer.new) opening.now
         × HavePlace node (vec_capacity buffer.new) nodes.now
-        × HavePlace entry (vec_capacity buffer.new) entries.now) }
+        × HavePlace entry (vec_capacity buffer.new) journal.now.history.entries) }
     ensures memory { IsErrOf result errors.Memory → ¬ (HasRoomForFile (vec_capacity buffer.old)
-        (record { opening = opening.now; nodes = nodes.now; entries = entries.now })) }
+        (record { opening = opening.now; nodes = nodes.now; entries = journal.now.history.entries })) }
     ensures long { IsErrOf result errors.TooLong
         → ¬ ((forms.opening and many NO_LIMIT node and many NO_LIMIT entry).Fits
-        (opening.now, (nodes.now, entries.now))) }
+        (opening.now, (nodes.now, journal.now.history.entries))) }
     ensures short { IsErrOf result errors.Short → ⊥ }
 {
     make_place(buffer, opening)?;
-    make_places(buffer, nodes)?;
-    make_places(buffer, entries)
+    make_places(buffer, &nodes)?;
+    make_places(buffer, journal)
 }
 
 // Writes the parts of the file, each of which the buffer has room for.
@@ -107,24 +106,24 @@ fn put_file<J: Sink>(
     buffer: &mut Vec<u8>,
     opening: &Opening,
     nodes: &[Node],
-    entries: &[Entry],
+    journal: &Journal,
 ) -> Result<(), DeviceFailed>
     requires writes { J.failures file.old < 2 ^ 64 - 1 }
     requires empty { buffer.old.items ≡ [] }
     requires opening { HasPlace forms.opening (vec_capacity buffer.old) opening.now }
     requires nodes { HavePlace node (vec_capacity buffer.old) nodes.now }
-    requires entries { HavePlace entry (vec_capacity buffer.old) entries.now }
+    requires entries { HavePlace entry (vec_capacity buffer.old) journal.now.history.entries }
     ensures ok { OnOk result (IsWritten (device_of_sink J.takes J.fails) file.old
         ((forms.opening and many NO_LIMIT node and many NO_LIMIT entry).encoding
-        (opening.now, (nodes.now, entries.now))) file.new) }
+        (opening.now, (nodes.now, journal.now.history.entries))) file.new) }
     ensures err { OnErr result (IsCut (device_of_sink J.takes J.fails) file.old
         ((forms.opening and many NO_LIMIT node and many NO_LIMIT entry).encoding
-        (opening.now, (nodes.now, entries.now))) file.new) }
+        (opening.now, (nodes.now, journal.now.history.entries))) file.new) }
     ensures kept { OnOk result (J.failures file.new ≡ J.failures file.old) }
     ensures failed { OnErr result (J.failures file.new ≡ J.failures file.old + 1) }
 {
     put(file, buffer, opening)?;
-    put_many(file, buffer, nodes)?;
-    put_many(file, buffer, entries)?;
+    put_many(file, buffer, &nodes)?;
+    put_many(file, buffer, journal)?;
     write_to(file, buffer.as_slice())
 }

@@ -7,6 +7,7 @@ ghost use Rattle.xdr.specs.Form.{many};
 ghost use Rattle.xdr.specs.Layout.{NO_LIMIT};
 ghost use Rattle.xdr.specs.declared.wire_error.WireError.TheVariants as errors;
 
+use crate::values::Values;
 use nfs_server::{DeviceFailed, Sink, write_to};
 use xdr::{Wire, WireError};
 
@@ -29,21 +30,25 @@ pub(crate) fn make_place<T: Wire>(buffer: &mut Vec<u8>, value: &T) -> Result<(),
     Ok(())
 }
 
-/// The same for each value of a list, and for their count.
-pub(crate) fn make_places<T: Wire>(buffer: &mut Vec<u8>, values: &[T]) -> Result<(), WireError>
-    ensures ok { OnOk result (HavePlace T.form (vec_capacity buffer.new) values.now) }
+/// The same for each of some values, and for their count.
+pub(crate) fn make_places<T: Wire, V: Values<T>>(
+    buffer: &mut Vec<u8>,
+    values: &V,
+) -> Result<(), WireError>
+    ensures ok { OnOk result (HavePlace T.form (vec_capacity buffer.new) (V.values values.now)) }
     ensures memory { IsErrOf result errors.Memory
-        → ¬ (HaveRoom T.form (vec_capacity buffer.old) values.now) }
-    ensures long { IsErrOf result errors.TooLong → ¬ ((many NO_LIMIT T.form).Fits values.now) }
+        → ¬ (HaveRoom T.form (vec_capacity buffer.old) (V.values values.now)) }
+    ensures long { IsErrOf result errors.TooLong
+        → ¬ ((many NO_LIMIT T.form).Fits (V.values values.now)) }
     ensures short { IsErrOf result errors.Short → ⊥ }
     ensures room { vec_capacity buffer.old ≤ vec_capacity buffer.new }
 {
-    let Ok(count) = u32::try_from(values.len()) else {
+    let Ok(count) = u32::try_from(values.count()) else {
         return Err(WireError::TooLong);
     };
     make_place(buffer, &count)?;
-    for value in values {
-        make_place(buffer, value)?;
+    for number in 0..values.count() {
+        make_place(buffer, values.value(number))?;
     }
     Ok(())
 }
@@ -71,23 +76,23 @@ pub(crate) fn put<T: Wire, J: Sink>(
 }
 
 /// Puts the count of the values, and their bytes.
-pub(crate) fn put_many<T: Wire, J: Sink>(
+pub(crate) fn put_many<T: Wire, V: Values<T>, J: Sink>(
     file: &mut J,
     buffer: &mut Vec<u8>,
-    values: &[T],
+    values: &V,
 ) -> Result<(), DeviceFailed>
     requires writes { J.failures file.old < 2 ^ 64 - 1 }
-    requires places { HavePlace T.form (vec_capacity buffer.old) values.now }
+    requires places { HavePlace T.form (vec_capacity buffer.old) (V.values values.now) }
     ensures put { ArePut (device_of_sink J.takes J.fails) (waiting file.old buffer.old.items)
-        ((many NO_LIMIT T.form).encoding values.now) result
+        ((many NO_LIMIT T.form).encoding (V.values values.now)) result
         (waiting file.new buffer.new.items) }
     ensures kept { OnOk result (J.failures file.new ≡ J.failures file.old) }
     ensures failed { OnErr result (J.failures file.new ≡ J.failures file.old + 1) }
     ensures room { vec_capacity buffer.old ≤ vec_capacity buffer.new }
 {
-    put(file, buffer, &(values.len() as u32))?;
-    for value in values {
-        put(file, buffer, value)?;
+    put(file, buffer, &(values.count() as u32))?;
+    for number in 0..values.count() {
+        put(file, buffer, values.value(number))?;
     }
     Ok(())
 }

@@ -1,16 +1,15 @@
 ghost use Rattle.std.specs.Prelude.{◌≡◌, ◌+◌, ◌≤◌, length, nat_le, nat_lt};
 ghost use Rattle.std.specs.List.{list_any};
 ghost use Rattle.nfs_program.specs.declared.reached_limits.Reach.TheVariants as reaches;
-ghost use Rattle.nfs_program.specs.ReachedLimits.{after_telling, gives_last_client, has_last_client, next_entries, noted};
+ghost use Rattle.nfs_state.specs.PieceList.{piece_from};
+ghost use Rattle.nfs_program.specs.ReachedLimits.{after_telling, gives_last_client, has_last_client, noted};
 
+use crate::memory_reach::MemoryReach;
 use nfs_core::{Entry, JOURNAL_LIMIT, Journal};
 use nfs_forms::Answer;
 use nfs_owners::CLIENT_LIMIT;
 use nfs_xdr::OpResult;
 use std::io::Write;
-
-/// How many entries are looked at at once at most.
-pub(crate) const MOST_ENTRIES: usize = 4_096;
 
 /// Which limits a run has reached, as far as its journal shows it. Each is told once.
 #[derive(Drop)]
@@ -19,6 +18,7 @@ pub(crate) struct ReachedLimits {
     seen: usize,
     clients: Reach,
     journal: Reach,
+    memory: Option<MemoryReach>,
 }
 
 /// How far a run is from a limit.
@@ -32,7 +32,7 @@ pub(crate) enum Reach {
 
 impl Reach {
     // What is known of the limit once it was looked whether it is reached.
-    fn noted(self, is_reached: bool) -> Reach
+    pub(crate) fn noted(self, is_reached: bool) -> Reach
         ensures { result ≡ noted self is_reached }
     {
         match self {
@@ -56,8 +56,8 @@ impl Reach {
 }
 
 impl ReachedLimits {
-    /// None, and no entry was looked at.
-    pub(crate) fn new() -> ReachedLimits
+    /// None, and no entry was looked at. The memory of the entries has a bound of so many MiB, if it has one.
+    pub(crate) fn new(memory: Option<u32>) -> ReachedLimits
         ensures seen { result.seen ≡ 0 }
         ensures clients { result.clients ≡ reaches.Below }
         ensures journal { result.journal ≡ reaches.Below }
@@ -66,25 +66,39 @@ impl ReachedLimits {
             seen: 0,
             clients: Reach::Below,
             journal: Reach::Below,
+            memory: memory.map(|limit| MemoryReach::new(limit)),
         }
     }
 
     /// Looks at the next of the journal's entries, and returns whether some were left.
     pub(crate) fn look(&mut self, journal: &Journal) -> bool
         ensures seen { self.new.seen ≡ self.old.seen
-            + length (next_entries self.old.seen journal.now.history.entries) }
+            + length (piece_from self.old.seen journal.now.history.entries) }
         ensures clients { self.new.clients ≡ noted self.old.clients
             (list_any gives_last_client
-            (next_entries self.old.seen journal.now.history.entries)) }
+            (piece_from self.old.seen journal.now.history.entries)) }
         ensures journal { self.new.journal
             ≡ noted self.old.journal (nat_le JOURNAL_LIMIT (length journal.now.history.entries)) }
         ensures left { result ≡ nat_lt self.new.seen (length journal.now.history.entries) }
     {
         self.journal = self.journal.noted(journal.is_full());
-        let next = next_entries(self.seen, journal.entries());
+        self.look_at_memory(journal);
+        let end = journal.len();
+        let next = journal.piece_from(self.seen);
         self.clients = self.clients.noted(give_last_client(next));
         self.seen += next.len();
-        self.seen < journal.entries().len()
+        self.seen < end
+    }
+
+    /// Looks at the memory of the journal's entries alone.
+    pub(crate) fn look_at_memory(&mut self, journal: &Journal)
+        ensures seen { self.new.seen ≡ self.old.seen }
+        ensures clients { self.new.clients ≡ self.old.clients }
+        ensures journal { self.new.journal ≡ self.old.journal }
+    {
+        if let Some(memory) = &mut self.memory {
+            memory.look(journal);
+        }
     }
 
     /// Tells those that weren't told.
@@ -100,19 +114,9 @@ impl ReachedLimits {
         self.journal = self
             .journal
             .told(lines, "the journal is full", JOURNAL_LIMIT);
-    }
-}
-
-// The entries to be looked at after so many.
-fn next_entries(seen: usize, entries: &[Entry]) -> &[Entry]
-    ensures { result.now ≡ next_entries seen entries.now }
-{
-    let Some(rest) = entries.get(seen..) else {
-        return &[];
-    };
-    match rest.get(..MOST_ENTRIES) {
-        Some(next) => next,
-        None => rest,
+        if let Some(memory) = &mut self.memory {
+            memory.tell(lines);
+        }
     }
 }
 

@@ -1,73 +1,90 @@
+use crate::line::Line;
 use crate::sight::Sight;
-use crate::{Beginning, Draft, Fault};
+use crate::{Beginning, Draft, Fault, LineKind, Lines, Teller};
 use nfs_core::{Core, Journal};
 use nfs_server::ServeError;
 use nfs_threads::{Peer, Watcher};
-use std::io::Write;
 use std::sync::{Mutex, Wait};
+use std::time::Clock;
 
 /// Watches a run that goes on: tells by lines what becomes of it, and keeps the beginning of its journal, if that is wanted.
 #[derive(Drop)]
-pub struct Reporter<'a, R, E, D> {
+pub struct Reporter<'a, R, D> {
     rt: &'a R,
-    lines: Mutex<E>,
+    lines: &'a Lines,
     sight: Mutex<Sight<'a, D>>,
 }
 
-impl<'a, R: Wait, E: Write + Drop, D: Draft + Drop> Reporter<'a, R, E, D> {
-    /// For a run that begins. Where the beginning of its journal can't be kept, that is told.
-    pub fn new(rt: &'a R, lines: E, beginning: Option<Beginning<'a, D>>) -> Reporter<'a, R, E, D> {
-        let mut lines = lines;
-        let mut sight = Sight::new(beginning);
-        sight.tell(&mut lines);
+impl<'a, R: Wait + Clock, D: Draft + Drop> Reporter<'a, R, D> {
+    /// For a run that begins, in which the memory of the entries has a bound of so many MiB, if it has one. Where the
+    /// beginning of its journal can't be kept, that is told.
+    pub fn new(
+        rt: &'a R,
+        lines: &'a Lines,
+        beginning: Option<Beginning<'a, D>>,
+        memory: Option<u32>,
+    ) -> Reporter<'a, R, D> {
+        let mut sight = Sight::new(beginning, memory);
+        let mut text = Line::new();
+        sight.tell(&mut text);
+        lines.tell(rt, LineKind::Journal, &text);
         Reporter {
             rt,
-            lines: Mutex::new(lines),
+            lines,
             sight: Mutex::new(sight),
         }
     }
 
+    /// Looks once more, when the run has ended, how much memory its entries count, and whether a call was refused for that.
+    pub(crate) fn look_at_memory(&self, journal: &Journal) {
+        let mut sight = self.sight.lock(self.rt);
+        sight.look_at_memory(journal);
+        let mut text = Line::new();
+        sight.tell(&mut text);
+        self.lines.tell(self.rt, LineKind::Journal, &text);
+    }
+
     /// Ends with the run. The beginning of the journal is brought up to the last entry of this one; where there is none,
-    /// it isn't wanted any more, and is removed. Returns where the lines go.
-    pub fn end(self, journal: Option<&Journal>) -> E {
-        let Reporter {
-            rt: _,
-            lines,
-            sight,
-        } = self;
-        let mut lines = lines.into_inner();
+    /// it isn't wanted any more, and is removed. How many lines were left out is told. Returns what tells the rest.
+    pub fn end(self, journal: Option<&Journal>) -> Teller<'a, R> {
+        let Reporter { rt, lines, sight } = self;
         if let Some(mut beginning) = sight.into_inner().into_beginning() {
             match journal {
-                Some(journal) => beginning.complete(journal.entries()),
+                Some(journal) => beginning.complete(journal),
                 None => beginning.remove(),
             }
-            beginning.tell(&mut lines);
+            let mut text = Line::new();
+            beginning.tell(&mut text);
+            lines.tell(rt, LineKind::Journal, &text);
         }
-        lines
+        lines.tell_left_out(rt);
+        Teller::new(rt, lines, LineKind::Run)
     }
 }
 
-impl<'a, R: Wait, E: Write, D: Draft> Watcher for Reporter<'a, R, E, D> {
+impl<'a, R: Wait + Clock, D> Reporter<'a, R, D> {
+    fn teller(&self, kind: LineKind) -> Teller<'a, R> {
+        Teller::new(self.rt, self.lines, kind)
+    }
+}
+
+impl<'a, R: Wait + Clock, D: Draft> Watcher for Reporter<'a, R, D> {
     fn tell_end(&self, peer: Peer, outcome: Result<usize, ServeError>) {
         if let Some(fault) = Fault::of(outcome) {
-            let mut lines = self.lines.lock(self.rt);
+            let teller = self.teller(LineKind::Connection);
             let (number, address) = (peer.number, peer.address);
-            let _ = writeln!(
-                lines,
-                "connection {number} from {address}: {}",
-                fault.words()
-            );
+            let _ = eprintln!(teller; "connection {number} from {address}: {}", fault.words());
         }
     }
 
     fn tell_full(&self, workers: u32) {
-        let mut lines = self.lines.lock(self.rt);
-        let _ = writeln!(lines, "no more connections: {workers} of {workers}");
+        let teller = self.teller(LineKind::Run);
+        let _ = eprintln!(teller; "no more connections: {workers} of {workers}");
     }
 
     fn tell_refusal(&self) {
-        let mut lines = self.lines.lock(self.rt);
-        let _ = writeln!(lines, "a connection isn't accepted; it is tried again");
+        let teller = self.teller(LineKind::Run);
+        let _ = eprintln!(teller; "a connection isn't accepted; it is tried again");
     }
 
     fn look(&self, core: &Core) -> bool {
@@ -77,7 +94,8 @@ impl<'a, R: Wait, E: Write, D: Draft> Watcher for Reporter<'a, R, E, D> {
     fn write_down(&self) {
         let mut sight = self.sight.lock(self.rt);
         sight.write();
-        let mut lines = self.lines.lock(self.rt);
-        sight.tell(&mut *lines);
+        let mut text = Line::new();
+        sight.tell(&mut text);
+        self.lines.tell(self.rt, LineKind::Journal, &text);
     }
 }

@@ -6,20 +6,24 @@ ghost use Rattle.nfs_program.specs.Pieces.{HasRoomForFileOf};
 ghost use Rattle.nfs_program.specs.declared.fault.Fault.{Fault};
 
 use crate::faults::{ongoing_run_fault, run_fault};
+use crate::line::Line;
+use crate::memory_reach::tell_refusal;
 use crate::{Draft, Reporter, exit_status, file_journal};
 use nfs_server::Sink;
 use nfs_threads::RunEnd;
 use std::io::Write;
 use std::sync::Wait;
+use std::time::Clock;
 
 /// Ends a run of connections by what it left. The file of the core's journal is written, also after a
 /// fault, if there is a sink for it, by the memory of this buffer. Returns the program's exit status: 0, or 1 after a
 /// fault. If nobody swept or nobody called clients back, the fault is that there was no memory for it; or else it is that
 /// of the first connection in the list that had one, or else that of the journal's file. It is reported by a line on
-/// `errors`.
+/// `errors`, behind one that tells that the memory of the entries, of so many MiB, was full, if it was.
 pub fn end_run<E: Write, J: Sink>(
     buffer: &mut Vec<u8>,
     run: &RunEnd,
+    memory: Option<u32>,
     errors: &mut E,
     journal: &mut Option<J>,
 ) -> u8
@@ -35,16 +39,17 @@ pub fn end_run<E: Write, J: Sink>(
 {
     let filed = file_journal(buffer, run.core.journal(), journal);
     let fault = run_fault(run.has_helpers, run.workers.as_slice(), filed);
+    tell_refusal(run.core.journal(), memory, errors);
     exit_status(errors, fault)
 }
 
 /// Ends a run that goes on, by what it left, likewise. What ended a connection is no fault of such a run: if it had its
 /// helpers, and memory for each worker was there, the fault is that of the journal's file. Where that file stands, the
 /// beginning of the journal is removed.
-pub fn end_ongoing_run<R: Wait, E: Write + Drop, D: Draft + Drop, J: Sink>(
+pub fn end_ongoing_run<R: Wait + Clock, D: Draft + Drop, J: Sink>(
     buffer: &mut Vec<u8>,
     run: &RunEnd,
-    reporter: Reporter<'_, R, E, D>,
+    reporter: Reporter<'_, R, D>,
     journal: &mut Option<J>,
 ) -> u8
     requires files { IfSome journal.old (λ sink. J.failures sink < 2 ^ 64 - 1) }
@@ -55,9 +60,13 @@ pub fn end_ongoing_run<R: Wait, E: Write + Drop, D: Draft + Drop, J: Sink>(
         → ¬ (HasRoomForFileOf (vec_capacity buffer.old) run.now.core.journal))
         × (result ≡ status_of (fault_of_ongoing_run run.now.has_helpers run.now.workers.items filed)) }
 {
+    reporter.look_at_memory(run.core.journal());
     let filed = file_journal(buffer, run.core.journal(), journal);
     let unfiled = filed.map(|_| run.core.journal());
-    let mut errors = reporter.end(unfiled);
+    let teller = reporter.end(unfiled);
     let fault = ongoing_run_fault(run.has_helpers, run.workers.as_slice(), filed);
-    exit_status(&mut errors, fault)
+    let mut text = Line::new();
+    let status = exit_status(&mut text, fault);
+    teller.tell(&text);
+    status
 }

@@ -13,9 +13,10 @@ pub(crate) struct Sight<'a, D> {
 }
 
 impl<'a, D: Draft> Sight<'a, D> {
-    pub(crate) fn new(beginning: Option<Beginning<'a, D>>) -> Sight<'a, D> {
+    /// Nothing was seen. The memory of the entries has a bound of so many MiB, if it has one.
+    pub(crate) fn new(beginning: Option<Beginning<'a, D>>, memory: Option<u32>) -> Sight<'a, D> {
         Sight {
-            limits: ReachedLimits::new(),
+            limits: ReachedLimits::new(memory),
             beginning,
             is_level: false,
         }
@@ -29,11 +30,16 @@ impl<'a, D: Draft> Sight<'a, D> {
         }
         let more_limits = self.limits.look(journal);
         let more_entries = match &mut self.beginning {
-            Some(beginning) => beginning.take(journal.entries()),
+            Some(beginning) => beginning.take(journal),
             None => false,
         };
         self.is_level = !more_limits && !more_entries;
         true
+    }
+
+    /// Looks once more at the memory of the journal's entries, when the run has ended.
+    pub(crate) fn look_at_memory(&mut self, journal: &Journal) {
+        self.limits.look_at_memory(journal);
     }
 
     /// Writes what was seen of the journal.

@@ -47,6 +47,8 @@ impl RecordError {
 pub struct Records {
     alloc: Global,
     ready: VecDeque<Vec<u8>>,
+    /// Where a piece's records are found, which is empty between two pieces, so that its memory is taken once.
+    found: VecDeque<Vec<u8>>,
     /// The bodies of the fragments of the record that isn't whole yet.
     bodies: Vec<u8>,
     first: Unfinished,
@@ -66,7 +68,8 @@ impl Model for Records {
     } };
 
     ghost invariant = { λ r.
-        IsSound r.bodies.items r.first × (r.first.count ≤ r.fed) × (r.fed ≤ 2 ^ 40) };
+        IsSound r.bodies.items r.first × (r.first.count ≤ r.fed) × (r.fed ≤ 2 ^ 40)
+        × (r.found.items ≡ []) };
 }
 
 impl Records {
@@ -78,6 +81,7 @@ impl Records {
         Records {
             alloc,
             ready: VecDeque::new(alloc),
+            found: VecDeque::new(alloc),
             bodies: Vec::new(alloc),
             first: Unfinished::NONE,
             fed: 0,
@@ -111,6 +115,7 @@ impl Records {
         let first = take_piece(
             self.alloc,
             &mut self.ready,
+            &mut self.found,
             &mut self.bodies,
             self.first,
             piece,

@@ -1,4 +1,4 @@
-ghost use Rattle.std.specs.Prelude.{◌≡◌, ◌+◌, ◌^◌, ◌≤◌, ◌++◌, List, ℕ, [], false, length, take, IfOk, OnErr};
+ghost use Rattle.std.specs.Prelude.{◌≡◌, ◌+◌, ◌^◌, ◌≤◌, ◌++◌, List, ℕ, [], false, length, take, IfOk, OnOk, OnErr};
 ghost use Rattle.nfs_rpc.specs.Keeping.{IsPlace, Fits, TakesMore, Begins, AreFound, Finds, first_or, messages_of};
 
 use crate::place::{Place, fits, take_front};
@@ -126,6 +126,7 @@ fn add_all(
     ensures at_place { IfOk result (λ first.
         first.is_too_long ≡ false → TakesMore bodies.new.items first.place) }
     ensures few { IfOk result (λ first. length bodies.new.items ≤ RECORD_LIMIT) }
+    ensures none { OnOk result (found.new.items ≡ []) }
     ensures err { OnErr result (ready.new.items ≡ ready.old.items) }
     ensures begins { OnErr result
         (Begins bodies.old.items (first_or (messages_of found.new.items) bodies.new.items)) }
@@ -135,25 +136,31 @@ fn add_all(
     Ok(first)
 }
 
-/// Restores the first `len` bytes of the bodies, which may have been moved to a record that was found.
-fn give_back(mut found: VecDeque<Vec<u8>>, bodies: &mut Vec<u8>, len: usize)
-    ensures { bodies.new.items ≡ take len (first_or (messages_of found.items) bodies.old.items) }
+/// Restores the first `len` bytes of the bodies, which may have been moved to a record that was found, and lets what was
+/// found go.
+fn give_back(found: &mut VecDeque<Vec<u8>>, bodies: &mut Vec<u8>, len: usize)
+    ensures bodies { bodies.new.items
+        ≡ take len (first_or (messages_of found.old.items) bodies.old.items) }
+    ensures found { found.new.items ≡ [] }
 {
     if let Some(first) = found.pop_front() {
         *bodies = first;
     }
     bodies.truncate(len);
+    found.clear();
 }
 
-/// Adds a piece to an unfinished record, and moves all records that are whole now to those that are ready. If it fails,
-/// both the ready records and the bodies are as before.
+/// Adds a piece to an unfinished record, and moves all records that are whole now to those that are ready, by a queue for
+/// those that are found. If it fails, both the ready records and the bodies are as before.
 pub(crate) fn take_piece(
     alloc: Global,
     ready: &mut VecDeque<Vec<u8>>,
+    found: &mut VecDeque<Vec<u8>>,
     bodies: &mut Vec<u8>,
     from: Unfinished,
     piece: &[u8],
 ) -> Result<Unfinished, AllocError>
+    requires none { found.old.items ≡ [] }
     requires at_place { TakesMore bodies.old.items from.place }
     requires goes { from.is_too_long ≡ false }
     requires room { from.count + length piece.now ≤ 2 ^ 40 }
@@ -165,10 +172,10 @@ pub(crate) fn take_piece(
     ensures few { IfOk result (λ first. length bodies.new.items ≤ RECORD_LIMIT) }
     ensures err { OnErr result
         ((ready.new.items ≡ ready.old.items) × (bodies.new.items ≡ bodies.old.items)) }
+    ensures none { found.new.items ≡ [] }
 {
     let len = bodies.len();
-    let mut found = VecDeque::new(alloc);
-    match add_all(alloc, ready, &mut found, bodies, from, piece) {
+    match add_all(alloc, ready, found, bodies, from, piece) {
         Ok(first) => Ok(first),
         Err(error) => {
             give_back(found, bodies, len);

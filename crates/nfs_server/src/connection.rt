@@ -9,7 +9,7 @@ ghost use Rattle.nfs_rpc.specs.Records.{IsStream, TakesPiece};
 
 use crate::duplex::Pair;
 use crate::replies::{GATHER_LIMIT, Replies};
-use crate::{Clock, Counted, DeviceFailed, Duplex, ServeError, Service, Sink, Source};
+use crate::{Buffers, Clock, Counted, DeviceFailed, Duplex, ServeError, Service, Sink, Source};
 use nfs_rpc::{RECORD_LIMIT, RecordError, Records};
 use nfs_tree::Tree;
 use std::alloc::{AllocError, Global};
@@ -18,8 +18,8 @@ use std::io;
 /// The greatest number of bytes in the input of a connection.
 pub const STREAM_LIMIT: u64 = 1 << 40;
 
-// The greatest number of bytes that one read asks a device for.
-const PIECE_LEN: usize = 65_536;
+/// The greatest number of bytes that one read asks a device for.
+pub(crate) const PIECE_LEN: usize = 65_536;
 
 /// Serves a connection until its input ends, and returns how many bytes came after the last whole record. It behaves
 /// like `serve_duplex`, and reads from the source and writes to the sink.
@@ -75,10 +75,42 @@ pub fn serve_duplex<D: Duplex, S: Service, C: Clock>(
     ensures write_failed { IsErrOf result ServeError.Write
         ↔ D.write_failures device.old < D.write_failures device.new }
 {
-    let mut room = room_for_a_piece(alloc)?;
-    let buffer = room.as_mut_slice();
-    let mut records = Records::new(alloc);
-    let mut replies = Replies::new(alloc);
+    let mut buffers = make_buffers(alloc)?;
+    buffers.serve(device, service, tree, clock)
+}
+
+// The buffers of a connection that has its own.
+fn make_buffers(alloc: Global) -> Result<Buffers, ServeError>
+    ensures memory { OnErr result (result ≡ Err ServeError.Memory) }
+{
+    Buffers::new(alloc).map_err(|_| ServeError::Memory)
+}
+
+/// Serves a connection so, with this buffer for the bytes of one read, and these replies, of which none waits.
+pub(crate) fn serve_turns<D: Duplex, S: Service, C: Clock>(
+    replies: &mut Replies,
+    buffer: &mut [u8],
+    device: &mut D,
+    service: &mut S,
+    tree: &Tree,
+    clock: &mut C,
+) -> Result<usize, ServeError>
+    requires room { length buffer.old ≡ PIECE_LEN }
+    requires idle { replies.old.gathered.items ≡ [] }
+    requires none { replies.old.pending.items ≡ [] }
+    requires reads { D.read_failures device.old < 2 ^ 64 - 1 }
+    requires writes { D.write_failures device.old < 2 ^ 64 - 1 }
+    requires serves { S.serves service.old ≡ tree.now.nodes }
+    ensures room { length buffer.new ≡ PIECE_LEN }
+    ensures serves { S.serves service.new ≡ tree.now.nodes }
+    ensures course { HasCourse D.device (rules tree.now S.gives S.alike C.tells)
+        (scene device.old service.old clock.old) result (scene device.new service.new clock.new) }
+    ensures read_failed { IsErrOf result ServeError.Read
+        ↔ D.read_failures device.old < D.read_failures device.new }
+    ensures write_failed { IsErrOf result ServeError.Write
+        ↔ D.write_failures device.old < D.write_failures device.new }
+{
+    let mut records = Records::new(replies.alloc());
     loop {
         let count = match device.read(buffer) {
             Ok(0) => return Ok(records.rest()),
@@ -89,19 +121,11 @@ pub fn serve_duplex<D: Duplex, S: Service, C: Clock>(
             return Err(ServeError::TooMuch);
         }
         feed(&mut records, &buffer[..count])?;
-        serve_ready(&mut records, &mut replies, device, service, tree, clock)?;
+        serve_ready(&mut records, replies, device, service, tree, clock)?;
         if records.is_too_long() {
             return Err(ServeError::TooLong);
         }
     }
-}
-
-// A buffer for the bytes of one read.
-fn room_for_a_piece(alloc: Global) -> Result<Vec<u8>, ServeError>
-    ensures ok { IfOk result (λ room. length room.items ≡ PIECE_LEN) }
-    ensures memory { OnErr result (result ≡ Err ServeError.Memory) }
-{
-    vec![in alloc; 0; PIECE_LEN].map_err(|_| ServeError::Memory)
 }
 
 // Adds the next piece to the stream. If a record is too long now, `Records::is_too_long` says so afterwards.

@@ -2,6 +2,7 @@
 //! course of one connection.
 #![tactic(auto)]
 
+mod buffers;
 mod clock;
 mod compound;
 mod connection;
@@ -16,6 +17,7 @@ mod serve_error;
 mod service;
 mod sides;
 
+pub use buffers::Buffers;
 pub use clock::{Clock, Stopped};
 pub use compound::run_compound;
 pub use connection::{STREAM_LIMIT, serve_connection, serve_duplex, write_to};

@@ -58,6 +58,22 @@ impl Replies {
         }
     }
 
+    /// The same, with room for as many calls, replies and results as there may be.
+    pub(crate) fn with_room(alloc: Global) -> Result<Replies, AllocError>
+        ensures pending { IfOk result (λ replies. replies.pending.items ≡ []) }
+        ensures gathered { IfOk result (λ replies. replies.gathered.items ≡ []) }
+    {
+        let mut replies = Replies::new(alloc);
+        replies.make_room()?;
+        make_result_room(&mut replies.results)?;
+        Ok(replies)
+    }
+
+    /// Where memory is taken.
+    pub(crate) fn alloc(&self) -> Global {
+        self.alloc
+    }
+
     /// The bytes of the waiting replies.
     pub(crate) fn as_slice(&self) -> &[u8]
         ensures { result.now ≡ self.now.gathered.items }
@@ -71,6 +87,15 @@ impl Replies {
         ensures pending { self.new.pending.items ≡ self.old.pending.items }
     {
         self.gathered.clear();
+    }
+
+    /// Removes the waiting calls, too. The memory stays.
+    pub(crate) fn clear_all(&mut self)
+        ensures gathered { self.new.gathered.items ≡ [] }
+        ensures pending { self.new.pending.items ≡ [] }
+    {
+        self.gathered.clear();
+        self.pending.clear();
     }
 
     /// Reads the calls of records that are ready, and has the service answer the first of the pending ones in a batch.

@@ -224,7 +224,7 @@ fn call_at(core: &Core, number: u32) -> SeenCall
         × (slice_get core.now.journal.entries number ≡ Some (entries.Call call)) }
     ensures { slice_get core.now.journal.entries number ≡ Some (entries.Call result.call) }
 {
-    let Some(Entry::Call(call)) = core.journal().entries().get(number as usize) else {
+    let Some(Entry::Call(call)) = core.journal().entry(number as usize) else {
         unreachable!()
     };
     SeenCall::of(call)

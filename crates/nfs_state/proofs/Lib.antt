@@ -1,3 +1,4 @@
+pub mod Pieces
 pub mod FileChanges
 pub mod KeptOwners
 pub mod OpenedFiles

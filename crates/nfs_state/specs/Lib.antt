@@ -1,6 +1,8 @@
 pub mod Owners
 pub mod Files
 pub mod State
+pub mod PieceList
+pub mod MemoryCount
 pub mod Journal
 pub mod Lease
 pub mod Stored

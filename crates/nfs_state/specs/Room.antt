@@ -20,6 +20,7 @@ use Rattle.nfs_owners.specs.Owners.{RoomyOwners, has_place}
 use Rattle.nfs_owners.specs.StateOwner.{open_owner}
 use Rattle.nfs_owners.specs.declared.state_owner.StateOwner.{StateOwner}
 use Rattle.nfs_owners.specs.declared.owner.TheConstants.{OWNER_LIMIT}
+use Rattle.nfs_state.specs.MemoryCount.{IsNoCall}
 use Rattle.nfs_state.specs.State.{State}
 use Rattle.nfs_state.specs.Stored.{Stored, meaning}
 use Rattle.nfs_owners.specs.ClientRoom.{FitsRecords, HasNumbersFor, HasRoomFor}
@@ -97,6 +98,7 @@ IsNewcomer name state = IsFalse (is_known name state) × (length state.owners < 
 
 -- The entry, for which there is room in the journal, can be committed with this effect without taking memory.
 pub record TakesNoMemory (entry : Entry) (effect : Effect) (tables : Tables) : Type 0 where
+  pub call : IsNoCall entry
   pub kept : kept_in entry ≡ None
   pub owner : HasOwnerRoom effect.owner tables
   pub change : HasRoom (data_in entry) effect.change tables

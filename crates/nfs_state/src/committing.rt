@@ -3,13 +3,13 @@ ghost use Rattle.nfs_state.specs.Changes.{after};
 ghost use Rattle.nfs_state.specs.Entries.{data_in, with_entry};
 ghost use Rattle.nfs_state.specs.Files.{CanChange};
 ghost use Rattle.nfs_state.specs.Kept.{Agrees, kept_in, owners_after, update_by};
+ghost use Rattle.nfs_state.specs.MemoryCount.{IsNoCall};
 ghost use Rattle.nfs_state.specs.Room.{Fits, HasGivenNumbers, HasOwnerRoom, HasRoom, TakesNoMemory, state_of, stored_of};
 ghost use Rattle.nfs_state.specs.State.{History};
 ghost use Rattle.nfs_state.specs.Store.{HoldTheSame, OwnersAgree};
 
 use crate::effect::Effect;
 use crate::entry::{Entry, JOURNAL_LIMIT};
-use crate::journal::push_entry;
 use crate::owner_update::OwnerUpdate;
 use crate::shortage::Shortage;
 use crate::store::Store;
@@ -45,9 +45,9 @@ pub fn commit_entry(
 {
     match make_ready(alloc, store, &entry, &effect) {
         Ok(()) => {
-            let number = store.journal.entries.len() as u32;
+            let number = store.journal.len() as u32;
             match make_changes(&mut store.tables, &entry, effect, number) {
-                Ok(()) => Ok(push_entry(&mut store.journal.entries, entry)),
+                Ok(()) => Ok(store.journal.push(entry)),
                 Err(shortage) => {
                     drop(entry);
                     Err(shortage)
@@ -77,10 +77,14 @@ fn make_ready(
         × HasOwnerRoom effect.now.owner store.new.tables) }
     ensures ready { 0 < store.old.journal.room
         → HasOwnerRoom effect.now.owner store.old.tables
-        → HasRoom (data_in entry.now) effect.now.change store.old.tables → IsOk result }
+        → HasRoom (data_in entry.now) effect.now.change store.old.tables
+        → IsNoCall entry.now → IsOk result }
     ensures memory { IfErr result (λ e. e ≡ Shortage.Memory) }
 {
-    store.journal.entries.reserve(1)?;
+    if !store.journal.has_memory_for(entry) {
+        return Err(Shortage::Memory);
+    }
+    store.journal.reserve()?;
     if effect.is_nothing() {
         return Ok(());
     }

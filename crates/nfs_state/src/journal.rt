@@ -1,6 +1,11 @@
-ghost use Rattle.std.specs.Prelude.{◌≡◌, ◌<◌, ◌≤◌, [], ◌∷◌, ◌++◌, nat_le, length, IsOk, OnOk};
-ghost use Rattle.std.specs.Vec.{vec_len, vec_capacity};
+ghost use Rattle.std.specs.Prelude.{◌≡◌, ◌<◌, ◌≤◌, [], nat_le, length, slice_get, IsOk, IsTrue, OnOk};
+ghost use Rattle.std.specs.Option.{option_copied};
+ghost use Rattle.nfs_state.specs.Entries.{with_entry};
+ghost use Rattle.nfs_state.specs.MemoryCount.{IsNoCall};
+ghost use Rattle.nfs_state.specs.PieceList.{piece_from};
 
+use crate::memory_count::MemoryCount;
+use crate::piece_list::PieceList;
 use crate::{Entry, JOURNAL_LIMIT};
 use nfs_tree::{Policy, Tree};
 use std::alloc::{AllocError, Global};
@@ -19,13 +24,13 @@ pub struct Journal {
     epoch: u32,
     lease: u32,
     policy: Policy,
-    // Visible in the crate because a call makes room in the list before it changes the state.
-    pub(crate) entries: Vec<Entry>,
+    entries: PieceList<Entry>,
+    // What the entries count of a run's memory, if that has a bound. Contracts don't see it.
+    memory: MemoryCount,
 }
 
 impl Model for Journal {
-    ghost use Rattle.std.specs.Prelude.{◌≤◌, ◌-◌};
-    ghost use Rattle.std.specs.Vec.{vec_len, vec_capacity};
+    ghost use Rattle.std.specs.Prelude.{◌≤◌};
     ghost use Rattle.nfs_state.specs.Journal.{RoomyJournal};
     ghost use Rattle.nfs_state.specs.declared.journal.TheConstants.{LEASE_MIN, LEASE_MAX};
 
@@ -39,7 +44,7 @@ impl Model for Journal {
         policy = j.policy;
         entries = j.entries.items;
       };
-      room = vec_capacity j.entries - vec_len j.entries;
+      room = j.entries.room;
     } };
 
     ghost invariant = { λ j. (LEASE_MIN ≤ j.lease) × (j.lease ≤ LEASE_MAX) };
@@ -57,32 +62,13 @@ impl Journal {
           entries = [];
         } }
     {
-        Journal::with_entries(tree, lease, epoch, policy, Vec::new(alloc))
-    }
-
-    /// A journal with these entries, taking no memory.
-    pub fn with_entries(
-        tree: Tree,
-        lease: u32,
-        epoch: u32,
-        policy: Policy,
-        entries: Vec<Entry>,
-    ) -> Journal
-        requires { (LEASE_MIN ≤ lease) × (lease ≤ LEASE_MAX) }
-        ensures { result.history ≡ record {
-          nodes = tree.nodes;
-          epoch = epoch;
-          lease = lease;
-          policy = policy;
-          entries = entries.items;
-        } }
-    {
         Journal {
             tree,
             epoch,
             lease,
             policy,
-            entries,
+            entries: PieceList::new(alloc),
+            memory: MemoryCount::new(),
         }
     }
 
@@ -115,18 +101,26 @@ impl Journal {
         self.lease
     }
 
-    /// The entries in order.
-    pub fn entries(&self) -> &[Entry]
-        ensures { result.now ≡ self.now.history.entries }
+    /// How many entries it has.
+    pub fn len(&self) -> usize
+        ensures { result ≡ length self.now.history.entries }
     {
-        self.entries.as_slice()
+        self.entries.len()
     }
 
-    /// The entries in order, without what the server was started with.
-    pub fn into_entries(self) -> Vec<Entry>
-        ensures { result.items ≡ self.history.entries }
+    /// The entry with this number, if there is one.
+    pub fn entry(&self, number: usize) -> Option<&Entry>
+        ensures { option_copied result ≡ slice_get self.now.history.entries number }
     {
-        self.entries
+        self.entries.get(number)
+    }
+
+    /// The entries from this number on, up to the end of their piece, of which each has `PIECE_LEN`: none only where none
+    /// is left.
+    pub fn piece_from(&self, number: usize) -> &[Entry]
+        ensures { result.now ≡ piece_from number self.now.history.entries }
+    {
+        self.entries.piece_from(number)
     }
 
     /// Makes room for one more entry.
@@ -136,7 +130,7 @@ impl Journal {
         ensures grows { self.old.room ≤ self.new.room }
         ensures ready { 0 < self.old.room → IsOk result }
     {
-        self.entries.reserve(1)
+        self.entries.reserve()
     }
 
     /// Whether the journal has as many entries as it can have.
@@ -145,16 +139,44 @@ impl Journal {
     {
         self.entries.len() >= JOURNAL_LIMIT
     }
-}
 
-/// Adds the entry at the end, where there has to be room, and returns its number.
-pub(crate) fn push_entry(entries: &mut Vec<Entry>, entry: Entry) -> u32
-    requires below { length entries.old.items < JOURNAL_LIMIT }
-    requires room { vec_len entries.old < vec_capacity entries.old }
-    ensures items { entries.new.items ≡ entries.old.items ++ entry ∷ [] }
-    ensures number { result ≡ length entries.old.items }
-{
-    let number = entries.len() as u32;
-    entries.push_reserved(entry);
-    number
+    /// Adds the entry at the end, where there has to be room, and returns its number.
+    pub(crate) fn push(&mut self, entry: Entry) -> u32
+        requires below { length self.old.history.entries < JOURNAL_LIMIT }
+        requires room { 0 < self.old.room }
+        ensures entry { self.new.history ≡ with_entry entry self.old.history }
+        ensures number { result ≡ length self.old.history.entries }
+    {
+        let number = self.entries.len() as u32;
+        self.memory.add(&entry);
+        self.entries.push_reserved(entry);
+        number
+    }
+
+    /// From now on a call is refused, as where memory is, whose entry would bring the count of the entries' memory above so
+    /// many bytes.
+    pub fn set_memory_limit(&mut self, limit: u64)
+        ensures { self.new ≡ self.old }
+    {
+        self.memory.set_limit(limit);
+    }
+
+    /// How many bytes the entries count: each 320, and those of the names, owners, ids and addresses of its operation, and
+    /// what a WRITE writes or a READ gives.
+    pub fn memory(&self) -> u64 {
+        self.memory.len()
+    }
+
+    /// Whether a call was refused for the bound.
+    pub fn is_out_of_memory(&self) -> bool {
+        self.memory.is_full()
+    }
+
+    /// Whether the entry finds room below the bound, if there is one: each that is no call does.
+    pub(crate) fn has_memory_for(&mut self, entry: &Entry) -> bool
+        ensures same { self.new ≡ self.old }
+        ensures no_call { IsNoCall entry.now → IsTrue result }
+    {
+        self.memory.has_room(entry)
+    }
 }

@@ -1,5 +1,6 @@
 ghost use Rattle.std.specs.Prelude.{◌≡◌, IfOk, IsOk, None};
 ghost use Rattle.nfs_state.specs.Kept.{kept_in, kept_with, update_by, update_of};
+ghost use Rattle.nfs_state.specs.declared.owner_change.OwnerChange.TheVariants as changes;
 
 use crate::owner_change::OwnerChange;
 use crate::{Call, Entry};
@@ -48,21 +49,68 @@ impl OwnerUpdate {
     fn of_call(change: OwnerChange, call: &Call, seqid: u32) -> Result<OwnerUpdate, AllocError>
         ensures { IfOk result (λ u. u ≡ update_of change (kept_with call.now seqid)) }
     {
-        Ok(match change {
-            OwnerChange::Nothing => OwnerUpdate::Nothing,
-            OwnerChange::Keeps(owner) => OwnerUpdate::Keeps(Keeping::of(owner, call, seqid)?),
+        match change {
+            OwnerChange::Nothing => Ok(OwnerUpdate::Nothing),
+            OwnerChange::Keeps(owner) => OwnerUpdate::keeps(owner, call, seqid),
             OwnerChange::KeepsBoth(owner, newcomer) | OwnerChange::Introduces(owner, newcomer) => {
-                let keeping = Keeping::of(owner, call, seqid)?;
-                OwnerUpdate::KeepsBoth(keeping, Keeping::of(newcomer, call, seqid)?)
+                OwnerUpdate::keeps_both(owner, newcomer, call, seqid)
             }
             OwnerChange::Records(owner) => {
-                OwnerUpdate::Keeps(Keeping::of(StateOwner::of_open(owner), call, seqid)?)
+                OwnerUpdate::keeps(StateOwner::of_open(owner), call, seqid)
             }
-            OwnerChange::Restarts(owner) => {
-                OwnerUpdate::Restarts(owner, call.kept(seqid, OwnerKind::Open)?)
+            OwnerChange::Restarts(owner) => OwnerUpdate::restarts(owner, call, seqid),
+            OwnerChange::Drops(owner) => Ok(OwnerUpdate::Drops(owner)),
+        }
+    }
+
+    // The owner keeps the call.
+    fn keeps(owner: StateOwner, call: &Call, seqid: u32) -> Result<OwnerUpdate, AllocError>
+        ensures { IfOk result
+            (λ u. u ≡ update_of (changes.Keeps owner) (kept_with call.now seqid)) }
+    {
+        match Keeping::of(owner, call, seqid) {
+            Ok(keeping) => Ok(OwnerUpdate::Keeps(keeping)),
+            Err(refused) => Err(refused),
+        }
+    }
+
+    // Both owners keep the call.
+    fn keeps_both(
+        owner: StateOwner,
+        newcomer: StateOwner,
+        call: &Call,
+        seqid: u32,
+    ) -> Result<OwnerUpdate, AllocError>
+        ensures { IfOk result
+            (λ u. u ≡ update_of (changes.KeepsBoth owner newcomer) (kept_with call.now seqid)) }
+    {
+        match Keeping::of(owner, call, seqid) {
+            Ok(keeping) => match Keeping::of(newcomer, call, seqid) {
+                Ok(other) => Ok(OwnerUpdate::KeepsBoth(keeping, other)),
+                Err(refused) => {
+                    drop(keeping);
+                    Err(refused)
+                }
+            },
+            Err(refused) => {
+                drop(newcomer);
+                Err(refused)
             }
-            OwnerChange::Drops(owner) => OwnerUpdate::Drops(owner),
-        })
+        }
+    }
+
+    // The owner is dropped, becomes known anew, and keeps the call.
+    fn restarts(owner: OpenOwner, call: &Call, seqid: u32) -> Result<OwnerUpdate, AllocError>
+        ensures { IfOk result
+            (λ u. u ≡ update_of (changes.Restarts owner) (kept_with call.now seqid)) }
+    {
+        match call.kept(seqid, OwnerKind::Open) {
+            Ok(kept) => Ok(OwnerUpdate::Restarts(owner, kept)),
+            Err(refused) => {
+                drop(owner);
+                Err(refused)
+            }
+        }
     }
 }
 

@@ -3,9 +3,13 @@ ghost use Rattle.std.specs.Prelude.{◌≡◌};
 use crate::bell::Bell;
 use crate::{Door, Links, Peer, Socket, Uptime, Watcher};
 use nfs_server::ServeError;
+use std::alloc::AllocError;
 use std::net::TcpListener;
 use std::sync::Wait;
 use std::time::{Clock as Timer, Duration};
+
+// How many milliseconds a worker of a run that goes on waits where memory is refused for the next connection.
+const PAUSE_MILLIS: u64 = 100;
 
 /// Where a worker's connections come from.
 #[derive(Clone, Copy)]
@@ -91,6 +95,16 @@ impl<'a, R: Timer + Wait + Sync, W: Watcher + Sync> Links for TcpLinks<'a, R, W>
             }
         };
         Some((socket, Uptime::since(self.rt, self.start)))
+    }
+
+    fn wait_for_memory(&mut self) -> Result<bool, AllocError> {
+        match self.entrance {
+            Entrance::Door(_) => {
+                let pause = Duration::from_millis(PAUSE_MILLIS);
+                Ok(!self.bell.wait(self.rt, pause))
+            }
+            Entrance::Listener(_) | Entrance::Nowhere => Err(AllocError),
+        }
     }
 
     fn end(&self, outcome: Result<usize, ServeError>) {

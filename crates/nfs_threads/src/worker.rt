@@ -1,8 +1,8 @@
-ghost use Rattle.std.specs.Prelude.{◌≡◌, [], IsTrue};
+ghost use Rattle.std.specs.Prelude.{◌≡◌, ◌<◌, [], false, true, IfOk, IsSome, IsTrue, OnErr, OnOk, vec_capacity, vec_len};
 ghost use Rattle.nfs_threads.specs.Worker.{HasServed, IsEndOf, linking, stand};
 
 use crate::{ConnectionEnd, Desk, Links, Shift, WorkerEnd};
-use nfs_server::serve_duplex;
+use nfs_server::Buffers;
 use nfs_shared::{Naming, Seat, Shared};
 use nfs_tree::Tree;
 use std::alloc::{AllocError, Global};
@@ -83,8 +83,8 @@ fn serve_unless<N: Naming, L: Links, R: Wait>(
     serve_each(common, links, desk, connections)
 }
 
-// Serves the connections one after the other, until none is left or memory is refused for the list of them. The room for
-// a connection is made before it is taken.
+// Serves the connections one after the other, until none is left, or memory is refused for the next one and the links don't
+// wait for it. The room for a connection is made before it is taken.
 fn serve_each<N: Naming, L: Links, R: Wait>(
     common: &Common<'_, N, R>,
     links: &mut L,
@@ -98,15 +98,64 @@ fn serve_each<N: Naming, L: Links, R: Wait>(
         common.now.tree.now (stand links.old desk.old) connections.new.items result
         (stand links.new desk.new) }
 {
+    let mut buffers = None;
     for _ in common.rt.forever() {
-        connections.reserve(1)?;
+        if !make_room(common, links, connections, &mut buffers)? {
+            return Ok(());
+        }
+        let Some(buffers) = &mut buffers else {
+            unreachable!()
+        };
         let Some((mut device, mut clock)) = links.next() else {
             return Ok(());
         };
         let first = desk.count();
-        let result = serve_duplex(common.alloc, &mut device, desk, common.tree, &mut clock);
+        let result = buffers.serve(&mut device, desk, common.tree, &mut clock);
         links.end(result);
         connections.push_reserved(ConnectionEnd { result, first });
     }
     unreachable!()
+}
+
+// Makes room for the next connection, for which the links may wait. Returns whether there is to be one.
+fn make_room<N: Naming, L: Links, R: Wait>(
+    common: &Common<'_, N, R>,
+    links: &mut L,
+    connections: &mut Vec<ConnectionEnd>,
+    buffers: &mut Option<Buffers>,
+) -> Result<bool, AllocError>
+    ensures list { connections.new.items ≡ connections.old.items }
+    ensures room { IfOk result (λ goes_on. goes_on ≡ true
+        → vec_len connections.new < vec_capacity connections.new) }
+    ensures buffers { IfOk result (λ goes_on. goes_on ≡ true → IsSome buffers.new) }
+    ensures same { IfOk result (λ goes_on. goes_on ≡ true → links.new ≡ links.old) }
+    ensures stops { IfOk result (λ goes_on. goes_on ≡ false → L.stops links.old links.new) }
+    ensures refused { OnErr result (links.new ≡ links.old) }
+{
+    for _ in common.rt.forever() {
+        if reserve(common.alloc, connections, buffers).is_ok() {
+            return Ok(true);
+        }
+        if !links.wait_for_memory()? {
+            return Ok(false);
+        }
+    }
+    unreachable!()
+}
+
+// Makes room for a connection: its place in the list, and the buffers, unless the one before has left them.
+fn reserve(
+    alloc: Global,
+    connections: &mut Vec<ConnectionEnd>,
+    buffers: &mut Option<Buffers>,
+) -> Result<(), AllocError>
+    ensures list { connections.new.items ≡ connections.old.items }
+    ensures room { OnOk result (vec_len connections.new < vec_capacity connections.new) }
+    ensures buffers { OnOk result (IsSome buffers.new) }
+{
+    connections.reserve(1)?;
+    if buffers.is_none() {
+        *buffers = Some(Buffers::new(alloc)?);
+    }
+    Ok(())
 }

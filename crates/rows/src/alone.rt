@@ -81,7 +81,7 @@ impl Alone<'_> {
 
     // The number of the entry, if a delegation was due.
     fn revoke(&mut self, now: Moment) -> Result<Option<usize>, CoreError> {
-        let entry = self.lent.core().journal().entries().len();
+        let entry = self.lent.core().journal().len();
         Ok(self.lent.revoke(now)?.map(|_| entry))
     }
 

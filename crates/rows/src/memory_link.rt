@@ -2,6 +2,7 @@ ghost use Rattle.std.specs.Prelude.{◌≡◌, None, IfSome, IsSome};
 
 use nfs_server::{Clock, Counted, ServeError, Sides};
 use nfs_threads::Links;
+use std::alloc::AllocError;
 use std::io::Read;
 use std::mem;
 
@@ -61,6 +62,10 @@ impl<'a, S: Read + Drop + Send, C: Clock + Drop + Send> Links for MemoryLink<'a,
             Some(parts) => Some(parts.open()),
             None => None,
         }
+    }
+
+    fn wait_for_memory(&mut self) -> Result<bool, AllocError> {
+        Err(AllocError)
     }
 
     fn end(&self, _outcome: Result<usize, ServeError>) {}

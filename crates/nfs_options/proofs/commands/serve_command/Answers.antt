@@ -19,7 +19,9 @@ returns c =
     let three_local = c.in_ok-arg-3.ensures.globals ∙ ap₂ (λ a b. a || b) two_local c.flag-input_ends.ensures.local in
     let four_local = c.in_ok-serve.ensures.globals ∙ ap₂ (λ a b. a || b) three_local c.flag-killed.ensures.local in
     let core_local = c.in_ok-with_core_options.ensures.local four_local in
+    let five = c.in_ok-arg-4.ensures.shape c.journal_option.ensures.local ∙ ap₂ with_rule core c.journal_option.ensures.rule in
+    let five_local = c.in_ok-arg-4.ensures.globals ∙ ap₂ (λ a b. a || b) core_local c.journal_option.ensures.local in
     record {
-      app = IfOk-weaker c.arg-5.result _ _ (λ made h. h.shape c.journal_option.ensures.local ∙ ap₂ with_rule core c.journal_option.ensures.rule) c.arg-5.ensures;
-      local = IfOk-weaker c.arg-5.result _ _ (λ made h. h.globals ∙ ap₂ (λ a b. a || b) core_local c.journal_option.ensures.local) c.arg-5.ensures;
+      app = IfOk-weaker c.arg-6.result _ _ (λ made h. h.shape c.option-memory.ensures.local ∙ ap₂ with_rule five c.option-memory.ensures.rule) c.arg-6.ensures;
+      local = IfOk-weaker c.arg-6.result _ _ (λ made h. h.globals ∙ ap₂ (λ a b. a || b) five_local c.option-memory.ensures.local) c.arg-6.ensures;
     }

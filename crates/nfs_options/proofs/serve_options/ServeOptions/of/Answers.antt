@@ -33,8 +33,13 @@ pub returns-in_err-short_number-3-clause-err : goal.returns-in_err-short_number-
 returns-in_err-short_number-3-clause-err c =
     let text = c.get_str-5.ensures ∙ first_value-rows (found_of c.args.matches.now) (codes "epoch") in
     let is = subst (λ o. IsMemoryOr (IsNoNumber 0 epoch_max o) c.in_err-short_number-3.field-0.0) text c.in_err-short_number-3.ensures.err in
-    let wrong = weaker_fault _ (LacksServe (rows_of (found_of c.args.matches.now))) (λ h. inr (inr (inr h))) _ is in
+    let wrong = weaker_fault _ (LacksServe (rows_of (found_of c.args.matches.now))) (λ h. inr (inr (inr (inl h)))) _ is in
     passed_on c.from_residual-in_err-short_number-3.result _ _ c.from_residual-in_err-short_number-3.ensures.1 wrong
+
+pub returns-in_err-memory_of-clause-err : goal.returns-in_err-memory_of-clause-err
+returns-in_err-memory_of-clause-err c =
+    let wrong = weaker_fault _ (LacksServe (rows_of (found_of c.args.matches.now))) (λ h. inr (inr (inr (inr h)))) _ c.in_err-memory_of.ensures.err in
+    passed_on c.from_residual-in_err-memory_of.result _ _ c.from_residual-in_err-memory_of.ensures.1 wrong
 
 pub returns-clause-ok : goal.returns-clause-ok
 returns-clause-ok c =
@@ -48,4 +53,4 @@ returns-clause-ok c =
     let connections = subst (λ (x : ℕ × (ℕ × (ℕ × Option (List ℕ)))). IsNumber x.0 x.1.0 x.1.1.0 x.1.1.1 c.in_ok-short_number.field-0) (λ i. (limits.0 i, (limits.1 i, (option.ensures.default i, text i)))) c.in_ok-short_number.ensures.ok in
     let lease = subst (λ o. IsNumber LEASE_MIN LEASE_MAX lease_default o c.in_ok-short_number-2.field-0) (c.get_str-4.ensures ∙ given (codes "lease")) c.in_ok-short_number-2.ensures.ok in
     let epoch = subst (λ o. IsNumber 0 epoch_max epoch_default o c.in_ok-short_number-3.field-0) (c.get_str-5.ensures ∙ given (codes "epoch")) c.in_ok-short_number-3.ensures.ok in
-    (listen, c.in_ok-until.ensures.ok, connections, c.get_str-3.ensures ∙ given (codes "tree"), lease, epoch, c.get_str-6.ensures ∙ given (codes "journal"))
+    (listen, c.in_ok-until.ensures.ok, connections, c.get_str-3.ensures ∙ given (codes "tree"), lease, epoch, c.get_str-6.ensures ∙ given (codes "journal"), c.in_ok-memory_of.ensures.ok)

@@ -9,7 +9,7 @@ use Rattle.nfs_program.proofs.backlog.Backlog.take.Given as goal
 abbrev pub invariant-loop-entry : goal.invariant-loop-entry
 invariant-loop-entry l = record {
   count : l.self.count ≡ l.fn.self.count + l.entry-index;
-  bytes : l.self.bytes.items ≡ l.fn.self.bytes.items ++ flat_map entry.encoding (take l.entry-index l.rest);
+  bytes : l.self.bytes.items ≡ l.fn.self.bytes.items ++ flat_map entry.encoding (take l.entry-index l.piece);
   short : (l.entry-index ≤ 1) ⊎ (length l.self.bytes.items ≤ length l.fn.self.bytes.items + PIECE_LEN);
   room : vec_capacity l.fn.self.bytes ≤ vec_capacity l.self.bytes;
 }

@@ -15,6 +15,7 @@ invariant_of-self-2 c =
       sound_after _ _ c.args.piece.now w.0 c.self.inside.first c.in_ok-first.first c.if-self.false w.1 sound at_place few,
       omega (arith, count, c.self.invariant.1),
       omega arith,
+      c.take_piece.ensures.none,
     )
 
 pub invariant_of-self-then-first : goal.invariant_of-self-then-first
@@ -29,4 +30,5 @@ invariant_of-self-then-first c =
       sound_after _ _ c.args.piece.now w.0 c.self.inside.first c.in_ok-first.first c.if-self.false w.1 sound at_place few,
       omega (arith, count, c.self.invariant.1),
       omega arith,
+      c.take_piece.ensures.none,
     )

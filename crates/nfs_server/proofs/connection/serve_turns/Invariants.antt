@@ -4,7 +4,7 @@ use Rattle.nfs_server.specs.declared.connection.TheConstants.{PIECE_LEN}
 use Rattle.nfs_server.specs.Connection.{scene}
 use Rattle.nfs_server.specs.Exchange.{rules}
 use Rattle.nfs_server.proofs.Courses.{IsUnderWay}
-use Rattle.nfs_server.proofs.connection.serve_duplex.Given as goal
+use Rattle.nfs_server.proofs.connection.serve_turns.Given as goal
 
 -- all turns so far are complete
 abbrev pub invariant-loop-records : goal.invariant-loop-records

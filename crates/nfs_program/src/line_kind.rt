@@ -1,0 +1,21 @@
+/// What a line is about.
+#[derive(Clone, Copy, PartialEq, Eq)]
+pub enum LineKind {
+    /// How a connection ended.
+    Connection,
+    /// What was seen of the journal, and what becomes of its files.
+    Journal,
+    /// The run itself.
+    Run,
+}
+
+impl LineKind {
+    /// The words by which a line tells of others of this kind.
+    pub(crate) fn name(self) -> &'static str {
+        match self {
+            LineKind::Connection => "connections",
+            LineKind::Journal => "the journal",
+            LineKind::Run => "the run",
+        }
+    }
+}

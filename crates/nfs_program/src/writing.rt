@@ -1,0 +1,61 @@
+use crate::Lines;
+use crate::waiting::ROOM;
+use std::alloc::{AllocError, Global};
+use std::io::{ErrorKind, Write};
+use std::sync::{Arc, Wait};
+use std::thread;
+use std::thread::Threads;
+use std::time::{Clock, Duration};
+
+// For how many milliseconds a write is put off that would have to wait, where it is no use to wait in it.
+const PAUSE_MILLIS: u64 = 10;
+
+/// Lines that go to these errors by a thread that nobody waits for: it may wait in a write when the program ends.
+pub fn lines_to<
+    R: Threads + Wait + Clock + Copy + Send + Sync + 'static,
+    E: Write + Send + Drop + 'static,
+>(alloc: Global, rt: R, errors: E) -> Result<Arc<Lines, Global>, AllocError> {
+    let lines = Arc::new(alloc, Lines::new(alloc)?)?;
+    let memory = Vec::with_capacity(alloc, ROOM)?;
+    let taken = Arc::try_clone(&lines)?;
+    // The handle of the thread is let go, which leaves the thread to itself.
+    match thread::spawn(&rt, move || write_each(rt, errors, taken, memory)) {
+        Ok(_) => Ok(lines),
+        Err(_) => Err(AllocError),
+    }
+}
+
+// Writes the lines as they come, until no more come.
+fn write_each<R: Wait + Clock + Copy, E: Write + Drop>(
+    rt: R,
+    mut errors: E,
+    lines: Arc<Lines, Global>,
+    mut memory: Vec<u8>,
+) {
+    for _ in rt.forever() {
+        let may_come = lines.take(&rt, &mut memory);
+        write_bytes(&rt, &mut errors, memory.as_slice());
+        lines.note_written(&rt);
+        if !may_come {
+            return;
+        }
+    }
+}
+
+// Writes these bytes, by as many writes as it takes. At an error the rest is let go, since there is no other place for it.
+fn write_bytes<R: Wait + Clock, E: Write>(rt: &R, errors: &mut E, bytes: &[u8]) {
+    let mut rest = bytes;
+    for _ in rt.forever() {
+        if rest.is_empty() {
+            return;
+        }
+        match errors.write(rest) {
+            Ok(count) if count > 0 => rest = &rest[count..],
+            Err(error) if error.kind() == ErrorKind::Interrupted => {}
+            Err(error) if error.kind() == ErrorKind::WouldBlock => {
+                rt.sleep(Duration::from_millis(PAUSE_MILLIS));
+            }
+            _ => return,
+        }
+    }
+}

@@ -1,0 +1,56 @@
+-- By how many bytes an entry counts where a run's memory has a bound.
+use Rattle.std.specs.Prelude.{ℕ, ◌+◌, length}
+use Rattle.nfs_forms.specs.declared.answer.Answer.TheVariants as answers
+use Rattle.nfs_forms.specs.declared.claim.Claim.{Claim}
+use Rattle.nfs_forms.specs.declared.claim.Claim.TheVariants as claims
+use Rattle.nfs_forms.specs.declared.locker.Locker.{Locker}
+use Rattle.nfs_forms.specs.declared.locker.Locker.TheVariants as lockers
+use Rattle.nfs_state.specs.declared.entry.Entry.{Entry}
+use Rattle.nfs_state.specs.declared.entry.Entry.TheVariants as entries
+use Rattle.nfs_state.specs.declared.memory_count.TheConstants.{ENTRY_LEN}
+use Rattle.nfs_xdr.specs.declared.op.Op.{Op}
+use Rattle.nfs_xdr.specs.declared.op.Op.TheVariants as ops
+use Rattle.nfs_xdr.specs.declared.op_result.OpResult.{OpResult}
+use Rattle.nfs_xdr.specs.declared.op_result.OpResult.TheVariants as results
+
+-- the name of the file that is to be opened
+abbrev pub claim_len : Claim → ℕ
+claim_len (claims.Null name) = length name
+claim_len (claims.Previous delegation) = 0
+claim_len (claims.DelegateCur stateid name) = length name
+claim_len (claims.DelegatePrev name) = length name
+
+-- the name of an owner that locks for the first time
+abbrev pub locker_len : Locker → ℕ
+locker_len (lockers.New locker) = length locker.lock_owner.name
+locker_len (lockers.Known locker) = 0
+
+-- the names, owners, ids and addresses of an operation, and what it writes
+abbrev pub op_len : Op → ℕ
+op_len (ops.Lock args) = locker_len args.locker
+op_len (ops.Lockt args) = length args.owner.name
+op_len (ops.Open args) = length args.owner.name + claim_len args.claim
+op_len (ops.Setclientid args) =
+    length args.id + length args.callback.address.netid + length args.callback.address.addr
+op_len (ops.Write args) = length args.bytes
+op_len (ops.ReleaseLockowner args) = length args.owner.name
+op_len op = 0
+
+-- what a READ gives
+abbrev pub result_len : OpResult → ℕ
+result_len (results.Read (answers.Done given)) = length given.bytes
+result_len result = 0
+
+-- all that an entry counts
+abbrev pub entry_len : Entry → ℕ
+entry_len (entries.Call call) = ENTRY_LEN + op_len call.request.op + result_len call.answer
+entry_len (entries.Expire expire) = ENTRY_LEN
+entry_len (entries.Revoke revoke) = ENTRY_LEN
+entry_len (entries.Path path) = ENTRY_LEN
+
+-- the entry is no call
+abbrev pub IsNoCall : Entry → Type 0
+IsNoCall (entries.Call call) = ⊥
+IsNoCall (entries.Expire expire) = Unit {0}
+IsNoCall (entries.Revoke revoke) = Unit {0}
+IsNoCall (entries.Path path) = Unit {0}

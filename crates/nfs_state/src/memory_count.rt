@@ -1,0 +1,127 @@
+ghost use Rattle.std.specs.Prelude.{◌≡◌, ◌-◌, ◌^◌, IsTrue, min};
+ghost use Rattle.nfs_state.specs.MemoryCount.{IsNoCall, claim_len, entry_len, locker_len, op_len, result_len};
+
+use crate::Entry;
+use nfs_forms::{Answer, Claim, Locker};
+use nfs_xdr::{Op, OpResult};
+
+/// How many bytes an entry counts beside those that its operation and its answer have of their own.
+pub const ENTRY_LEN: u64 = 320;
+
+/// How much memory the entries of a journal are counted to take, and how much they may.
+#[derive(Drop)]
+pub(crate) struct MemoryCount {
+    len: u64,
+    limit: u64,
+    is_full: bool,
+}
+
+impl MemoryCount {
+    /// Nothing, and no bound.
+    pub(crate) fn new() -> MemoryCount {
+        MemoryCount {
+            len: 0,
+            limit: u64::MAX,
+            is_full: false,
+        }
+    }
+
+    /// Sets the bound.
+    pub(crate) fn set_limit(&mut self, limit: u64) {
+        self.limit = limit;
+    }
+
+    /// How many bytes are counted.
+    pub(crate) fn len(&self) -> u64 {
+        self.len
+    }
+
+    /// Whether a call found no room.
+    pub(crate) fn is_full(&self) -> bool {
+        self.is_full
+    }
+
+    /// Whether the entry finds room below the bound: each that is no call does.
+    pub(crate) fn has_room(&mut self, entry: &Entry) -> bool
+        ensures { IsNoCall entry.now → IsTrue result }
+    {
+        match entry {
+            Entry::Call(_) if self.len.saturating_add(entry_len(entry)) > self.limit => {
+                self.is_full = true;
+                false
+            }
+            _ => true,
+        }
+    }
+
+    /// Counts the entry.
+    pub(crate) fn add(&mut self, entry: &Entry) {
+        self.len = self.len.saturating_add(entry_len(entry));
+    }
+}
+
+// How many bytes the entry counts.
+fn entry_len(entry: &Entry) -> u64
+    ensures { result ≡ min (entry_len entry.now) (2 ^ 64 - 1) }
+{
+    match entry {
+        Entry::Call(call) => ENTRY_LEN
+            .saturating_add(op_len(&call.request.op))
+            .saturating_add(result_len(&call.answer)),
+        Entry::Expire(_) | Entry::Revoke(_) | Entry::Path(_) => ENTRY_LEN,
+    }
+}
+
+// The names, owners, ids and addresses of an operation, and what it writes.
+fn op_len(op: &Op) -> u64
+    ensures { result ≡ min (op_len op.now) (2 ^ 64 - 1) }
+{
+    match op {
+        Op::Lock(args) => locker_len(&args.locker),
+        Op::Lockt(args) => args.owner.name.as_slice().len() as u64,
+        Op::Open(args) => {
+            let owner = args.owner.name.as_slice().len() as u64;
+            owner.saturating_add(claim_len(&args.claim))
+        }
+        Op::Setclientid(args) => {
+            let (id, address) = (args.id.as_slice().len() as u64, &args.callback.address);
+            id.saturating_add(address.netid.as_slice().len() as u64)
+                .saturating_add(address.addr.as_slice().len() as u64)
+        }
+        Op::Write(args) => args.bytes.as_slice().len() as u64,
+        Op::ReleaseLockowner(args) => args.owner.name.as_slice().len() as u64,
+        _ => 0,
+    }
+}
+
+// The name of an owner that locks for the first time.
+fn locker_len(locker: &Locker) -> u64
+    ensures { result ≡ locker_len locker.now }
+{
+    match locker {
+        Locker::New(locker) => locker.lock_owner.name.as_slice().len() as u64,
+        Locker::Known(_) => 0,
+    }
+}
+
+// The name of the file that is to be opened.
+fn claim_len(claim: &Claim) -> u64
+    ensures { result ≡ claim_len claim.now }
+{
+    match claim {
+        Claim::Null(name) | Claim::DelegateCur { name, .. } | Claim::DelegatePrev(name) => {
+            name.as_slice().len() as u64
+        }
+        Claim::Previous(_) => 0,
+    }
+}
+
+// What a READ gives.
+fn result_len(answer: &OpResult) -> u64
+    ensures { result ≡ result_len answer.now }
+{
+    match answer {
+        OpResult::Read(Answer::Done(given)) => given.bytes.as_slice().len() as u64,
+        _ => 0,
+    }
+}
