@@ -120,6 +120,12 @@ class Served:
             return int(re.search(rf"{what}:\s*([0-9]+) kB", source.read())[1])
 
 
+    def addresses(self):
+        """Of a server that runs: how many bytes of addresses it has now."""
+        with open(f"/proc/{self.program.pid}/statm", encoding="utf-8") as source:
+            return int(source.read().split()[0]) * os.sysconf("SC_PAGE_SIZE")
+
+
 class Peer:
     """A connection to a server on TCP. A connection that the server resets is one that it ends."""
 
