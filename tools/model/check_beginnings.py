@@ -202,7 +202,8 @@ def try_explained(room):
 def try_again(room):
     """The entries that have kept answers, alone, also of a beginning; and none."""
     journal = kept_answers().server.journal()
-    opener, locker = (f"by {owner} of client 1 is the request of entry" for owner in ('open owner "A"', 'lock owner "x"'))
+    owners = 'open owner "A"', 'lock owner "x"'
+    opener, locker = (f"by {owner} of client 1 is the request of entry" for owner in owners)
     lines = [f"3: OPEN {opener} 2 again", f"5: OPEN_CONFIRM {opener} 4 again", f"8: OPEN_DOWNGRADE {opener} 7 again",
              f"9: OPEN_DOWNGRADE {opener} 7 again", f"11: LOCK {opener} 10 again", f"13: LOCK {locker} 12 again",
              f"15: LOCKU {locker} 14 again", f"17: OPEN {opener} 16 again", f"19: CLOSE {opener} 18 again"]
