@@ -1,6 +1,6 @@
-"""Whether refusals are explained, for check_journals.py: each of the stories has the reasons that are wanted; and of
-any journal each refusal has a reason of the status that was answered, under a heading that docs/RULES.md has, and no
-other call has one."""
+"""Whether refusals are explained, for check_journals.py: each of the stories has the reasons that are wanted, and the
+kept answers; and of any journal each refusal has a reason of the status that was answered, under a heading that
+docs/RULES.md has, no other call has one but for a kept answer, and that is the answer to the same request."""
 import os
 from collections import Counter
 
@@ -63,7 +63,7 @@ def check_stories():
         wrong += differences(story.name, "does", events, story.events)
         again = {told.number: again_words(told.entry, told.reason.again)
                  for told in reasons(journal) if told.reason and told.reason.again}
-        wrong += differences(story.name, "has the kept answer of", again, story.again)
+        wrong += differences(story.name, "is listed as", again, story.again)
     return wrong
 
 
