@@ -12,6 +12,7 @@ import time
 from entries import Expire, NotJournal, entry_bytes
 from journal import Growing, Recorder, head_bytes, journal_bytes
 from journal_cases import sample, small, with_words
+from reason_cases import kept_answers
 from tree import Tree
 from wire import Opnum, Read, Stateid, Write, u32
 from words import line_of
@@ -198,6 +199,20 @@ def try_explained(room):
         room.expect(tool, words, shown_lines, 1, "fault: wrong answer at entry 5\n")
 
 
+def try_again(room):
+    """The entries that have kept answers, alone, also of a beginning; and none."""
+    journal = kept_answers().server.journal()
+    owners = 'open owner "A"', 'lock owner "x"'
+    opener, locker = (f"by {owner} of client 1 is the request of entry" for owner in owners)
+    lines = [f"3: OPEN {opener} 2 again", f"5: OPEN_CONFIRM {opener} 4 again", f"8: OPEN_DOWNGRADE {opener} 7 again",
+             f"9: OPEN_DOWNGRADE {opener} 7 again", f"11: LOCK {opener} 10 again", f"13: LOCK {locker} 12 again",
+             f"15: LOCKU {locker} 14 again", f"17: OPEN {opener} 16 again", f"19: CLOSE {opener} 18 again"]
+    room.expect("explain", ["--again", room.put("again", journal_bytes(journal))], lines)
+    room.expect("explain", ["--again", room.put("again.part", beginning_of(journal)[:places_of(journal)[9]])],
+                lines[:3] + ["the file ends behind entry 8"])
+    room.expect("explain", ["--again", room.put("none again", journal_bytes(sample()))], [])
+
+
 def following(path):
     """A run of show_journal that follows the file, and writes by its own flushes alone."""
     words = [sys.executable, os.path.join(TOOLS, "show_journal"), "--follow", path]
@@ -272,6 +287,6 @@ def check_beginnings():
     wrong = check_cuts("three entries", small(), 1) + check_cuts("all operations", sample(), 11) + check_faults()
     with tempfile.TemporaryDirectory() as folder:
         room = Room(folder)
-        for attempt in (try_shown, try_data, try_explained, try_follow):
+        for attempt in (try_shown, try_data, try_explained, try_again, try_follow):
             attempt(room)
         return wrong + room.wrong

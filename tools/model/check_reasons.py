@@ -1,12 +1,12 @@
-"""Whether refusals are explained, for check_journals.py: each of the stories has the reasons that are wanted; and of
-any journal each refusal has a reason of the status that was answered, under a heading that docs/RULES.md has, and no
-other call has one."""
+"""Whether refusals are explained, for check_journals.py: each of the stories has the reasons that are wanted, and the
+kept answers; and of any journal each refusal has a reason of the status that was answered, under a heading that
+docs/RULES.md has, no other call has one but for a kept answer, and that is the answer to the same request."""
 import os
 from collections import Counter
 
 from entries import Call
 from reason_cases import stories
-from reasons import is_refusal, reasons
+from reasons import again_words, is_refusal, reasons
 from wire import Status
 
 RULES = os.path.join(os.path.dirname(os.path.abspath(__file__)), "../../docs/RULES.md")
@@ -21,7 +21,7 @@ class Explained:
     """Counts the refusals of journals by the headings of their reasons."""
 
     def __init__(self):
-        self.headings, self.counts = headings(), Counter()
+        self.headings, self.counts, self.kept = headings(), Counter(), 0
 
     def wrong_with(self, journal):
         """What is wrong with the reasons for a journal's answers."""
@@ -35,9 +35,20 @@ class Explained:
                 self.counts[reason.heading] += 1
                 if reason.heading not in self.headings:
                     yield f"entry {number} is explained by a heading that the rules don't have: {reason.heading}"
+            if reason and reason.again:
+                self.kept += 1
+                first = journal.entries[reason.again.entry]
+                if not isinstance(first, Call) or same_in_both(first) != same_in_both(entry):
+                    yield f"entry {number} hasn't the request and the answer of entry {reason.again.entry}"
 
     def __str__(self):
-        return f"{sum(self.counts.values())} refusals explained, under {len(self.counts)} headings of the rules"
+        refusals = f"{sum(self.counts.values())} refusals explained, under {len(self.counts)} headings of the rules"
+        return f"{refusals}; {self.kept} kept answers"
+
+
+def same_in_both(call):
+    """What a call has in common with the one whose kept answer it gets: who sent it, and when, may differ."""
+    return call.opnum, call.arguments, call.filehandle, call.answer
 
 
 def check_stories():
@@ -50,6 +61,9 @@ def check_stories():
         wrong += differences(story.name, "is explained by", found, story.wanted)
         events = {told.number: told.events for told in reasons(journal) if told.events}
         wrong += differences(story.name, "does", events, story.events)
+        again = {told.number: again_words(told.entry, told.reason.again)
+                 for told in reasons(journal) if told.reason and told.reason.again}
+        wrong += differences(story.name, "is listed as", again, story.again)
     return wrong
 
 

@@ -14,6 +14,7 @@ OWNERS, STATEIDS, CLIENT_IDS, RANGES, DELEGATIONS = (
     "Owners and sequenced operations", "Stateids", "Client ids", "Byte-range locks", "Delegations")
 OPEN_A = 'open of file "/a" by open owner "A" of client 1'
 LOCK_X = 'lock state of file "/a" by lock owner "x" of client 1'
+OPEN_BY_A = 'OPEN by open owner "A" of client 1'
 
 
 class Story:
@@ -23,6 +24,8 @@ class Story:
         self.name, self.server, self.wanted = name, Recorder(Tree(document)), {}
         # By the numbers of entries: the texts of what they do about delegations.
         self.events = {}
+        # By the numbers of entries that have a kept answer: the texts that say whose it is.
+        self.again = {}
 
     def tell(self, *texts):
         """What the next entry is to do about delegations."""
@@ -32,6 +35,13 @@ class Story:
         if because is not None:
             self.wanted[self.server.entries] = because
         self.server.apply(opnum, arguments, filehandle, principal)
+
+    def repeat(self, number, whose=None, because=None):
+        """The call of this entry once more; where it is said whose, it has to have the answer that was kept of it."""
+        if whose is not None:
+            self.again[self.server.entries] = f"{whose} is the request of entry {number} again"
+        call = self.server.recorded[number]
+        self.call(call.opnum, call.arguments, because, call.filehandle, call.principal)
 
     def introduce(self, name=b"c1", verifier=1, because=None, principal=NOBODY):
         arguments = Setclientid(verifier.to_bytes(8, "big"), name, CALLBACK)
@@ -182,7 +192,7 @@ def sequence_ids():
     story.open(3, ('directory "/" has no "e"', "OPEN"), name=b"e")
     again = ('it is the request of entry 8 (OPEN) again, and gets the same answer; what stood in its way then: '
              'directory "/" has no "e"')
-    story.open(3, (again, OWNERS), name=b"e")
+    story.repeat(8, OPEN_BY_A, (again, OWNERS))
     story.lock_first(4, state(1, 2), 7)
     due = '8 is the next sequence id of lock owner "x" of client 1, after entry 10 (LOCK), and '
     story.unlock(7, state(2), (due + "7 came: that of the entry itself, with another operation", OWNERS))
@@ -193,6 +203,68 @@ def sequence_ids():
     story.lock_first(6, state(3), 5, (due + "the lock_seqid is 5", "LOCK"), filehandle=OTHER_FILE)
     other = "the lock owner has the clientid 1 2, and the open is one of client 1"
     story.lock_first(6, state(3), 5, (other, "LOCK"), LockOwner(1, 2, b"x"), filehandle=OTHER_FILE)
+    return story
+
+
+def kept_answers():
+    """A request of each operation that an owner has, which comes again; also a refusal, and one that comes twice."""
+    story = Story("kept answers")
+    story.introduce()
+    story.confirm_client(1, 1)
+    # Entries 2 to 5: state 1 is the open of `a` by A.
+    story.open(1)
+    story.repeat(2, OPEN_BY_A)
+    story.confirm(2, state(1))
+    story.repeat(4, 'OPEN_CONFIRM by open owner "A" of client 1')
+    # Entries 6 to 9.
+    story.open(3, access=1)
+    story.call(Opnum.OPEN_DOWNGRADE, OpenDowngrade(state(1, 3), 4, 3, 0))
+    story.repeat(7, 'OPEN_DOWNGRADE by open owner "A" of client 1')
+    story.repeat(7, 'OPEN_DOWNGRADE by open owner "A" of client 1')
+    # Entries 10 to 15: the LOCK of a new lock owner is a request of the open owner.
+    story.lock_first(5, state(1, 4), 1)
+    story.repeat(10, 'LOCK by open owner "A" of client 1')
+    story.lock_next(2, state(2))
+    story.repeat(12, 'LOCK by lock owner "x" of client 1')
+    story.unlock(3, state(2, 2))
+    story.repeat(14, 'LOCKU by lock owner "x" of client 1')
+    # Entries 16 to 19: a refusal is kept as well, and a CLOSE though the open is gone.
+    story.open(6, ('directory "/" has no "e"', "OPEN"), name=b"e")
+    again = ('it is the request of entry 16 (OPEN) again, and gets the same answer; what stood in its way then: '
+             'directory "/" has no "e"')
+    story.repeat(16, OPEN_BY_A, (again, OWNERS))
+    story.close(7, state(1, 4))
+    story.repeat(18, 'CLOSE by open owner "A" of client 1')
+    return story
+
+
+def no_kept_answers():
+    """Calls that come again, and mostly get the same answer, but no kept one, except the last."""
+    story = begun("no kept answers")
+    # Of no owner, and of one that has gone on since: entries 4 to 8.
+    story.repeat(1)
+    story.read(state(1, 2))
+    story.repeat(5)
+    story.open(3, access=1)
+    due = '4 is the next sequence id of open owner "A" of client 1, after entry 7 (OPEN), and 2 came'
+    story.repeat(3, None, (due, OWNERS))
+    # A refusal that doesn't count: 9 and 10.
+    story.repeat(8, None, (due, OWNERS))
+    story.repeat(8, None, (due, OWNERS))
+    # A refusal behind which the owner is still unknown: 11 and 12.
+    missing = ('directory "/" has no "e"', "OPEN")
+    story.open(1, missing, owner=b"C", name=b"e")
+    story.repeat(11, None, missing)
+    # A lock state that has ended: 13 to 16.
+    story.lock_first(4, state(1, 3), 1)
+    story.unlock(2, state(2))
+    story.call(Opnum.RELEASE_LOCKOWNER, ReleaseLockowner(LockOwner(1, 1, b"x")), None, None)
+    story.repeat(14, None, (f"state 2, a {LOCK_X}, was ended by entry 15 (RELEASE_LOCKOWNER)", OWNERS))
+    # An owner that starts anew by the OPEN with which it began, and then the same: 17 to 20.
+    story.open(1, owner=b"B", access=1)
+    story.open(9, owner=b"B", access=1, name=b"b")
+    story.repeat(17)
+    story.repeat(19, 'OPEN by open owner "B" of client 1')
     return story
 
 
@@ -468,7 +540,7 @@ def ends_of_delegations():
     story.open(4)
     # The same OPEN again gives nothing.
     story.tell(f"client 1 is told again of state 3, {A_DELEGATION}, which entry 9 gave it")
-    story.open(4)
+    story.repeat(9, OPEN_BY_A)
     bars = f"state 3, {A_DELEGATION} to client 1 since entry 9 (OPEN), keeps out any open of another client, and "
     story.server.moment = 10
     story.open(1, (bars + "is called back now", DELEGATIONS), b"B", 1, client=2)
@@ -507,6 +579,6 @@ def clients_with_delegations():
 
 
 def stories():
-    return [stateids(), ends(), clients(), sequence_ids(), opens(), shares(), many_shares(), locks(),
-            bytes_of_files(), bytes_of_lent_files(), delays(),
-            many_delays(), delegation_stateids(), ends_of_delegations(), clients_with_delegations()]
+    return [stateids(), ends(), clients(), sequence_ids(), kept_answers(), no_kept_answers(), opens(), shares(),
+            many_shares(), locks(), bytes_of_files(), bytes_of_lent_files(), delays(), many_delays(),
+            delegation_stateids(), ends_of_delegations(), clients_with_delegations()]

@@ -20,8 +20,10 @@ from wire import (BOTH, CLAIM_DELEGATE_CUR, CLAIM_DELEGATE_PREV, CLAIM_PREVIOUS,
                   OPEN4_CREATE, OPEN_DELEGATE_WRITE, OpenOwner, Opnum, READ, Status, WRITE)
 from words import opaque_words, place_words, principal_words, purpose_of
 
-# What is answered, what stood in the way, and the heading of the rules.
-Reason = namedtuple("Reason", "status text heading")
+# What is answered, what stood in the way, and the heading of the rules; and where a kept answer is given, which.
+Reason = namedtuple("Reason", "status text heading again", defaults=[None])
+# A kept answer that is given again: the owner that it is kept for, and its entry.
+Again = namedtuple("Again", "owner entry")
 
 OWNERS, STATEIDS, CLIENT_IDS, SHARE, RANGES, DELEGATIONS = (
     "Owners and sequenced operations", "Stateids", "Client ids", "Share reservations", "Byte-range locks",
@@ -33,8 +35,8 @@ KINDS = {OpenState: "an open", LockState: "a lock state", Delegation: "a delegat
 NAMED = 3
 
 
-# An entry with its number; if it is a call the reason of its answer, or None; and texts of what it does about
-# delegations.
+# An entry with its number; if it is a call the reason of its answer, or None, where that is OK and no kept answer; and
+# texts of what it does about delegations.
 Told = namedtuple("Told", "number entry reason events")
 
 
@@ -59,6 +61,11 @@ def name_words(name):
 def owner_words(owner):
     kind = "open" if isinstance(owner, OpenOwner) else "lock"
     return f"{kind} owner {name_words(owner.name)} of client {owner.client}"
+
+
+def again_words(call, again):
+    """A call that has a kept answer: its owner, and the entry whose answer that is."""
+    return f"{call.opnum.name} by {owner_words(again.owner)} is the request of entry {again.entry} again"
 
 
 def run_words(run, place):
@@ -277,7 +284,7 @@ class Causes:
             before = self.given.get(kept.entry)
             text = f"it is the request of {self.entry_words(kept.entry)} again, and gets the same answer" + (
                 f"; what stood in its way then: {before.text}" if before else "")
-            yield Reason(kept.answer.status, text, OWNERS)
+            yield Reason(kept.answer.status, text, OWNERS, Again(owner.name, kept.entry))
         begins = request.opnum == Opnum.OPEN and not owner.is_confirmed
         if begins or came == next_sequence_id(kept.seqid):
             return
