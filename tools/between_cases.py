@@ -15,12 +15,15 @@ from words import STATUS_NAMES
 CONNECTION, ORDER, KEPT = "(RFC 7530, section 3.1.1)", "(RFC 7530, section 9.1.7)", "(RFC 7530, section 9.1.8)"
 # The faults behind which the client has to send the call again.
 LOSSES = ("lose-call", "cut-call", "lose-reply", "cut-reply", "away")
+# How many calls are known that may come again, and are no case.
+MISSED_LIMIT = 1024
 
 
 @dataclass(eq=False)
 class Case:
-    """A fault that a call meets. It has a number once it is done. `owner` is whose request the call has, where what
-    comes next of that owner is looked at; `is_moving` is whether an answer in the server's place moves its id on."""
+    """A fault that a call meets. It has a number once it is done. `owner` is whose request the call has, or None where
+    it has none, or several; `is_moving` is whether an answer in the server's place moves its id on, or None where that
+    isn't known."""
     rule: Rule
     call: Call
     place: str
@@ -29,7 +32,7 @@ class Case:
     # The first answer that the server gave, as far as it is known, and the one in its place.
     reply: Reply = None
     status: int = None
-    is_moving: bool = False
+    is_moving: bool = None
     has_come: bool = False
     begun: float = field(default_factory=time.monotonic)
 
@@ -99,16 +102,14 @@ class Tale:
         case.status = STATUSES[case.rule.value]
         self.tell_done(case, "answered in the server's place", name_of(STATUS_NAMES, case.status))
         self.missed.append(Missed(call, link, case))
-        is_known = self.owners.is_known(case.owner)
         at = call.operations.index(call.request) if call.is_judged else None
         if at is not None and at < index:
             # It was run, and the server knows of its id.
-            case.reply, case.owner = before, None
-        elif not is_known:
-            case.owner = None
-        elif at == index and case.rule.value != "RESOURCE":
-            case.is_moving = True
-            self.owners.move_on(case.owner, call.request, case.status, case)
+            case.reply = before
+        elif self.owners.is_known(case.owner):
+            case.is_moving = at == index and case.rule.value != "RESOURCE"
+            if case.is_moving:
+                self.owners.move_on(case.owner, call.request, case.status, case)
 
     def tell_kept(self, case, status, is_same):
         """A request with the id of an answer in the server's place is answered so, too."""
@@ -125,6 +126,13 @@ class Tale:
             self.say(f"{case.head} -> {reply.words()}: given as it is; the fault waits")
 
     # What comes of them.
+
+    def miss(self, call, link, case):
+        """A connection ends before the caller has the reply to this call. Of those that are no case the last are known."""
+        self.missed.append(Missed(call, link, case))
+        others = [missed for missed in self.missed if missed.case is None]
+        if len(others) > MISSED_LIMIT:
+            self.missed.remove(others[0])
 
     def arrived(self, call, link):
         """Looks for what a call is the outcome of: what it is again, or None."""
@@ -160,7 +168,7 @@ class Tale:
             self.say_wrong(case, f"in its place comes {call.request.words()}, {where} {ORDER}")
             return
         moved = (call.request.seqid - case.call.request.seqid) % 2**32
-        if moved == case.is_moving:
+        if case.is_moving is None or moved == case.is_moving:
             status = name_of(STATUS_NAMES, case.status)
             self.say_of(case, f"behind {status} its owner goes on with {call.request.words()}, {where}")
         else:

@@ -9,7 +9,7 @@ from dataclasses import dataclass
 import messages  # It makes the model's modules known.
 
 from between_calls import Call, Reply, first_answer, next_answer
-from between_cases import Case, Missed, Tale
+from between_cases import Case, Tale
 from between_owners import Kept
 from callback_listener import universal_address
 from serving import TICK, address_text
@@ -199,7 +199,7 @@ class Link:
             for exchange in self.asked:
                 if exchange.case is not None and exchange.case.number is None:
                     self.tale.put_off(exchange.case)
-                self.tale.missed.append(Missed(exchange.call, self, exchange.told_case))
+                self.tale.miss(exchange.call, self, exchange.told_case)
 
     def shut(self):
         shut(self.near, socket.SHUT_RDWR)
@@ -219,7 +219,8 @@ class Link:
         with self.between.lock:
             if self.is_over:
                 return
-            self.asked.remove(exchange)
+            if exchange in self.asked:
+                self.asked.remove(exchange)
         self.send(self.near, *parts)
 
     # Calls.
@@ -298,6 +299,8 @@ class Link:
             status = kept.status if is_same else Status.BAD_SEQID
             self.tale.tell_kept(kept.case, status, is_same)
         else:
+            # It is known already as one that may come again.
+            self.asked.remove(exchange)
             self.tale.tell_answer(case, self, before)
             status = case.status
         record = first_answer(call, status) if before is None else next_answer(before, operation, status)
