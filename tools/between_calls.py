@@ -12,6 +12,8 @@ from words import STATUS_NAMES, words_read
 
 NAMES = {number: name for name, number in OPERATIONS.items()}
 CALLBACK_NAMES = {number: name for name, number in wire.CALLBACK_OPERATIONS.items()}
+# The word for a reply without a status, such as that to NULL.
+ANSWERED = "answered"
 # Operations that only say of which file others are.
 ON_HANDLES = ("PUTFH", "PUTROOTFH", "PUTPUBFH", "SAVEFH", "RESTOREFH", "GETFH")
 # Where the sequence id of the lock owner stands in a LOCK that brings one, behind its number.
@@ -219,7 +221,7 @@ class Reply:
 
     def words(self):
         if self.status is None:
-            return self.refusal or "answered"
+            return self.refusal or ANSWERED
         return name_of(STATUS_NAMES, self.status)
 
     def result_of(self, call):

@@ -5,7 +5,7 @@ from dataclasses import dataclass, field
 
 import messages  # It makes the model's modules known.
 
-from between_calls import Call, Reply, name_of
+from between_calls import ANSWERED, Call, Reply, name_of
 from between_owners import Owners
 from between_plan import STATUSES, Rule
 from serving import say
@@ -120,7 +120,7 @@ class Tale:
         """An operation before one that was to be answered in the server's place isn't OK: one of a kept answer, or of a
         case."""
         if kept is not None:
-            self.say_of(kept, f"answered {reply.words()}, without its {kept.call.request.name}")
+            self.say_of(kept, f"{answered_words(reply)}, without its {kept.call.request.name}")
         else:
             self.put_off(case)
             self.say(f"{case.head} -> {reply.words()}: given as it is; the fault waits")
@@ -192,23 +192,23 @@ class Tale:
 
     def compare(self, case, call, reply):
         """Tells whether the answer to a call that came again is that of the first time."""
-        first, status = case.reply, reply.words()
+        first, answered = case.reply, answered_words(reply)
         if first is None:
-            self.say_of(case, f"answered {status}, the first answer")
+            self.say_of(case, f"{answered}, the first answer")
         elif not call.is_judged:
             is_same = first.record[4:] == reply.record[4:]
-            self.say_of(case, f"answered {status}, {'the same' if is_same else 'another'} answer")
+            self.say_of(case, f"{answered}, {'the same' if is_same else 'another'} answer")
         else:
             self.compare_results(case, call, reply)
 
     def compare_results(self, case, call, reply):
-        status, first, now = reply.words(), case.reply.result_of(call), reply.result_of(call)
+        answered, first, now = answered_words(reply), case.reply.result_of(call), reply.result_of(call)
         if first is None or now is None:
-            self.say_of(case, f"answered {status}, without its {call.request.name}")
+            self.say_of(case, f"{answered}, without its {call.request.name}")
         elif first == now:
-            self.say_of(case, f"answered {status}, the kept answer")
+            self.say_of(case, f"{answered}, the kept answer")
         else:
-            self.say_wrong(case, f"answered {status}, another answer than {case.reply.words()} {KEPT}")
+            self.say_wrong(case, f"{answered}, another answer than {case.reply.words()} {KEPT}")
 
     # The end.
 
@@ -234,3 +234,7 @@ class Tale:
 
 def since(case):
     return f"{time.monotonic() - case.begun:.2f} s later"
+
+
+def answered_words(reply):
+    return "answered" if reply.words() == ANSWERED else f"answered {reply.words()}"

@@ -174,9 +174,9 @@ class Link:
             self.readers -= 1
             if self.readers:
                 return
-            self.between.live.discard(self)
         for stream in (self.near, self.far):
             stream.close()
+        self.between.give_place(self)
 
     def send(self, stream, *parts):
         """Sends parts, with some time between them."""
@@ -391,6 +391,8 @@ class Between:
     def __init__(self, rules):
         self.tale, self.lock, self.live, self.away_until = Tale(rules), threading.RLock(), set(), 0
         self.addresses, self.is_called = {}, any(rule.is_of_callbacks for rule in rules)
+        # How many connections there are, with those that begin; and how many links there were, by whether of callbacks.
+        self.there = 0
         self.numbers = {False: 0, True: 0}
 
     def say(self, line):
@@ -415,16 +417,27 @@ class Between:
         start(take_all)
 
     def attend(self, near, target, is_callback):
-        with self.lock:
-            is_away = time.monotonic() < self.away_until
-            is_full = len(self.live) >= CONNECTIONS_LIMIT
-        far = None
-        if is_full:
-            self.say(f"a connection is closed, as there are {CONNECTIONS_LIMIT}")
-        elif not is_away:
-            far = self.connect(target)
+        """Begins a link for a connection that was taken, unless the plan or the number of links forbids it."""
+        far = self.connect(target) if self.take_place() else None
         if far is None or not self.join(near, far, is_callback):
             near.close()
+
+    def take_place(self):
+        """Whether there may be one more connection, which has its place then."""
+        with self.lock:
+            if time.monotonic() < self.away_until:
+                return False
+            if self.there >= CONNECTIONS_LIMIT:
+                self.tale.say(f"a connection is closed, as there are {CONNECTIONS_LIMIT}")
+                return False
+            self.there += 1
+            return True
+
+    def give_place(self, link=None):
+        """A connection has ended, or didn't begin."""
+        with self.lock:
+            self.live.discard(link)
+            self.there -= 1
 
     def connect(self, target):
         """A connection to the target, or None."""
@@ -432,17 +445,19 @@ class Between:
             far = socket.create_connection(target, timeout=PATIENCE)
         except OSError:
             self.say(f"a connection is closed, as {address_text(target)} isn't reached")
+            self.give_place()
             return None
         far.settimeout(None)
         return far
 
     def join(self, near, far, is_callback):
-        """Begins a link of the two, unless the plan or the number of links forbids it by now."""
+        """Begins a link of the two, unless the plan forbids it by now."""
         for stream in (near, far):
             stream.setsockopt(socket.IPPROTO_TCP, socket.TCP_NODELAY, 1)
         with self.lock:
-            if time.monotonic() < self.away_until or len(self.live) >= CONNECTIONS_LIMIT:
+            if time.monotonic() < self.away_until:
                 far.close()
+                self.give_place()
                 return False
             self.numbers[is_callback] += 1
             self.tale.connections += 1
