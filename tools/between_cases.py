@@ -128,7 +128,7 @@ class Tale:
     # What comes of them.
 
     def miss(self, call, link, case):
-        """A connection ends before the caller has the reply to this call. Of those that are no case the last are known."""
+        """A connection ends before the caller has the reply to this call. Of those that are no case the last are kept."""
         self.missed.append(Missed(call, link, case))
         others = [missed for missed in self.missed if missed.case is None]
         if len(others) > MISSED_LIMIT:
