@@ -151,7 +151,7 @@ class Call:
 
     def is_again(self, other):
         """Whether the other one, which comes later, is this one, but maybe for the xid."""
-        if self.record[4:] == other.record[4:]:
+        if is_same_but_for_xid(self, other):
             return True
         return self.is_judged and other.is_judged and self.request.data == other.request.data
 
@@ -185,6 +185,11 @@ def seqid_change(operation, place, ahead):
     """The change by which the sequence id at this place is one that is so much lower."""
     seqid = int.from_bytes(operation.data[place:place + 4], "big")
     return operation.begin + place, operation.begin + place + 4, u32((seqid - ahead) % 2**32)
+
+
+def is_same_but_for_xid(one, other):
+    """Whether two calls or replies have the same bytes behind the xid. They may be long, and are mostly others."""
+    return len(one.record) == len(other.record) and one.record[4:] == other.record[4:]
 
 
 class Reply:

@@ -5,7 +5,7 @@ from dataclasses import dataclass, field
 
 import messages  # It makes the model's modules known.
 
-from between_calls import ANSWERED, Call, Reply, name_of
+from between_calls import ANSWERED, Call, Reply, is_same_but_for_xid, name_of
 from between_owners import Owners
 from between_plan import STATUSES, Rule
 from serving import say
@@ -128,7 +128,7 @@ class Tale:
     # What comes of them.
 
     def miss(self, call, link, case):
-        """A connection ends before the caller has the reply to this call. Of those that are no case the last are kept."""
+        """A connection ends before the caller has the reply to this call. Those that are no case are forgotten in time."""
         self.missed.append(Missed(call, link, case))
         others = [missed for missed in self.missed if missed.case is None]
         if len(others) > MISSED_LIMIT:
@@ -196,8 +196,8 @@ class Tale:
         if first is None:
             self.say_of(case, f"{answered}, the first answer")
         elif not call.is_judged:
-            is_same = first.record[4:] == reply.record[4:]
-            self.say_of(case, f"{answered}, {'the same' if is_same else 'another'} answer")
+            which = "the same" if is_same_but_for_xid(first, reply) else "another"
+            self.say_of(case, f"{answered}, {which} answer")
         else:
             self.compare_results(case, call, reply)
 

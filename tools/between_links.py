@@ -329,7 +329,7 @@ class Link:
 
     def take_before(self, exchange, record, reply):
         """The operations before one that is answered in the server's place were run."""
-        if reply.status == Status.OK:
+        if reply.status == Status.OK and len(reply.results) == exchange.index:
             return self.answer(exchange, reply)
         self.tale.tell_before(exchange.kept and exchange.kept.case, exchange.case, reply)
         return lambda: self.deliver(exchange, framed(*record))

@@ -354,7 +354,7 @@ Opened = namedtuple("Opened", "stateid change flags mask delegation")
 # A delegation: its type, stateid, and whether it is called back at once; how much a client may write under it, or None;
 # and who may open the file without asking.
 Delegation = namedtuple("Delegation", "kind stateid is_recalled limit entry")
-# The user who needn't ask: an nfsace4.
+# What a user may do with a file: an nfsace4.
 AccessEntry = namedtuple("AccessEntry", "kind flag mask who")
 DirectoryEntry = namedtuple("DirectoryEntry", "cookie name attributes")
 
