@@ -128,7 +128,7 @@ class Tale:
     # What comes of them.
 
     def miss(self, call, link, case):
-        """A connection ends before the caller has the reply to this call. Those that are no case are forgotten in time."""
+        """A connection ends before the caller has the reply to this call. One that is no case is forgotten in time."""
         self.missed.append(Missed(call, link, case))
         others = [missed for missed in self.missed if missed.case is None]
         if len(others) > MISSED_LIMIT:
