@@ -284,6 +284,185 @@ ARGUMENTS = {
 }
 
 
+# The arguments of the operations that have no rule in the model, by their numbers. The model doesn't read them.
+
+Commit = namedtuple("Commit", "offset count")
+# What is created: its type, the text of a symbolic link or the two numbers of a device, its name and attributes.
+Create = namedtuple("Create", "kind value name attributes")
+Delegpurge = namedtuple("Delegpurge", "epoch client")
+Link = namedtuple("Link", "name")
+Lookupp = namedtuple("Lookupp", "")
+Nverify = namedtuple("Nverify", "attributes")
+Openattr = namedtuple("Openattr", "create")
+Putpubfh = namedtuple("Putpubfh", "")
+Readdir = namedtuple("Readdir", "cookie verifier dircount maxcount mask")
+Readlink = namedtuple("Readlink", "")
+Remove = namedtuple("Remove", "name")
+Rename = namedtuple("Rename", "old new")
+Secinfo = namedtuple("Secinfo", "name")
+Setattr = namedtuple("Setattr", "stateid attributes")
+Verify = namedtuple("Verify", "attributes")
+
+NF4BLK, NF4CHR, NF4LNK = 3, 4, 5
+
+
+def read_attributes(reader):
+    """A fattr4: the mask, and the values as bytes."""
+    return reader.bitmap(), reader.opaque()
+
+
+def read_create(reader):
+    kind, value = reader.one_of(9, first=1), None
+    if kind == NF4LNK:
+        value = reader.opaque()
+    elif kind in (NF4BLK, NF4CHR):
+        value = reader.u32(), reader.u32()
+    return Create(kind, value, reader.opaque(), read_attributes(reader))
+
+
+def read_readdir(reader):
+    return Readdir(reader.u64(), reader.fixed(8), reader.u32(), reader.u32(), reader.bitmap())
+
+
+OTHER_ARGUMENTS = {
+    OTHER_OPERATIONS["COMMIT"]: lambda r: Commit(r.u64(), r.u32()),
+    OTHER_OPERATIONS["CREATE"]: read_create,
+    OTHER_OPERATIONS["DELEGPURGE"]: lambda r: Delegpurge(r.u32(), r.u32()),
+    OTHER_OPERATIONS["LINK"]: lambda r: Link(r.opaque()),
+    OTHER_OPERATIONS["LOOKUPP"]: lambda r: Lookupp(),
+    OTHER_OPERATIONS["NVERIFY"]: lambda r: Nverify(read_attributes(r)),
+    OTHER_OPERATIONS["OPENATTR"]: lambda r: Openattr(r.one_of(2)),
+    OTHER_OPERATIONS["PUTPUBFH"]: lambda r: Putpubfh(),
+    OTHER_OPERATIONS["READDIR"]: read_readdir,
+    OTHER_OPERATIONS["READLINK"]: lambda r: Readlink(),
+    OTHER_OPERATIONS["REMOVE"]: lambda r: Remove(r.opaque()),
+    OTHER_OPERATIONS["RENAME"]: lambda r: Rename(r.opaque(), r.opaque()),
+    OTHER_OPERATIONS["SECINFO"]: lambda r: Secinfo(r.opaque()),
+    OTHER_OPERATIONS["VERIFY"]: lambda r: Verify(read_attributes(r)),
+    Opnum.SETATTR: lambda r: Setattr(read_stateid(r), read_attributes(r)),
+}
+ALL_ARGUMENTS = {**ARGUMENTS, **OTHER_ARGUMENTS}
+
+
+# The results of all operations, as any server gives them: what follows the status.
+
+# A directory before and after a change, and whether nothing came between.
+Change = namedtuple("Change", "is_atomic before after")
+# A lock in the way of another.
+Denied = namedtuple("Denied", "offset length locktype owner")
+Opened = namedtuple("Opened", "stateid change flags mask delegation")
+# A delegation: its type, stateid, and whether it is called back at once; how much a client may write under it, or None;
+# and who may open the file without asking.
+Delegation = namedtuple("Delegation", "kind stateid is_recalled limit entry")
+# What a user may do with a file: an nfsace4.
+AccessEntry = namedtuple("AccessEntry", "kind flag mask who")
+DirectoryEntry = namedtuple("DirectoryEntry", "cookie name attributes")
+
+
+def read_change(reader):
+    return Change(reader.one_of(2), reader.u64(), reader.u64())
+
+
+def read_denied(reader):
+    return Denied(reader.u64(), reader.u64(), read_lock_type(reader), read_lock_owner(reader))
+
+
+def read_access_entry(reader):
+    return AccessEntry(reader.u32(), reader.u32(), reader.u32(), reader.opaque())
+
+
+def read_delegation(reader):
+    kind = reader.one_of(3)
+    if kind == OPEN_DELEGATE_NONE:
+        return None
+    stateid, is_recalled = read_stateid(reader), reader.one_of(2)
+    # A number of bytes, or of blocks and their size, which are as long.
+    limit = (reader.one_of(2, first=1), reader.u64()) if kind == OPEN_DELEGATE_WRITE else None
+    return Delegation(kind, stateid, is_recalled, limit, read_access_entry(reader))
+
+
+def read_opened(reader):
+    return Opened(read_stateid(reader), read_change(reader), reader.u32(), reader.bitmap(), read_delegation(reader))
+
+
+def read_directory(reader):
+    """The verifier, the entries, and whether they are the last."""
+    verifier, entries = reader.fixed(8), []
+    while reader.one_of(2):
+        entries.append(DirectoryEntry(reader.u64(), reader.opaque(), read_attributes(reader)))
+    return verifier, entries, reader.one_of(2)
+
+
+def read_flavors(reader):
+    """The flavors of security; of RPCSEC_GSS with the mechanism, the quality of protection, and the service."""
+    found = []
+    for _ in range(reader.u32()):
+        flavor = reader.u32()
+        found.append((flavor, *((reader.opaque(), reader.u32(), reader.u32()) if flavor == RPCSEC_GSS else ())))
+    return found
+
+
+# By the operation's number, where the status is OK; of the operations that aren't here nothing follows.
+RESULTS = {
+    Opnum.ACCESS: lambda r: (r.u32(), r.u32()),
+    Opnum.CLOSE: read_stateid,
+    Opnum.GETATTR: read_attributes,
+    Opnum.GETFH: lambda r: r.opaque(FILEHANDLE_LIMIT),
+    Opnum.LOCK: read_stateid,
+    Opnum.LOCKU: read_stateid,
+    Opnum.OPEN: read_opened,
+    Opnum.OPEN_CONFIRM: read_stateid,
+    Opnum.OPEN_DOWNGRADE: read_stateid,
+    Opnum.READ: lambda r: (r.one_of(2), r.file_bytes()),
+    Opnum.SETATTR: lambda r: r.bitmap(),
+    Opnum.SETCLIENTID: lambda r: (r.u32(), r.u32(), r.u64()),
+    Opnum.WRITE: lambda r: (r.u32(), r.one_of(3), r.fixed(8)),
+    OTHER_OPERATIONS["COMMIT"]: lambda r: r.fixed(8),
+    OTHER_OPERATIONS["CREATE"]: lambda r: (read_change(r), r.bitmap()),
+    OTHER_OPERATIONS["LINK"]: read_change,
+    OTHER_OPERATIONS["READDIR"]: read_directory,
+    OTHER_OPERATIONS["READLINK"]: lambda r: r.opaque(),
+    OTHER_OPERATIONS["REMOVE"]: read_change,
+    OTHER_OPERATIONS["RENAME"]: lambda r: (read_change(r), read_change(r)),
+    OTHER_OPERATIONS["SECINFO"]: read_flavors,
+}
+# By the number and another status.
+OTHER_RESULTS = {
+    (Opnum.LOCK, Status.DENIED): read_denied,
+    (Opnum.LOCKT, Status.DENIED): read_denied,
+    (Opnum.SETCLIENTID, Status.CLID_INUSE): lambda r: (r.opaque(), r.opaque()),
+}
+
+# A result: the operation's number, the status, and what follows.
+OperationResult = namedtuple("OperationResult", "number status value")
+
+
+def read_result(reader):
+    number, status = reader.u32(), reader.u32()
+    is_set = status == Status.OK or number == Opnum.SETATTR
+    read = RESULTS.get(number) if is_set else OTHER_RESULTS.get((number, status))
+    return OperationResult(number, status, read(reader) if read else None)
+
+
+# The operations by which a server calls a client, with their arguments and results.
+
+CALLBACK_OPERATIONS = {"CB_GETATTR": 3, "CB_RECALL": 4}
+CallbackGetattr = namedtuple("CallbackGetattr", "filehandle mask")
+CallbackRecall = namedtuple("CallbackRecall", "stateid truncate filehandle")
+
+CALLBACK_ARGUMENTS = {
+    CALLBACK_OPERATIONS["CB_GETATTR"]: lambda r: CallbackGetattr(r.opaque(FILEHANDLE_LIMIT), r.bitmap()),
+    CALLBACK_OPERATIONS["CB_RECALL"]: lambda r: CallbackRecall(
+        read_stateid(r), r.one_of(2), r.opaque(FILEHANDLE_LIMIT)),
+}
+
+
+def read_callback_result(reader):
+    number, status = reader.u32(), reader.u32()
+    is_read = (number, status) == (CALLBACK_OPERATIONS["CB_GETATTR"], Status.OK)
+    return OperationResult(number, status, read_attributes(reader) if is_read else None)
+
+
 # Records (RFC 5531, section 11).
 
 def split_records(data):
