@@ -202,7 +202,7 @@ class Tale:
             self.compare_results(case, call, reply)
 
     def compare_results(self, case, call, reply):
-        answered, first, now = answered_words(reply), case.reply.result_of(call), reply.result_of(call)
+        answered, first, now = answered_words(reply), case.reply.result_of(case.call), reply.result_of(call)
         if first is None or now is None:
             self.say_of(case, f"{answered}, without its {call.request.name}")
         elif first == now:
