@@ -131,6 +131,8 @@ class Link:
         # The calls to which the caller has no reply; and by their xids those to which the server has given none.
         self.asked, self.waiting = [], {}
         self.is_over, self.is_last, self.held, self.readers = False, False, 0, 2
+        # Whether the caller sends nothing more, which may be all that is seen of its end.
+        self.is_left = False
         self.turns = {near: threading.Lock(), far: threading.Lock()}
 
     def begin(self):
@@ -162,6 +164,7 @@ class Link:
         if rest and not self.is_over:
             self.send(other, rest)
         if source is self.near:
+            self.is_left = True
             shut(self.far, socket.SHUT_WR)
             return
         with self.between.lock:
@@ -244,6 +247,7 @@ class Link:
         if standing is not None:
             self.tale.tell_standing(standing.told_case, call, self)
         else:
+            self.between.end_left(call)
             again = self.tale.arrived(call, self)
         kept = self.tale.owners.kept_for(call)
         is_new = standing is None and again is None
@@ -403,6 +407,12 @@ class Between:
         """Tells the end; whether all went well."""
         with self.lock:
             return self.tale.tell_end()
+
+    def end_left(self, call):
+        """Ends the connections on which this call is under way, and whose caller sends nothing more there."""
+        for link in list(self.live):
+            if link.is_left and any(link.is_standing(it.call, call) for it in link.asked):
+                link.end()
 
     def listen(self, listener, target, is_callback=False):
         """Takes connections, from now on, each of which belongs to one to the target."""
