@@ -173,6 +173,7 @@ class Link:
             self.end()
 
     def leave(self):
+        """A side has ended, or what was held is given: at last there is nothing left to do."""
         with self.between.lock:
             self.readers -= 1
             if self.readers:
@@ -369,7 +370,7 @@ class Link:
 
     def hold(self, exchange, reply, data):
         case = exchange.case
-        case.reply, self.held = reply, self.held + 1
+        case.reply, self.held, self.readers = reply, self.held + 1, self.readers + 1
         self.tale.tell_done(case, f"the reply is held for {case.rule.value:g} s", reply.words())
 
         def act():
@@ -379,6 +380,7 @@ class Link:
                 is_last = self.is_last and not self.held
             if is_last:
                 self.end()
+            self.leave()
         return lambda: do_later(case.rule.value, act)
 
     def call_again(self, exchange, reply):
