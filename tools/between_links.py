@@ -1,5 +1,6 @@
 """The connections between callers and those who answer: what comes on one side is passed on to the other, but for what
 goes wrong by the plan."""
+import select
 import socket
 import threading
 import time
@@ -19,6 +20,9 @@ RECORD_LIMIT, CONNECTIONS_LIMIT = 16 << 20, 256
 PIECE = 1 << 20
 # The seconds in which a server has to take a connection, and those between two fragments of a reply, and of all.
 PATIENCE, BETWEEN_FRAGMENTS, ALL_FRAGMENTS = 10, 0.02, 1
+
+# The most seconds in which connections come to their end when the run does, and those between two looks at them.
+SETTLING, GLANCE = 1, 0.01
 
 # A record without headers, and the sizes of the fragments in which it came.
 Record = namedtuple("Record", "body sizes")
@@ -409,6 +413,16 @@ class Between:
         """Tells the end; whether all went well."""
         with self.lock:
             return self.tale.tell_end()
+
+    def settle(self, listener, is_left):
+        """Waits for some time until each connection that has come has begun; and where callers have left, has ended."""
+        until, quiet = time.monotonic() + SETTLING, 0
+        while quiet < 2 and time.monotonic() < until:
+            time.sleep(GLANCE)
+            is_coming = bool(select.select([listener], [], [], 0)[0])
+            with self.lock:
+                is_busy = self.there > len(self.live) or is_left and any(not link.is_callback for link in self.live)
+            quiet = 0 if is_coming or is_busy else quiet + 1
 
     def end_left(self, call):
         """Ends the connections on which this call is under way, and whose caller sends nothing more there."""
