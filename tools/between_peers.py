@@ -247,10 +247,10 @@ class Respelling(Patient):
 
 class Relay(Listener):
     """Takes connections, each of which has one of its own to the server. What is answered to a record that has come
-    before may be changed, by the record and its reply. `heard` has all records."""
+    before may be changed, by the record and its reply. `heard` has all records, and replies take so many `seconds`."""
 
     def __init__(self, server, change=None):
-        self.server, self.change, self.far, self.turn = server, change, {}, threading.Lock()
+        self.server, self.change, self.far, self.turn, self.seconds = server, change, {}, threading.Lock(), 0
         super().__init__(self.relay)
 
     def relay(self, heard):
@@ -258,6 +258,7 @@ class Relay(Listener):
         self.far[heard.stream] = far
         far.send(heard.data)
         reply = far.receive()
+        time.sleep(self.seconds)
         with self.turn:
             is_again = sum(other.data == heard.data for other in self.heard) > 1
         heard.send(self.change(heard.data, reply) if self.change and is_again else reply)
