@@ -108,10 +108,20 @@ class Impatient(Resender):
 
     def receive(self):
         if is_silent(self.peer.socket, 0.5):
-            self.peer.socket.close()
+            self.leave()
             self.peer = None
             self.send_again()
         return super().receive()
+
+    def leave(self):
+        self.peer.socket.close()
+
+
+class Resetting(Impatient):
+    """Ends it by a reset."""
+
+    def leave(self):
+        self.peer.reset()
 
 
 # Clients.
