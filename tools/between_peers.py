@@ -15,8 +15,8 @@ from wire import FILE_SYNC4, OTHER_STATUSES, Status, split_records, u64
 
 GRACE, DELAY, RESOURCE = OTHER_STATUSES["GRACE"], int(Status.DELAY), int(Status.RESOURCE)
 PUT_OFF = GRACE, DELAY, RESOURCE
-# The seconds between two attempts.
-PAUSE = 0.05
+# The seconds between two attempts, and those behind which a reply isn't there soon.
+PAUSE, SOON = 0.05, 1.5
 
 
 class GaveUp(Exception):
@@ -94,7 +94,7 @@ class Hurrying(Resender):
     """Sends a call again, over the same connection, where its reply isn't there soon."""
 
     def receive(self):
-        if not is_silent(self.peer.socket, 0.5):
+        if not is_silent(self.peer.socket, SOON):
             return super().receive()
         self.peer.send(self.sent)
         got = super().receive()
@@ -107,9 +107,11 @@ class Impatient(Resender):
     """Ends a connection where a reply isn't there soon, and sends its call again over another one."""
 
     def receive(self):
-        if is_silent(self.peer.socket, 0.5):
+        if is_silent(self.peer.socket, SOON):
             self.leave()
             self.peer = None
+            # Until the end is seen, which comes by another way than what is sent again.
+            time.sleep(0.5)
             self.send_again()
         return super().receive()
 
