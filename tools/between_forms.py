@@ -31,7 +31,8 @@ ARGUMENTS = {
          open_arguments(claim=words(2) + STATEID + NAME), open_arguments(claim=words(3) + NAME)],
     19: [words(1)], 20: [STATEID + words(1)], 21: [STATEID + words(1, 1, 0)], 22: [opaque(b"a handle")], 23: [b""],
     24: [b""], 25: [STATEID + u64(0) + words(5)], 26: [u64(0) + bytes(8) + words(100, 200, 1, 2)], 27: [b""],
-    28: [NAME], 29: [NAME + opaque(b"other")], 30: [u64(1)], 31: [b""], 32: [b""], 33: [NAME], 34: [STATEID + ATTRIBUTES],
+    28: [NAME], 29: [NAME + opaque(b"other")], 30: [u64(1)], 31: [b""], 32: [b""], 33: [NAME],
+    34: [STATEID + ATTRIBUTES],
     35: [bytes(8) + NAME + words(0x40000000) + opaque(b"tcp") + opaque(b"127.0.0.1.3.232") + words(1)],
     36: [u64(1) + bytes(8)], 37: [ATTRIBUTES], 38: [STATEID + u64(0) + words(2) + opaque(b"data!")], 39: [OWNER]}
 
@@ -46,8 +47,8 @@ def delegations():
 # Operations that don't name an owner's request, by their numbers, with what stands behind NFS4_OK in their results.
 RESULTS = [
     (3, words(63, 13)), (5, bytes(8)), (6, CHANGE + words(1, 1)), (7, b""), (8, b""), (9, ATTRIBUTES),
-    (10, opaque(b"a handle")), (11, CHANGE), (13, b""), (15, b""), (16, b""), (17, b""), (19, b""), (22, b""), (23, b""),
-    (24, b""), (25, words(1) + opaque(b"hello")),
+    (10, opaque(b"a handle")), (11, CHANGE), (13, b""), (15, b""), (16, b""), (17, b""), (19, b""), (22, b""),
+    (23, b""), (24, b""), (25, words(1) + opaque(b"hello")),
     (26, bytes(8) + words(1) + u64(3) + NAME + ATTRIBUTES + words(1) + u64(4) + NAME + ATTRIBUTES + words(0, 1)),
     (26, bytes(8) + words(0, 1)), (27, opaque(b"where to")), (28, CHANGE), (29, CHANGE + CHANGE), (30, b""),
     (31, b""), (32, b""), (33, words(3, 1, 6) + opaque(b"an oid") + words(0, 1, 0)), (34, words(1, 2)),
