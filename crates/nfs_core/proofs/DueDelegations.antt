@@ -1,8 +1,8 @@
 -- Of the delegations that are due, the one with the least number may be taken away.
-use Rattle.std.proofs.Common.{◌≡◌, inl, inr, ℕ, zero, suc, Bool, true, false, Option, Some, None, List, [], ◌∷◌, ◌++◌, length, map, refl, sym, ap, ◌∙◌, subst, arith, ◌<◌, ◌≤◌}
+use Rattle.std.proofs.Common.{◌≡◌, ℕ, zero, suc, Bool, true, false, Option, Some, None, List, [], ◌∷◌, ◌++◌, length, map, refl, sym, ap, ◌∙◌, subst, arith, ◌<◌, ◌≤◌}
 use Rattle.std.specs.Prelude.{◌==◌, find, flat_map, is_some, nat_le, nat_lt, position, slice_index_or}
 use Rattle.std.specs.List.{AllByRecursion, Contains, IsDistinct, list_any, position_or_len}
-use Rattle.std.proofs.lemmas.Bool.{and_from, and_parts, cases_Bool, cond-true, eq-eqb, eqb-true, le-leb, leb-false, leb-true, lt-ltb, or_left, or_right}
+use Rattle.std.proofs.lemmas.Bool.{and_from, and_parts, cond-true, eq-eqb, eqb-true, le-leb, lt-ltb, or_left, or_right}
 use Rattle.std.proofs.lemmas.List.Elements.{All-contains, All-from_recursion}
 use Rattle.std.proofs.lemmas.List.Folds.{list_any_at}
 use Rattle.std.proofs.lemmas.List.Quantifiers.{position-Some}
@@ -11,24 +11,20 @@ use Rattle.nfs_core.proofs.LiveLists.{found_any}
 use Rattle.nfs_core.proofs.SafeFiles.{lists_at}
 use Rattle.nfs_core.proofs.SafeLists.{all_find, all_weaken}
 use Rattle.nfs_core.proofs.SoundSequences.{never, some_equal}
-use Rattle.nfs_core.specs.Revoking.{NoneIsDue, revoke_of}
+use Rattle.nfs_core.specs.Events.{MayHappen, NoneIsDue, revoke_of}
+use Rattle.nfs_core.specs.declared.event.Event.TheVariants as events
 use Rattle.nfs_core.specs.Safe.{numbers_of}
 use Rattle.nfs_core.specs.Server.{Server}
-use Rattle.nfs_core.specs.Step.{HasNoStep}
 use Rattle.nfs_locks.specs.Locks.{ByteLocks}
 use Rattle.nfs_rules.specs.entries.Revoke.{IsNoneBefore, IsRevocation}
 use Rattle.nfs_share.specs.AllOpens.{DelegationAt, IsNextDue, delegations_of, lent_at, lent_found, lent_in, list_at, list_or_none}
 use Rattle.nfs_share.specs.Delegations.{is_delegation_numbered, is_due, is_due_from}
 use Rattle.nfs_share.specs.declared.delegation.Delegation.{Delegation}
 use Rattle.nfs_share.specs.declared.open_state.OpenState.{OpenState}
-use Rattle.nfs_state.specs.Changes.{after, change_alone}
+use Rattle.nfs_state.specs.Changes.{change_alone}
 use Rattle.nfs_state.specs.State.{History, State}
-use Rattle.nfs_state.specs.Stored.{meaning}
 use Rattle.nfs_state.specs.declared.change.Change.TheVariants as changes
 use Rattle.nfs_state.specs.declared.effect.Effect.{Effect}
-use Rattle.nfs_state.specs.declared.entry.Entry.TheVariants as entries
-use Rattle.nfs_state.specs.declared.entry.Revoke.{Revoke}
-use Rattle.nfs_state.specs.declared.entry.TheConstants.{JOURNAL_LIMIT}
 
 -- What holds of each element, and what holds of each two: of two lists one after the other.
 
@@ -231,22 +227,10 @@ next_may journal state lease now next same distinct next_is =
     )
 
 -- where one may be taken away, one is due
-pub one_due : (server : Server) (now : ℕ) (revoke : Revoke) → (revoke.now ≡ now) × ((effect : Effect) × IsRevocation server.journal (meaning server.stored) revoke effect) → NoneIsDue server now → ⊥
-one_due server now revoke may none =
+pub one_due : (server : Server) (now number : ℕ) → MayHappen server (events.Revoke (revoke_of number now)) → NoneIsDue server now → ⊥
+one_due server now number may none =
     let lease = server.journal.lease in
-    let revocation = may.1.1 in
+    let revocation = may.1 in
     never (is_due lease now revocation.at.state)
-    (found_holds (λ d. is_due lease now d ≡ false) (is_delegation_numbered revoke.number) server.stored.delegations revocation.at none revocation.found)
-    (subst (λ n. is_due lease n revocation.at.state ≡ true) may.0 revocation.due)
-
--- and if it isn't, the journal is full
-pub full_alone : (journal : History) (old : State) (revoke : Revoke) → (effect : Effect) × IsRevocation journal old revoke effect → HasNoStep journal old (entries.Revoke revoke) → JOURNAL_LIMIT ≤ length journal.entries
-full_alone journal old revoke may none = elim (cases_Bool (nat_le JOURNAL_LIMIT (length journal.entries))) [
-  | inl full ↦ leb-true JOURNAL_LIMIT (length journal.entries) full
-  | inr below ↦ absurd (none (after (length journal.entries) (entries.Revoke revoke) may.0 old) (record {
-    below = leb-false JOURNAL_LIMIT (length journal.entries) below;
-    effect = may.0;
-    allowed = may.1;
-    state = refl;
-  }))
-]
+    (found_holds (λ d. is_due lease now d ≡ false) (is_delegation_numbered number) server.stored.delegations revocation.at none revocation.found)
+    revocation.due

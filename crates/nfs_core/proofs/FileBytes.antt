@@ -5,32 +5,27 @@ use Rattle.std.proofs.Math.Dec.{eqb-suc-zero}
 use Rattle.std.proofs.Math.Nat.{min-le_left}
 use Rattle.std.proofs.lemmas.Bool.{cond_both}
 use Rattle.std.proofs.lemmas.List.{length-append, length-drop, length-take}
-use Rattle.nfs_core.proofs.FileChanges.{files_stepped}
+use Rattle.nfs_core.proofs.FileChanges.{owner_files}
 use Rattle.nfs_core.proofs.SafeLists.{all_map}
+use Rattle.nfs_core.proofs.Safety.{Holds, Laws, allowed_ready, holds_empty, holds_step}
 use Rattle.nfs_core.proofs.SoundSequences.{some_equal}
-use Rattle.nfs_core.proofs.Transferring.{each_write}
+use Rattle.nfs_core.proofs.SoundSteps.{IsChangeReady}
 use Rattle.nfs_core.specs.Lawful.{Lawful, Leads}
 use Rattle.nfs_core.specs.Safe.{HaveFewBytes}
-use Rattle.nfs_core.specs.Step.{Allows}
-use Rattle.nfs_rules.specs.declared.decision.Decision.{Decision}
-use Rattle.nfs_rules.specs.operations.{IsRuled}
-use Rattle.nfs_state.specs.Changes.{files_after}
-use Rattle.nfs_state.specs.Entries.{data_in, data_of, with_entry}
+use Rattle.nfs_core.specs.Step.{Step}
+use Rattle.nfs_owners.specs.declared.clients.client_change.ClientChange.TheVariants as client_changes
+use Rattle.nfs_state.specs.Changes.{with_owner_change, with_state_change}
+use Rattle.nfs_state.specs.Entries.{with_entry}
 use Rattle.nfs_state.specs.Files.{FileState, after_write, with_bytes, written}
 use Rattle.nfs_state.specs.State.{State, History, empty_server, files_below, initial_file}
 use Rattle.nfs_state.specs.declared.change.Change.{Change}
 use Rattle.nfs_state.specs.declared.change.Change.TheVariants as changes
-use Rattle.nfs_state.specs.declared.effect.Effect.{Effect}
 use Rattle.nfs_state.specs.declared.entry.Entry.{Entry}
-use Rattle.nfs_state.specs.declared.entry.Entry.TheVariants as entries
-use Rattle.nfs_state.specs.declared.request.Request.{Request}
 use Rattle.nfs_tree.specs.Tree.{EachFits, HasTextWithin, IsTree, node_count, text_of, text_of_kind}
 use Rattle.nfs_tree.specs.declared.node.Node.{Node}
 use Rattle.nfs_tree.specs.declared.node.NodeKind.{NodeKind}
 use Rattle.nfs_tree.specs.declared.node.NodeKind.TheVariants.{Directory, File}
 use Rattle.nfs_tree.specs.declared.tree.TheConstants.{TEXT_LIMIT}
-use Rattle.nfs_xdr.specs.declared.op.Op.{Op}
-use Rattle.nfs_xdr.specs.declared.op.Op.TheVariants as ops
 
 -- a WRITE that ends within the limit
 
@@ -51,40 +46,28 @@ few_written node offset (b ∷ block) files short h =
     all_map few few (λ f. if f.node == node then after_write offset (b ∷ block) f else f)
     (λ f k. cond_both (f.node == node) (after_write offset (b ∷ block) f) f few (λ _. few_in offset (b ∷ block) f.bytes short k) (λ _. k)) files h
 
--- no other entry has bytes
+-- nothing else of an entry comes into a file
 
-none_written : (change : Change) (files : List FileState) → files_after [] change files ≡ files
-none_written (changes.Writes node offset) files = refl
-none_written change files = refl
+few_after : (change : Change) (old : State) → IsChangeReady change old → HaveFewBytes old.files → HaveFewBytes (with_state_change change old).files
+few_after (changes.Writes node offset bytes) old ready h = few_written node offset bytes old.files ready h
+few_after (changes.Clients (client_changes.Replaces r client)) old ready h = h
+few_after (changes.Clients change) old ready h = h
+few_after (changes.Opens node owner share None) old ready h = h
+few_after (changes.Opens node owner share (Some kind)) old ready h = h
+few_after change old ready h = h
 
--- with these bytes the change leaves each file short
-abbrev KeepsShort : List ℕ → Change → Type 0
-KeepsShort block change =
-    (files : List FileState) → HaveFewBytes files → HaveFewBytes (files_after block change files)
+few_stepped : (journal : History) (old : State) (entry : Entry) (new : State) → Step journal old entry new → Holds old → HaveFewBytes old.files → HaveFewBytes new.files
+few_stepped journal old entry new step holds h =
+    let number = length journal.entries in
+    subst (λ (s : State). HaveFewBytes s.files) (sym step.state)
+    (few_after step.effect.change (with_owner_change step.effect.owner number old) (allowed_ready journal old entry step.effect holds.sound holds.singles step.allowed).1
+    (subst HaveFewBytes (sym (owner_files step.effect.owner number old)) h))
 
-without_bytes : (change : Change) → KeepsShort [] change
-without_bytes change files h = subst HaveFewBytes (sym (none_written change files)) h
-
-ruled_short : (journal : History) (state : State) (op : Op) (request : Request) (d : Decision) → IsRuled op journal state request (Some d) → KeepsShort (data_of op) d.effect.change
-ruled_short journal state (ops.Write args) request d is =
-    subst (λ (x : Decision). KeepsShort args.bytes x.effect.change) (sym (some_equal d _ is))
-    (each_write (λ x. KeepsShort args.bytes x.effect.change) journal state request args
-    (λ refusal files h. h) (λ node files h. h) (λ files h. h) (λ node short files h. few_written node args.offset args.bytes files short h))
-ruled_short journal state op request d is = without_bytes d.effect.change
-
-step_short : (journal : History) (old : State) (entry : Entry) (effect : Effect) → Allows journal old entry effect → KeepsShort (data_in entry) effect.change
-step_short journal old (entries.Call call) effect allowed =
-    ruled_short journal old call.request.op call.request (record { answer = call.answer; effect = effect }) allowed.rule
-step_short journal old (entries.Expire expire) effect allowed = without_bytes effect.change
-step_short journal old (entries.Revoke revoke) effect allowed = without_bytes effect.change
-step_short journal old (entries.Path path) effect allowed = without_bytes effect.change
-
-few_led : (journal : History) (old new : State) (entries : List Entry) → Leads journal old entries new → HaveFewBytes old.files → HaveFewBytes new.files
-few_led journal old new [] leads h = subst (λ (s : State). HaveFewBytes s.files) (sym leads) h
-few_led journal old new (entry ∷ entries) leads h =
-    let step = leads.1 in
-    few_led (with_entry entry journal) leads.0 new entries leads.2
-    (subst HaveFewBytes (sym (files_stepped journal old entry leads.0 step)) (step_short journal old entry step.effect step.allowed old.files h))
+few_led : Laws → (journal : History) (old new : State) (entries : List Entry) → Leads journal old entries new → Holds old → HaveFewBytes old.files → HaveFewBytes new.files
+few_led laws journal old new [] leads holds h = subst (λ (s : State). HaveFewBytes s.files) (sym leads) h
+few_led laws journal old new (entry ∷ entries) leads holds h =
+    few_led laws (with_entry entry journal) leads.0 new entries leads.2 (holds_step laws journal old entry leads.0 leads.1 holds)
+    (few_stepped journal old entry leads.0 leads.1 holds h)
 
 -- at first each file has the text of its node
 
@@ -120,6 +103,6 @@ few_below nodes (suc node) tree =
     few_both (files_below nodes node) (initial_file node (text_of nodes node)) (few_below nodes node tree)
     (few_first node (text_of nodes node) (λ text is. few_at nodes node text tree is))
 
-pub Lawful-bytes : (journal : History) (state : State) → IsTree journal.nodes → Lawful journal state → HaveFewBytes state.files
-Lawful-bytes journal state tree lawful =
-    few_led (record journal { entries = [] }) (empty_server journal.nodes) state journal.entries lawful (few_below journal.nodes (node_count journal.nodes) tree)
+pub Lawful-bytes : Laws → (journal : History) (state : State) → IsTree journal.nodes → Lawful journal state → HaveFewBytes state.files
+Lawful-bytes laws journal state tree lawful =
+    few_led laws (record journal { entries = [] }) (empty_server journal.nodes) state journal.entries lawful (holds_empty journal) (few_below journal.nodes (node_count journal.nodes) tree)

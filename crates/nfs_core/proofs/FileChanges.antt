@@ -1,5 +1,5 @@
 -- No file was changed more often than the journal has entries.
-use Rattle.std.proofs.Common.{◌≡◌, ℕ, zero, suc, ◌++◌, ◌+◌, ◌<◌, ◌≤◌, ◌-◌, ◌^◌, ◌==◌, Option, Some, None, List, [], ◌∷◌, length, refl, sym, ap, subst, arith, ◌∙◌}
+use Rattle.std.proofs.Common.{◌≡◌, ℕ, zero, suc, ◌++◌, ◌+◌, ◌<◌, ◌≤◌, ◌-◌, ◌^◌, ◌==◌, Option, Some, None, List, [], ◌∷◌, length, refl, sym, subst, arith}
 use Rattle.std.specs.Prelude.{if◌then◌else◌}
 use Rattle.std.proofs.lemmas.Bool.{cond_both}
 use Rattle.nfs_core.proofs.SafeLists.{all_map, all_weaken}
@@ -7,8 +7,8 @@ use Rattle.nfs_core.specs.Following.{HaveFewChanges}
 use Rattle.nfs_core.specs.Lawful.{Lawful, Leads}
 use Rattle.nfs_core.specs.Step.{Step}
 use Rattle.nfs_owners.specs.declared.clients.client_change.ClientChange.TheVariants as client_changes
-use Rattle.nfs_state.specs.Changes.{files_after, with_owner_change, with_state_change}
-use Rattle.nfs_state.specs.Entries.{data_in, with_entry}
+use Rattle.nfs_state.specs.Changes.{with_owner_change, with_state_change}
+use Rattle.nfs_state.specs.Entries.{with_entry}
 use Rattle.nfs_state.specs.Files.{CanChange, FileState, after_write, with_bytes}
 use Rattle.nfs_state.specs.State.{State, History, empty_server, files_below, initial_file}
 use Rattle.nfs_state.specs.declared.change.Change.{Change}
@@ -31,33 +31,25 @@ few_written n node offset (b ∷ block) files h =
     (λ f k. cond_both (f.node == node) (after_write offset (b ∷ block) f) f (λ (g : FileState). g.change ≤ n + 1) (λ _. omega (arith, k)) (λ _. omega (arith, k)))
     files h
 
-few_after : (n : ℕ) (block : List ℕ) (change : Change) (files : List FileState) → HaveFewChanges n files → HaveFewChanges (n + 1) (files_after block change files)
-few_after n block (changes.Writes node offset) files h = few_written n node offset block files h
-few_after n block change files h = one_more n files h
+few_after : (n : ℕ) (change : Change) (old : State) → HaveFewChanges n old.files → HaveFewChanges (n + 1) (with_state_change change old).files
+few_after n (changes.Writes node offset bytes) old h = few_written n node offset bytes old.files h
+few_after n (changes.Clients (client_changes.Replaces r client)) old h = one_more n old.files h
+few_after n (changes.Clients change) old h = one_more n old.files h
+few_after n (changes.Opens node owner share None) old h = one_more n old.files h
+few_after n (changes.Opens node owner share (Some kind)) old h = one_more n old.files h
+few_after n change old h = one_more n old.files h
 
--- nothing else of an entry changes a file
-
-changed_files : (change : Change) (old : State) → (with_state_change change old).files ≡ old.files
-changed_files (changes.Clients (client_changes.Replaces r client)) old = refl
-changed_files (changes.Clients change) old = refl
-changed_files (changes.Opens node owner share None) old = refl
-changed_files (changes.Opens node owner share (Some kind)) old = refl
-changed_files change old = refl
-
-owner_files : (change : OwnerChange) (number : ℕ) (old : State) → (with_owner_change change number old).files ≡ old.files
+-- what an entry means for an owner changes no file
+pub owner_files : (change : OwnerChange) (number : ℕ) (old : State) → (with_owner_change change number old).files ≡ old.files
 owner_files owner_changes.Nothing number old = refl
 owner_files change number old = refl
 
-pub files_stepped : (journal : History) (old : State) (entry : Entry) (new : State) (step : Step journal old entry new) → new.files ≡ files_after (data_in entry) step.effect.change old.files
-files_stepped journal old entry new step =
-    let number = length journal.entries in
-    let mid = with_owner_change step.effect.owner number old in
-    ap (λ (s : State). s.files) step.state
-    ∙ ap (files_after (data_in entry) step.effect.change) (changed_files step.effect.change mid ∙ owner_files step.effect.owner number old)
-
 few_stepped : (journal : History) (old : State) (entry : Entry) (new : State) (n : ℕ) → Step journal old entry new → HaveFewChanges n old.files → HaveFewChanges (n + 1) new.files
 few_stepped journal old entry new n step h =
-    subst (HaveFewChanges (n + 1)) (sym (files_stepped journal old entry new step)) (few_after n (data_in entry) step.effect.change old.files h)
+    let number = length journal.entries in
+    subst (λ (s : State). HaveFewChanges (n + 1) s.files) (sym step.state)
+    (few_after n step.effect.change (with_owner_change step.effect.owner number old)
+    (subst (HaveFewChanges n) (sym (owner_files step.effect.owner number old)) h))
 
 few_led : (journal : History) (old new : State) (entries : List Entry) (n : ℕ) → Leads journal old entries new → HaveFewChanges n old.files → HaveFewChanges (n + length entries) new.files
 few_led journal old new [] n leads h = subst (λ (k : ℕ). HaveFewChanges k new.files) (omega arith) (subst (λ (s : State). HaveFewChanges n s.files) (sym leads) h)

@@ -28,9 +28,8 @@ use Rattle.nfs_state.specs.declared.entry.Entry.TheVariants as entries
 use Rattle.nfs_core.specs.Lawful.{AtMostOneState, Leads, Lawful}
 use Rattle.nfs_state.specs.State.{State, History, empty_server}
 use Rattle.nfs_core.specs.Step.{Allows, AtMostOneStateAfter, AtMostOneStep, Step}
-use Rattle.nfs_state.specs.Entries.{entry_of, with_entry}
+use Rattle.nfs_state.specs.Entries.{with_entry}
 use Rattle.nfs_state.specs.Kept.{Agrees}
-use Rattle.nfs_core.specs.Revoking.{IsRevoked, revoke_of}
 use Rattle.nfs_core.specs.Server.{AreAlike, Enters, IsLawful, Server}
 
 -- entries that lead to a state, and one more entry that leads on from there
@@ -87,7 +86,7 @@ Allows-once once journal old (entries.Path path) effect effect' a a' = a.mark �
 -- an entry leads to at most one state
 pub Step-once : AtMostOneDecision → AtMostOneStateAfter
 Step-once once journal old entry new new' s s' =
-    s.state ∙ ap (λ (e : Effect). after (length journal.entries) entry e old) (Allows-once once journal old entry s.effect s'.effect s.allowed s'.allowed) ∙ sym s'.state
+    s.state ∙ ap (λ (e : Effect). after (length journal.entries) e old) (Allows-once once journal old entry s.effect s'.effect s.allowed s'.allowed) ∙ sym s'.state
 
 -- a request has at most one answer, and leads to at most one state
 pub Step-unique : AtMostOneDecision → AtMostOneStep
@@ -95,7 +94,7 @@ Step-unique once journal old request answer answer' new new' s s' =
     let d : Decision = record { answer = answer; effect = s.effect } in
     let d' : Decision = record { answer = answer'; effect = s'.effect } in
     let same = some_equal d d' (once journal old request (Some d) (Some d') s.allowed.rule s'.allowed.rule) in
-    (ap (λ (x : Decision). x.answer) same, s.state ∙ ap (λ (x : Decision). after (length journal.entries) (entry_of request x.answer) x.effect old) same ∙ sym s'.state)
+    (ap (λ (x : Decision). x.answer) same, s.state ∙ ap (λ (x : Decision). after (length journal.entries) x.effect old) same ∙ sym s'.state)
 
 Leads-once : AtMostOneDecision → (journal : History) (old new new' : State) (entries : List Entry) → Leads journal old entries new → Leads journal old entries new' → new ≡ new'
 Leads-once once journal old new new' [] leads leads' = leads ∙ sym leads'
@@ -121,18 +120,6 @@ Lawful-tried old new entry (Ok number) lawful entered same =
     Lawful-entered old.journal new.journal (meaning old.stored) (meaning new.stored) entry lawful entered.1 entered.2
 Lawful-tried old new entry (Err error) lawful entered same =
     Lawful-same old.journal new.journal old.stored new.stored same.0 same.1 lawful
-
--- a core that took away the next delegation that is due, if one was
-pub Lawful-revoked : {E : Type 0} (old new : Server) (now : ℕ) (result : Result (Option ℕ) E) → IsLawful old
-    → IfOk result (IsRevoked old new now) → OnErr result (AreAlike old new)
-    → IsLawful new
-Lawful-revoked old new now (Ok None) lawful same alike =
-    Lawful-same old.journal new.journal old.stored new.stored
-    (ap (λ (s : Server). s.journal) same) (ap (λ (s : Server). s.stored) same) lawful
-Lawful-revoked old new now (Ok (Some number)) lawful entered alike =
-    Lawful-entered old.journal new.journal (meaning old.stored) (meaning new.stored) (entries.Revoke (revoke_of number now)) lawful entered.1 entered.2
-Lawful-revoked old new now (Err error) lawful entered alike =
-    Lawful-same old.journal new.journal old.stored new.stored alike.0 alike.1 lawful
 
 -- and what it stores agrees with its journal as before
 pub Agrees-same : (journal journal' : History) (stored stored' : Stored) → journal' ≡ journal → stored' ≡ stored → Agrees journal stored.owners → Agrees journal' stored'.owners

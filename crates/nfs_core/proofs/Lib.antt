@@ -1,6 +1,6 @@
 pub mod ClientChanges
 pub mod DueDelegations
-pub mod Entering
+pub mod NextEntries
 pub mod FileBytes
 pub mod FileChanges
 pub mod Journals

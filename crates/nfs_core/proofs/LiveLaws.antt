@@ -9,7 +9,8 @@ use Rattle.nfs_core.proofs.SoundLimits.{limits_owned}
 use Rattle.nfs_core.proofs.SoundSequences.{never}
 use Rattle.nfs_core.proofs.SoundSteps.{IsChangeReady, IsEffectReady}
 use Rattle.nfs_core.specs.Lawful.{Lawful, Leads}
-use Rattle.nfs_core.specs.LiveClients.{AreNumbered, AreOfOneRun, CallsFollow, EffectsFollow, EndsFollow, Fits, LiveFollows, PathsFollow, RevocationsFollow, confirmed_by, replaced_in}
+use Rattle.nfs_core.specs.declared.event.Event.TheVariants as events
+use Rattle.nfs_core.specs.LiveClients.{AreNumbered, AreOfOneRun, CallsFollow, EffectsFollow, EndsFollow, EventsFollow, Fits, LiveFollows, confirmed_by, replaced_in}
 use Rattle.nfs_core.specs.Safe.{KeepsLimits}
 use Rattle.nfs_core.specs.Step.{IsAnswered, Step}
 use Rattle.nfs_owners.specs.ClientLaws.{HaveSameClients, MarksKeepClients}
@@ -59,14 +60,14 @@ epoch_by_change epoch op (changes.Opens node owner share None) old ready is h = 
 epoch_by_change epoch op (changes.Opens node owner share (Some kind)) old ready is h = h
 epoch_by_change epoch op change old ready is h = h
 
-live_by_effect : (number : ℕ) (entry : Entry) (effect : Effect) (old : State) → Holds old → Holds (after number entry effect old) → IsEffectReady number old effect → LiveFollows (live_change_of effect.change) old.clients (after number entry effect old).clients
-live_by_effect number entry effect old holds then ready =
+live_by_effect : (number : ℕ) (effect : Effect) (old : State) → Holds old → Holds (after number effect old) → IsEffectReady number old effect → LiveFollows (live_change_of effect.change) old.clients (after number effect old).clients
+live_by_effect number effect old holds then ready =
     let mid = with_owner_change effect.owner number old in
-    subst (λ (r : Registry). LiveFollows (live_change_of effect.change) r (after number entry effect old).clients) (owned_clients effect.owner number old)
+    subst (λ (r : Registry). LiveFollows (live_change_of effect.change) r (after number effect old).clients) (owned_clients effect.owner number old)
     (live_by_change effect.change mid (singles_owned effect.owner number old holds.singles) then.singles (limits_owned effect.owner number old ready.0 holds.within) ready.1)
 
-epoch_by_effect : (epoch : ℕ) (op : Op) (number : ℕ) (entry : Entry) (effect : Effect) (old : State) → IsEffectReady number old effect → IsFor epoch old.clients op effect.change → HaveEpoch epoch old.clients → HaveEpoch epoch (after number entry effect old).clients
-epoch_by_effect epoch op number entry effect old ready is h =
+epoch_by_effect : (epoch : ℕ) (op : Op) (number : ℕ) (effect : Effect) (old : State) → IsEffectReady number old effect → IsFor epoch old.clients op effect.change → HaveEpoch epoch old.clients → HaveEpoch epoch (after number effect old).clients
+epoch_by_effect epoch op number effect old ready is h =
     let same = sym (owned_clients effect.owner number old) in
     epoch_by_change epoch op effect.change (with_owner_change effect.owner number old) ready.1
     (subst (λ (r : Registry). IsFor epoch r op effect.change) same is) (subst (HaveEpoch epoch) same h)
@@ -81,23 +82,23 @@ call_for journal old call effect holds allowed =
 revoked_clients : (journal : History) (old : State) (revoke : Revoke) (new : State) → Step journal old (entries.Revoke revoke) new → new.clients ≡ old.clients
 revoked_clients journal old revoke new step =
     ap (λ (s : State). s.clients) step.state
-    ∙ ap (λ (e : Effect). (after (length journal.entries) (entries.Revoke revoke) e old).clients) step.allowed.removal
+    ∙ ap (λ (e : Effect). (after (length journal.entries) e old).clients) step.allowed.removal
 
 marked_clients : (journal : History) (old : State) (path : Path) (new : State) → Step journal old (entries.Path path) new → new.clients ≡ with_mark path.client (mark_of path.up) old.clients
 marked_clients journal old path new step =
     ap (λ (s : State). s.clients) step.state
-    ∙ ap (λ (e : Effect). (after (length journal.entries) (entries.Path path) e old).clients) step.allowed.mark
+    ∙ ap (λ (e : Effect). (after (length journal.entries) e old).clients) step.allowed.mark
 
 -- All clientids are of the journal's epoch.
 
 epoch_allowed : (journal : History) (old : State) (entry : Entry) (new : State) → Step journal old entry new → Holds old → HaveEpoch journal.epoch old.clients → HaveEpoch journal.epoch new.clients
 epoch_allowed journal old (entries.Call call) new step holds h =
     subst (λ (s : State). HaveEpoch journal.epoch s.clients) (sym step.state)
-    (epoch_by_effect journal.epoch call.request.op (length journal.entries) (entries.Call call) step.effect old
+    (epoch_by_effect journal.epoch call.request.op (length journal.entries) step.effect old
     (allowed_ready journal old (entries.Call call) step.effect holds.sound holds.singles step.allowed) (call_for journal old call step.effect holds step.allowed) h)
 epoch_allowed journal old (entries.Expire expire) new step holds h =
     subst (λ (s : State). HaveEpoch journal.epoch s.clients) (sym step.state)
-    (subst (λ (e : Effect). HaveEpoch journal.epoch (after (length journal.entries) (entries.Expire expire) e old).clients) (sym step.allowed.removal)
+    (subst (λ (e : Effect). HaveEpoch journal.epoch (after (length journal.entries) e old).clients) (sym step.allowed.removal)
     (each_left (HasEpoch journal.epoch) expire.client old.clients h))
 epoch_allowed journal old (entries.Revoke revoke) new step holds h =
     subst (HaveEpoch journal.epoch) (sym (revoked_clients journal old revoke new step)) h
@@ -132,9 +133,9 @@ Lawful-numbered laws journal state lawful = λ number live.
 pub Effects-follow : Laws → EffectsFollow
 Effects-follow laws journal old new entry lawful step =
     let holds = lawful_holds laws journal old lawful in
-    let then : Holds (after (length journal.entries) entry step.effect old) = subst Holds step.state (holds_step laws journal old entry new step holds) in
+    let then : Holds (after (length journal.entries) step.effect old) = subst Holds step.state (holds_step laws journal old entry new step holds) in
     subst (λ (s : State). LiveFollows (live_change_of step.effect.change) old.clients s.clients) (sym step.state)
-    (live_by_effect (length journal.entries) entry step.effect old holds then
+    (live_by_effect (length journal.entries) step.effect old holds then
     (allowed_ready journal old entry step.effect holds.sound holds.singles step.allowed))
 
 -- So do calls: one that confirms a client, by the client that it names.
@@ -234,10 +235,9 @@ same_clients registry = record {
   last_value = refl;
 }
 
-pub Revocations-follow : RevocationsFollow
-Revocations-follow journal old new revoke lawful step =
+pub Events-follow : MarksKeepClients → EventsFollow
+Events-follow law journal old new (events.Expire expire) other lawful step = absurd other
+Events-follow law journal old new (events.Revoke revoke) other lawful step =
     subst (HaveSameClients old.clients) (sym (revoked_clients journal old revoke new step)) (same_clients old.clients)
-
-pub Paths-follow : MarksKeepClients → PathsFollow
-Paths-follow law journal old new path lawful step =
+Events-follow law journal old new (events.Path path) other lawful step =
     subst (HaveSameClients old.clients) (sym (marked_clients journal old path new step)) (law path.client (mark_of path.up) old.clients).same

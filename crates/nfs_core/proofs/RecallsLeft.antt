@@ -3,9 +3,11 @@ use Rattle.std.proofs.Common.{◌≡◌, ℕ, zero, suc, ◌+◌, ◌≤◌, Lis
 use mathlib.Core.List.{IsPrefix}
 use Rattle.std.specs.Prelude.{IfNone, IfOk, IfSome, OnErr}
 use Rattle.nfs_core.proofs.Journals.{Allows-once, Step-once}
+use Rattle.nfs_core.specs.Events.{entry_by}
+use Rattle.nfs_core.specs.declared.event.Event.{Event}
+use Rattle.nfs_core.specs.declared.event.Event.TheVariants as events
 use Rattle.nfs_core.specs.Lawful.{Leads}
 use Rattle.nfs_core.specs.Recalls.{AreLeftOf, AreOneList, OthersRecallNothing, Recalls, RecallsBegin, RecallsFollow, RecallsLeft, RoomyRecalls, left_of, recalls_by, with_more}
-use Rattle.nfs_core.specs.Revoking.{IsRevoked, revoke_of}
 use Rattle.nfs_core.specs.Server.{AreAlike, Enters, IsLawful, Server}
 use Rattle.nfs_core.specs.Step.{Allows}
 use Rattle.nfs_rpc.specs.declared.recall.Recall.{Recall}
@@ -31,7 +33,7 @@ Recalls-append once journal old mid [] entry effect recalls leads none allowed =
     )
 Recalls-append once journal old mid (first ∷ entries) entry effect recalls leads makes allowed =
     let next = with_entry first journal in
-    let led = after (length journal.entries) first makes.0 old in
+    let led = after (length journal.entries) makes.0 old in
     let same : leads.0 ≡ led = Step-once once journal old first leads.0 led leads.1 (record { below = leads.1.below; effect = makes.0; allowed = makes.2; state = refl }) in
     let rest : Leads next led entries mid = subst (λ (s : State). Leads next s entries mid) same leads.2 in
     let from_mid : List Entry → Type 0 = λ es. Allows (record journal { entries = es }) mid entry effect in
@@ -53,9 +55,9 @@ Recalls-same once journal old [] recalls recalls' is is' = is ∙ sym is'
 Recalls-same once journal old (entry ∷ entries) recalls recalls' is is' =
     let same : is.0 ≡ is'.0 = Allows-once once journal old entry is.0 is'.0 is.2 is'.2 in
     let next = with_entry entry journal in
-    let rest : Recalls next (after (length journal.entries) entry is'.0 old) entries is.1 = subst (λ (e : Effect). Recalls next (after (length journal.entries) entry e old) entries is.1) same is.3 in
+    let rest : Recalls next (after (length journal.entries) is'.0 old) entries is.1 = subst (λ (e : Effect). Recalls next (after (length journal.entries) e old) entries is.1) same is.3 in
     is.4 ∙ ap (λ (e : Effect). recalls_by e.change old ++ is.1) same
-    ∙ ap (λ (rs : List Recall). recalls_by is'.0.change old ++ rs) (Recalls-same once next (after (length journal.entries) entry is'.0 old) entries is.1 is'.1 rest is'.3)
+    ∙ ap (λ (rs : List Recall). recalls_by is'.0.change old ++ rs) (Recalls-same once next (after (length journal.entries) is'.0 old) entries is.1 is'.1 rest is'.3)
     ∙ sym is'.4
 
 -- the recalls of a journal are one list
@@ -72,8 +74,8 @@ Recalls-begins once journal old [] more recalls recalls' is is' = (recalls', ap 
 Recalls-begins once journal old (entry ∷ entries) more recalls recalls' is is' =
     let same : is.0 ≡ is'.0 = Allows-once once journal old entry is.0 is'.0 is.2 is'.2 in
     let next = with_entry entry journal in
-    let rest : Recalls next (after (length journal.entries) entry is'.0 old) entries is.1 = subst (λ (e : Effect). Recalls next (after (length journal.entries) entry e old) entries is.1) same is.3 in
-    let begin = begins_behind (recalls_by is'.0.change old) is.1 is'.1 (Recalls-begins once next (after (length journal.entries) entry is'.0 old) entries more is.1 is'.1 rest is'.3) in
+    let rest : Recalls next (after (length journal.entries) is'.0 old) entries is.1 = subst (λ (e : Effect). Recalls next (after (length journal.entries) e old) entries is.1) same is.3 in
+    let begin = begins_behind (recalls_by is'.0.change old) is.1 is'.1 (Recalls-begins once next (after (length journal.entries) is'.0 old) entries more is.1 is'.1 rest is'.3) in
     subst (λ (rs : List Recall × List Recall). IsPrefix rs.0 rs.1)
     (λ i. (sym (is.4 ∙ ap (λ (e : Effect). recalls_by e.change old ++ is.1) same) i, sym is'.4 i)) begin
 
@@ -132,16 +134,6 @@ pub Left-tried : RecallsFollow → {E : Type 0} (old new : Server) (entry : Entr
 Left-tried follow old new entry (Ok number) lawful was entered same = Left-entered follow old new entry number lawful was entered
 Left-tried follow old new entry (Err error) lawful was entered same = Left-same old new was same
 
--- and in one that took away the next delegation that is due, if one was
-pub Left-revoked : RecallsFollow → {E : Type 0} (old new : Server) (now : ℕ) (result : Result (Option ℕ) E) → IsLawful old → AreLeftOf old.journal old.recalls
-    → IfOk result (IsRevoked old new now) → OnErr result (AreAlike old new)
-    → AreLeftOf new.journal new.recalls
-Left-revoked follow old new now (Ok None) lawful was same alike =
-    subst (λ (s : Server). AreLeftOf s.journal s.recalls) (sym same) was
-Left-revoked follow old new now (Ok (Some number)) lawful was entered alike =
-    Left-entered follow old new (entries.Revoke (revoke_of number now)) (length old.journal.entries) lawful was entered
-Left-revoked follow old new now (Err error) lawful was entered alike = Left-same old new was alike
-
 -- what is left after the first was taken out, if there was one
 pub Left-taken : (journal : History) (old new : RoomyRecalls) (result : Option Recall) → AreLeftOf journal (left_of old)
     → IfNone result ((old.pending ≡ []) × (new ≡ old)) → IfSome result (λ r. old.pending ≡ r ∷ new.pending) → IfSome result (λ r. new.taken ≡ old.taken + 1)
@@ -163,12 +155,8 @@ Left-other old new entry (Ok number) other entered same =
     ∙ ap (λ (rs : List Recall). record old.recalls { pending = rs }) (append-nil old.recalls.pending)
 Left-other old new entry (Err error) other entered same = same.2
 
--- and so does the end of a delegation, if one is due
-pub Left-due : {E : Type 0} (old new : Server) (now : ℕ) (result : Result (Option ℕ) E)
-    → IfOk result (IsRevoked old new now) → OnErr result (AreAlike old new)
-    → new.recalls ≡ old.recalls
-Left-due old new now (Ok None) revoked same = ap (λ (s : Server). s.recalls) revoked
-Left-due {E = E} old new now (Ok (Some number)) revoked same =
-    let entered : Result ℕ E = Ok (length old.journal.entries) in
-    Left-other old new (entries.Revoke (revoke_of number now)) entered refl revoked tt
-Left-due old new now (Err error) revoked same = same.2
+-- an event is no call
+pub event_other : (event : Event) → call_of (entry_by event) ≡ None
+event_other (events.Expire expire) = refl
+event_other (events.Revoke revoke) = refl
+event_other (events.Path path) = refl

@@ -8,8 +8,7 @@ use Rattle.nfs_state.specs.declared.entry.Entry.TheVariants as entries
 use Rattle.nfs_core.specs.Lawful.{Leads, Lawful}
 use Rattle.nfs_core.specs.Safe.{HasKnownLocker, HasKnownOwner, HasLiveClient, HasLiveLocker, IsSafe, KeepsLimits, StandsUnderOpen, bears}
 use Rattle.nfs_rules.specs.entries.Expire.{client_of}
-use Rattle.nfs_state.specs.Changes.{after, files_after, with_owner_change, with_state_change}
-use Rattle.nfs_state.specs.Entries.{data_in}
+use Rattle.nfs_state.specs.Changes.{after, with_owner_change}
 use Rattle.nfs_state.specs.State.{State, History, empty_server}
 use Rattle.nfs_core.specs.Step.{Allows, Step}
 use Rattle.nfs_state.specs.Entries.{with_entry}
@@ -17,12 +16,12 @@ use Rattle.nfs_core.proofs.SafeFiles.{locks_at}
 use Rattle.nfs_core.proofs.SafeLists.{all_replicate, all_weaken, any_found}
 use Rattle.nfs_core.proofs.Sound.{AreNumbered, HasSoundLocks, IsKnownIn, IsLockerKnownIn, IsSound, StandsUnder, OpensStay}
 use Rattle.nfs_core.proofs.SoundClients.{HasSingles, alone, are_records, one_of_client, singles_after, singles_empty, singles_owned}
-use Rattle.nfs_core.proofs.SoundDelegations.{HasSoundDelegations, StayApart, StaySingle, delegations_changed, delegations_empty, delegations_owned, delegations_written}
-use Rattle.nfs_core.proofs.SoundLimits.{FirstRuns, limits_changed, limits_empty, limits_owned, limits_written}
+use Rattle.nfs_core.proofs.SoundDelegations.{HasSoundDelegations, StayApart, StaySingle, delegations_changed, delegations_empty, delegations_owned}
+use Rattle.nfs_core.proofs.SoundLimits.{FirstRuns, limits_changed, limits_empty, limits_owned}
 use Rattle.nfs_core.proofs.SoundLocks.{LocksStay}
 use Rattle.nfs_core.proofs.SoundNumbers.{HasNumbers, numbered_after, numbered_empty, numbers_differ, numbers_given}
 use Rattle.nfs_core.proofs.SoundOrder.{HasOrder, order_after, order_empty}
-use Rattle.nfs_core.proofs.SoundOwners.{HasOnes, ones_changed, ones_empty, ones_owned, ones_written}
+use Rattle.nfs_core.proofs.SoundOwners.{HasOnes, ones_changed, ones_empty, ones_owned}
 use Rattle.nfs_core.proofs.SoundRules.{ruled_ready}
 use Rattle.nfs_core.proofs.SoundSequences.{live_owner}
 use Rattle.nfs_core.proofs.SoundSteps.{IsEffectReady, sound_after, sound_owner}
@@ -98,26 +97,24 @@ pub record Laws : Type 0 where
   pub single : StaySingle
   pub runs : FirstRuns
 
-holds_after : Laws → (number : ℕ) (entry : Entry) (effect : Effect) (old : State) → IsEffectReady number old effect → Holds old → Holds (after number entry effect old)
-holds_after laws number entry effect old ready holds =
+holds_after : Laws → (number : ℕ) (effect : Effect) (old : State) → IsEffectReady number old effect → Holds old → Holds (after number effect old)
+holds_after laws number effect old ready holds =
     let mid = with_owner_change effect.owner number old in
-    let changed = with_state_change effect.change mid in
-    let files = files_after (data_in entry) effect.change changed.files in
     record {
-      sound = sound_after laws.opens laws.locks number entry effect old ready holds.sound;
-      numbered = numbered_after number entry effect old holds.numbered;
-      ones = ones_written files changed (ones_changed effect.change mid ready.1 (ones_owned effect.owner number old holds.ones));
-      delegations = delegations_written files changed (delegations_changed laws.apart laws.single effect.change mid ready.1
-          (sound_owner laws.opens effect.owner number old ready.0 holds.sound) (delegations_owned laws.apart effect.owner number old holds.delegations));
-      order = order_after number entry effect old holds.numbered holds.order;
+      sound = sound_after laws.opens laws.locks number effect old ready holds.sound;
+      numbered = numbered_after number effect old holds.numbered;
+      ones = ones_changed effect.change mid ready.1 (ones_owned effect.owner number old holds.ones);
+      delegations = delegations_changed laws.apart laws.single effect.change mid ready.1
+          (sound_owner laws.opens effect.owner number old ready.0 holds.sound) (delegations_owned laws.apart effect.owner number old holds.delegations);
+      order = order_after number effect old holds.numbered holds.order;
       singles = singles_after effect.change mid ready.1 (singles_owned effect.owner number old holds.singles);
-      within = limits_written files changed (limits_changed laws.runs effect.change mid ready.1 (limits_owned effect.owner number old ready.0 holds.within));
+      within = limits_changed laws.runs effect.change mid ready.1 (limits_owned effect.owner number old ready.0 holds.within);
     }
 
 pub holds_step : Laws → (journal : History) (old : State) (entry : Entry) (new : State) → Step journal old entry new → Holds old → Holds new
 holds_step laws journal old entry new step holds =
     subst Holds (sym step.state)
-    (holds_after laws (length journal.entries) entry step.effect old (allowed_ready journal old entry step.effect holds.sound holds.singles step.allowed) holds)
+    (holds_after laws (length journal.entries) step.effect old (allowed_ready journal old entry step.effect holds.sound holds.singles step.allowed) holds)
 
 pub holds_leads : Laws → (journal : History) (old new : State) (entries : List Entry) → Leads journal old entries new → Holds old → Holds new
 holds_leads laws journal old new [] leads holds = subst Holds (sym leads) holds

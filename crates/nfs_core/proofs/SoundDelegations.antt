@@ -30,7 +30,6 @@ use Rattle.nfs_share.specs.declared.delegation.FileUse.TheVariants as uses
 use Rattle.nfs_share.specs.declared.open_state.OpenState.{OpenState}
 use Rattle.nfs_share.specs.declared.share.Share.{Share}
 use Rattle.nfs_state.specs.Changes.{with_open, with_owner_change, with_state_change}
-use Rattle.nfs_state.specs.Files.{FileState}
 use Rattle.nfs_state.specs.State.{State, empty_server}
 use Rattle.nfs_state.specs.declared.change.Change.{Change}
 use Rattle.nfs_state.specs.declared.change.Change.TheVariants as changes
@@ -273,10 +272,6 @@ delegations_changed law single (changes.MarksPath client path) old ready sound h
   live = live_still old.clients.confirmed (map (after_mark client path) old.clients.confirmed) old.delegations (λ c live. marked_live client path c old.clients.confirmed live) h.live;
 }
 delegations_changed law single change old ready sound h = record { apart = h.apart; single = h.single; live = h.live }
-
--- The files' bytes are no part of it.
-pub delegations_written : (files : List FileState) (old : State) → HasSoundDelegations old → HasSoundDelegations (record old { files = files })
-delegations_written files old h = record { apart = h.apart; single = h.single; live = h.live }
 
 -- A server to which no client has come has none.
 

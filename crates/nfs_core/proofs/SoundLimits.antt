@@ -38,7 +38,6 @@ use Rattle.nfs_share.specs.declared.share.Share.{Share}
 use Rattle.nfs_state.specs.Changes.{with_grant, with_open, with_owner_change, with_state_change}
 use Rattle.nfs_state.specs.Owners.{KnownOwner, has_name, with_kept_entry, with_record, without_owner}
 use Rattle.nfs_state.specs.Places.{has_state_place, state_count}
-use Rattle.nfs_state.specs.Files.{FileState}
 use Rattle.nfs_state.specs.State.{State, empty_server}
 use Rattle.nfs_state.specs.declared.change.Change.{Change}
 use Rattle.nfs_state.specs.declared.change.Change.TheVariants as changes
@@ -254,10 +253,6 @@ limits_changed first_runs change old ready h = record {
   clients = clients_changed change old ready h.clients;
   runs = runs_changed first_runs change old ready h.runs;
 }
-
--- The files' bytes are no part of it.
-pub limits_written : (files : List FileState) (old : State) → KeepsLimits old → KeepsLimits (record old { files = files })
-limits_written files old h = record { states = h.states; owners = h.owners; clients = h.clients; runs = h.runs }
 
 pub limits_owned : (change : OwnerChange) (number : ℕ) (old : State) → IsOwnerReady change old → KeepsLimits old → KeepsLimits (with_owner_change change number old)
 limits_owned change number old ready h = record {

@@ -21,15 +21,12 @@ use Rattle.nfs_share.specs.declared.delegation.DelegationKind.{DelegationKind}
 use Rattle.nfs_share.specs.declared.delegation.FileUse.{FileUse}
 use Rattle.nfs_share.specs.declared.open_state.OpenState.{OpenState}
 use Rattle.nfs_share.specs.declared.share.Share.{Share}
-use Rattle.nfs_state.specs.Entries.{data_in}
-use Rattle.nfs_state.specs.Files.{FileState}
-use Rattle.nfs_state.specs.Changes.{after, files_after, last_state_after, with_grant, with_open, with_owner_change, with_state_change, without_client}
+use Rattle.nfs_state.specs.Changes.{after, last_state_after, with_grant, with_open, with_owner_change, with_state_change, without_client}
 use Rattle.nfs_state.specs.Room.{HasGivenNumbers}
 use Rattle.nfs_state.specs.State.{State, empty_server}
 use Rattle.nfs_state.specs.declared.change.Change.{Change}
 use Rattle.nfs_state.specs.declared.change.Change.TheVariants as changes
 use Rattle.nfs_state.specs.declared.effect.Effect.{Effect}
-use Rattle.nfs_state.specs.declared.entry.Entry.{Entry}
 use Rattle.nfs_state.specs.declared.owner_change.OwnerChange.{OwnerChange}
 use Rattle.nfs_state.specs.declared.owner_change.OwnerChange.TheVariants as owner_changes
 use Rattle.nfs_tree.specs.Tree.{node_count}
@@ -205,7 +202,7 @@ weight_changed w (changes.Returns node number) old =
     let here = delegations_of node old.delegations in
     let fewer = lent_without w (is_delegation_numbered number) here in
     omega (arith, sum_lent_set (of_lent w) 0 (without_lent (is_delegation_numbered number) here) node old.delegations (omega (arith, fewer)))
-weight_changed w (changes.Writes node offset) old = omega arith
+weight_changed w (changes.Writes node offset bytes) old = omega arith
 weight_changed w (changes.MarksPath client path) old = omega arith
 
 -- A delegation that is lent adds the number after that.
@@ -279,17 +276,10 @@ numbered_owned change number old h n =
     subst (λ last. IsOnce last n (weight (is_one n) (with_owner_change change number old))) (sym (last_owned change number old))
     (once_less old.last_state n (weight (is_one n) old) (weight (is_one n) (with_owner_change change number old)) (weight_owned (is_one n) change number old) (h n))
 
--- The files' bytes are no part of it.
-numbered_written : (files : List FileState) (old : State) → HasNumbers old → HasNumbers (record old { files = files })
-unfolding HasNumbers
-numbered_written files old h = h
-
 -- an entry with any effect
-pub numbered_after : (number : ℕ) (entry : Entry) (effect : Effect) (old : State) → HasNumbers old → HasNumbers (after number entry effect old)
-numbered_after number entry effect old h =
-    let changed = with_state_change effect.change (with_owner_change effect.owner number old) in
-    numbered_written (files_after (data_in entry) effect.change changed.files) changed
-    (numbered_changed effect.change (with_owner_change effect.owner number old) (numbered_owned effect.owner number old h))
+pub numbered_after : (number : ℕ) (effect : Effect) (old : State) → HasNumbers old → HasNumbers (after number effect old)
+numbered_after number effect old h =
+    numbered_changed effect.change (with_owner_change effect.owner number old) (numbered_owned effect.owner number old h)
 
 pub numbered_empty : (nodes : List Node) → HasNumbers (empty_server nodes)
 unfolding HasNumbers

@@ -16,7 +16,6 @@ use Rattle.nfs_state.specs.State.{State, empty_server}
 use Rattle.nfs_state.specs.declared.change.Change.{Change}
 use Rattle.nfs_state.specs.declared.change.Change.TheVariants as changes
 use Rattle.nfs_state.specs.declared.effect.Effect.{Effect}
-use Rattle.nfs_state.specs.declared.entry.Entry.{Entry}
 use Rattle.nfs_state.specs.declared.owner_change.OwnerChange.{OwnerChange}
 use Rattle.nfs_state.specs.declared.owner_change.OwnerChange.TheVariants as owner_changes
 use Rattle.nfs_tree.specs.Tree.{node_count}
@@ -67,8 +66,8 @@ order_owned owner_changes.Nothing number old h = h
 order_owned change number old h = h
 
 -- an entry with any effect
-pub order_after : (number : ℕ) (entry : Entry) (effect : Effect) (old : State) → HasNumbers old → HasOrder old → HasOrder (after number entry effect old)
-order_after number entry effect old numbered h =
+pub order_after : (number : ℕ) (effect : Effect) (old : State) → HasNumbers old → HasOrder old → HasOrder (after number effect old)
+order_after number effect old numbered h =
     order_changed effect.change (with_owner_change effect.owner number old) (numbered_owned effect.owner number old numbered)
     (order_owned effect.owner number old h)
 

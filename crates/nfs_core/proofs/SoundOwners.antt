@@ -25,7 +25,6 @@ use Rattle.nfs_share.specs.declared.delegation.DelegationKind.{DelegationKind}
 use Rattle.nfs_share.specs.declared.open_state.OpenState.{OpenState}
 use Rattle.nfs_share.specs.declared.share.Share.{Share}
 use Rattle.nfs_state.specs.Changes.{with_grant, with_open, with_owner_change, with_state_change}
-use Rattle.nfs_state.specs.Files.{FileState}
 use Rattle.nfs_state.specs.State.{State, empty_server}
 use Rattle.nfs_state.specs.declared.change.Change.{Change}
 use Rattle.nfs_state.specs.declared.change.Change.TheVariants as changes
@@ -160,10 +159,6 @@ ones_changed (changes.Expires client) old ready h = record {
   locks = locks_dropped (is_lock_of_client client) old h;
 }
 ones_changed change old ready h = record { opens = h.opens; locks = h.locks }
-
--- The files' bytes are no part of it.
-pub ones_written : (files : List FileState) (old : State) → HasOnes old → HasOnes (record old { files = files })
-ones_written files old h = record { opens = h.opens; locks = h.locks }
 
 -- So does what an entry means for an owner.
 pub ones_owned : (change : OwnerChange) (number : ℕ) (old : State) → HasOnes old → HasOnes (with_owner_change change number old)

@@ -445,5 +445,5 @@ ruled_ready number journal state (ops.ReleaseLockowner args) request d same soun
 ruled_ready number journal state (ops.Read args) request d same sound is =
     as_decided number state d _ is (each_read (IsReady number state) journal state request args (λ refusal. (tt, tt)) (λ node. (tt, tt)) (λ node. (tt, tt)))
 ruled_ready number journal state (ops.Write args) request d same sound is =
-    as_decided number state d _ is (each_write (IsReady number state) journal state request args (λ refusal. (tt, tt)) (λ node. (tt, tt)) (tt, tt) (λ node short. (tt, tt)))
+    as_decided number state d _ is (each_write (IsReady number state) journal state request args (λ refusal. (tt, tt)) (λ node. (tt, tt)) (tt, tt) (λ node short. (tt, short)))
 ruled_ready number journal state op request d same sound is = absurd cc

@@ -6,14 +6,11 @@ use Rattle.nfs_state.specs.declared.change.Change.{Change}
 use Rattle.nfs_state.specs.declared.change.Change.TheVariants as changes
 use Rattle.nfs_rules.specs.declared.decision.Decision.{Decision}
 use Rattle.nfs_state.specs.declared.effect.Effect.{Effect}
-use Rattle.nfs_state.specs.declared.entry.Entry.{Entry}
 use Rattle.nfs_state.specs.declared.owner_change.OwnerChange.{OwnerChange}
 use Rattle.nfs_state.specs.declared.owner_change.OwnerChange.TheVariants as owner_changes
 use Rattle.nfs_state.specs.Owners.{KnownOwner, has_name, is_confirmed, with_confirmation, with_kept_entry, with_record, without_owner}
-use Rattle.nfs_state.specs.Changes.{after, files_after, last_state_after, with_grant, with_open, with_owner_change, with_state_change}
+use Rattle.nfs_state.specs.Changes.{after, last_state_after, with_grant, with_open, with_owner_change, with_state_change}
 use Rattle.nfs_state.specs.Changes as state_changes
-use Rattle.nfs_state.specs.Entries.{data_in}
-use Rattle.nfs_state.specs.Files.{FileState}
 use Rattle.nfs_state.specs.Places.{has_state_place}
 use Rattle.nfs_state.specs.State.{State}
 use Rattle.nfs_core.proofs.SafeFiles.{lists_at, set_lists}
@@ -43,6 +40,7 @@ use Rattle.nfs_share.specs.Delegations.{can_delegate, has_conflict}
 use Rattle.nfs_share.specs.declared.delegation.DelegationKind.{DelegationKind}
 use Rattle.nfs_share.specs.declared.delegation.FileUse.TheVariants as uses
 use Rattle.nfs_share.specs.declared.share.Share.{Share}
+use Rattle.nfs_tree.specs.declared.tree.TheConstants.{TEXT_LIMIT}
 use Rattle.nfs_share.specs.Laws.{AllAreCompatible}
 use Rattle.nfs_share.specs.Opens.{after_downgrade, is_numbered, is_refused, open_of, with_each, with_next_seqid, with_opening, without}
 
@@ -92,8 +90,8 @@ MayOpen node owner share lent state =
 
 -- The owner of an open is known, and its OPEN may come next. The owner of a lock state that begins is known, an open of the
 -- node is there for it, the bytes are free for it, it has no lock state of the file, and there is a place for one; those of
--- another change are free for the owner of a lock state with the number, and leave its runs within the limit. A client that
--- expires is live, and no other has its number.
+-- another change are free for the owner of a lock state with the number, and leave its runs within the limit. What is written
+-- ends within the limit of a file. A client that expires is live, and no other has its number.
 abbrev pub IsChangeReady : Change → State → Type 0
 IsChangeReady (changes.Clients change) state = IsClientReady change state.clients
 IsChangeReady (changes.Opens node owner share lent) state =
@@ -109,6 +107,7 @@ IsChangeReady (changes.Locks node number change) state =
     × (is_some (find (λ l. locks.is_numbered number l && is_lock_of owner l) (locks_of node state.locks)) ≡ true)
     × IsFreeFor owner change (locks_of node state.locks)
     × (is_full_for number change (locks_of node state.locks) ≡ false)
+IsChangeReady (changes.Writes node offset bytes) state = offset + length bytes ≤ TEXT_LIMIT
 IsChangeReady (changes.Expires client) state =
     (is_live_in state.clients.confirmed client ≡ true) × AllByRecursion (IsAloneOf client) state.clients.confirmed
 IsChangeReady change state = ⊤
@@ -336,7 +335,13 @@ sound_changed law lock_law (changes.Returns node number) old ready sound = recor
   single = sound.single;
   locks = sound.locks;
 }
-sound_changed law lock_law (changes.Writes node offset) old ready sound = sound
+sound_changed law lock_law (changes.Writes node offset bytes) old ready sound = record {
+  live = sound.live;
+  known = sound.known;
+  compatible = sound.compatible;
+  single = sound.single;
+  locks = sound.locks;
+}
 sound_changed law lock_law (changes.MarksPath client path) old ready sound = record {
   live = live_marked client path old.clients.confirmed old.owners sound.live;
   known = sound.known;
@@ -345,20 +350,8 @@ sound_changed law lock_law (changes.MarksPath client path) old ready sound = rec
   locks = sound.locks;
 }
 
--- The files' bytes are no part of it.
-sound_written : (files : List FileState) (old : State) → IsSound old → IsSound (record old { files = files })
-sound_written files old sound = record {
-  live = sound.live;
-  known = sound.known;
-  compatible = sound.compatible;
-  single = sound.single;
-  locks = sound.locks;
-}
-
 -- an entry keeps the state sound
-pub sound_after : OpensStay → LocksStay → (number : ℕ) (entry : Entry) (effect : Effect) (old : State) → IsEffectReady number old effect → IsSound old → IsSound (after number entry effect old)
-sound_after law lock_law number entry effect old ready sound =
-    let changed = with_state_change effect.change (with_owner_change effect.owner number old) in
-    sound_written (files_after (data_in entry) effect.change changed.files) changed
-    (sound_changed law lock_law effect.change (with_owner_change effect.owner number old) ready.1
-    (sound_owner law effect.owner number old ready.0 sound))
+pub sound_after : OpensStay → LocksStay → (number : ℕ) (effect : Effect) (old : State) → IsEffectReady number old effect → IsSound old → IsSound (after number effect old)
+sound_after law lock_law number effect old ready sound =
+    sound_changed law lock_law effect.change (with_owner_change effect.owner number old) ready.1
+    (sound_owner law effect.owner number old ready.0 sound)

@@ -45,11 +45,11 @@ made journal args change = record { answer = results.Write (Done (writes.answer_
 -- each decision of a WRITE
 pub each_write : (P : Decision → Type 0) (journal : History) (state : State) (request : Request) (args : Write)
     → ((refusal : Refusal) → P (refused transfers.Write refusal)) → ((node : ℕ) → P (delayed transfers.Write request.moment node))
-    → P (made journal args changes.Nothing) → ((node : ℕ) → args.offset + length args.bytes ≤ TEXT_LIMIT → P (made journal args (changes.Writes node args.offset)))
+    → P (made journal args changes.Nothing) → ((node : ℕ) → args.offset + length args.bytes ≤ TEXT_LIMIT → P (made journal args (changes.Writes node args.offset args.bytes)))
     → P (writes.writing journal args (file_for transfers.Write journal state request args.stateid))
 each_write P journal state request args refusal_holds delay_holds nothing_holds write_holds =
     each_file (λ r. P (writes.writing journal args r)) transfers.Write journal state request (permitted transfers.Write journal state request.filehandle args.stateid) args.stateid
     refusal_holds delay_holds λ node.
     cond_both (nat_lt TEXT_LIMIT (args.offset + length args.bytes)) (refused transfers.Write refusals.FBig) (writes.written journal args node) P (λ _. refusal_holds refusals.FBig)
-    (λ short. cond_both (length args.bytes == 0) changes.Nothing (changes.Writes node args.offset) (λ change. P (made journal args change)) (λ _. nothing_holds)
+    (λ short. cond_both (length args.bytes == 0) changes.Nothing (changes.Writes node args.offset args.bytes) (λ change. P (made journal args change)) (λ _. nothing_holds)
     (λ _. write_holds node (ltb-false TEXT_LIMIT (args.offset + length args.bytes) short)))

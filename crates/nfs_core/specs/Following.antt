@@ -1,14 +1,14 @@
 -- What may come next in a journal, as it is judged before it is entered.
 use Rattle.std.specs.Prelude.{ℕ, ◌<◌, ◌≤◌, ◌*◌, IsTrue, List, length, Some}
 use Rattle.std.specs.List.{AllByRecursion}
-use Rattle.nfs_core.specs.Expiry.{MayEnd}
+use Rattle.nfs_core.specs.Events.{MayHappen}
 use Rattle.nfs_core.specs.Server.{Server}
 use Rattle.nfs_core.specs.Step.{Allows}
+use Rattle.nfs_core.specs.declared.event.Event.{Event}
+use Rattle.nfs_core.specs.declared.event.Event.TheVariants as events
 use Rattle.nfs_core.specs.declared.following.FollowError.{FollowError}
 use Rattle.nfs_core.specs.declared.following.FollowError.TheVariants as errors
 use Rattle.nfs_rules.specs.declared.decision.Decision.{Decision}
-use Rattle.nfs_rules.specs.entries.Expire.{is_live}
-use Rattle.nfs_rules.specs.entries.Revoke.{IsRevocation}
 use Rattle.nfs_rules.specs.operations.{IsRuled}
 use Rattle.nfs_state.specs.declared.effect.Effect.{Effect}
 use Rattle.nfs_state.specs.declared.entry.Entry.{Entry}
@@ -59,21 +59,20 @@ MayBeAnswered journal old request =
     (length journal.entries < JOURNAL_LIMIT)
     × ((decision : Decision) × IsRuled request.op journal old request (Some decision))
 
+-- The event may happen, and the journal isn't full.
+abbrev pub MayBeEntered : Server → Event → Type 0
+MayBeEntered server event =
+    MayHappen server event × (length server.journal.entries < JOURNAL_LIMIT)
+
 -- As far as an entry can be judged without the answer that it has, it may come next: a call can be asked, and may be
--- answered; a client whose end it is may end, a delegation that is taken away is the next one that may be, a client whose
--- path is marked is live, and the journal isn't full.
+-- answered; an event may be entered.
 abbrev pub MayFollow : Server → Entry → Type 0
 MayFollow server (entries.Call call) =
     CanBeAsked server.journal call.request
     × MayBeAnswered server.journal (meaning server.stored) call.request
-MayFollow server (entries.Expire expire) =
-    MayEnd server expire × (length server.journal.entries < JOURNAL_LIMIT)
-MayFollow server (entries.Revoke revoke) =
-    ((effect : Effect) × IsRevocation server.journal (meaning server.stored) revoke effect)
-    × (length server.journal.entries < JOURNAL_LIMIT)
-MayFollow server (entries.Path path) =
-    IsTrue (is_live server.journal (meaning server.stored) path.client)
-    × (length server.journal.entries < JOURNAL_LIMIT)
+MayFollow server (entries.Expire expire) = MayBeEntered server (events.Expire expire)
+MayFollow server (entries.Revoke revoke) = MayBeEntered server (events.Revoke revoke)
+MayFollow server (entries.Path path) = MayBeEntered server (events.Path path)
 
 -- Where a limit would be passed, no entry may come next.
 abbrev pub error_of : Shortage → FollowError

@@ -6,8 +6,6 @@ pub mod Server
 pub mod Entered
 pub mod CoreError
 pub mod Following
-pub mod Expiry
+pub mod Events
 pub mod LiveClients
-pub mod Revoking
-pub mod PathMarking
 pub mod Callbacks

@@ -1,7 +1,9 @@
 -- Which clients are live, and how entries of the journal change it (RFC 7530, sections 9.1.1, 9.6 and 16.34.5).
 use Rattle.std.specs.Prelude.{◌≡◌, ℕ, ⊤, not, ◌&&◌, ◌==◌, IsFalse, IsTrue, Option, Some, None, option_and_then}
+use Rattle.nfs_core.specs.Events.{EndsNoClient, entry_by}
 use Rattle.nfs_core.specs.Lawful.{Lawful}
 use Rattle.nfs_core.specs.Step.{Step}
+use Rattle.nfs_core.specs.declared.event.Event.{Event}
 use Rattle.nfs_owners.specs.ClientLaws.{HaveSameClients}
 use Rattle.nfs_owners.specs.LiveChange.{is_live_after}
 use Rattle.nfs_owners.specs.LiveClients.{can_become_live, replaced_by}
@@ -15,8 +17,6 @@ use Rattle.nfs_state.specs.State.{State, History}
 use Rattle.nfs_state.specs.declared.entry.Entry.{Entry}
 use Rattle.nfs_state.specs.declared.entry.Entry.TheVariants as entries
 use Rattle.nfs_state.specs.declared.entry.Expire.{Expire}
-use Rattle.nfs_state.specs.declared.entry.Path.{Path}
-use Rattle.nfs_state.specs.declared.entry.Revoke.{Revoke}
 use Rattle.nfs_state.specs.declared.request.Request.{Request}
 use Rattle.nfs_xdr.specs.declared.op.Op.{Op}
 use Rattle.nfs_xdr.specs.declared.op.Op.TheVariants as ops
@@ -99,17 +99,11 @@ EndsFollow =
     → Step journal old (entries.Expire expire) new
     → LiveEnd expire.client old.clients new.clients
 
--- a revocation leaves the clients as they are, and so does a mark of a path
-abbrev pub RevocationsFollow : Type 0
-RevocationsFollow =
-    (journal : History) (old new : State) (revoke : Revoke)
+-- an event that ends no client leaves the clients as they are, but for the marks of their paths
+abbrev pub EventsFollow : Type 0
+EventsFollow =
+    (journal : History) (old new : State) (event : Event)
+    → EndsNoClient event
     → Lawful journal old
-    → Step journal old (entries.Revoke revoke) new
-    → HaveSameClients old.clients new.clients
-
-abbrev pub PathsFollow : Type 0
-PathsFollow =
-    (journal : History) (old new : State) (path : Path)
-    → Lawful journal old
-    → Step journal old (entries.Path path) new
+    → Step journal old (entry_by event) new
     → HaveSameClients old.clients new.clients

@@ -62,7 +62,7 @@ Recalls journal old [] recalls = recalls ≡ []
 Recalls journal old (entry ∷ entries) recalls =
     (effect : Effect) × (rest : List Recall)
     × Allows journal old entry effect
-    × Recalls (with_entry entry journal) (after (length journal.entries) entry effect old)
+    × Recalls (with_entry entry journal) (after (length journal.entries) effect old)
     entries rest
     × (recalls ≡ recalls_by effect.change old ++ rest)
 

@@ -36,7 +36,7 @@ pub record Step (journal : History) (old : State) (entry : Entry) (new : State) 
   pub below : length journal.entries < JOURNAL_LIMIT
   pub effect : Effect
   pub allowed : Allows journal old entry effect
-  pub state : new ≡ after (length journal.entries) entry effect old
+  pub state : new ≡ after (length journal.entries) effect old
 
 -- For one journal, state and request there is at most one answer, and at most one state after it.
 abbrev pub AtMostOneStep : Type 0

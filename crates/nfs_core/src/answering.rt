@@ -1,55 +1,24 @@
-//! Answering a request, and entering it in the journal.
+//! Entering a request with its answer in the journal.
 
-ghost use Rattle.std.specs.Prelude.{◌≡◌, ◌≤◌, IfErr, IfOk, IsErrOf, OnErr};
-ghost use Rattle.nfs_core.specs.Following.{CanBeAsked, IsNext, MayBeAnswered, StoreAgrees};
+ghost use Rattle.std.specs.Prelude.{◌≡◌, ◌≤◌, IfErr, IfOk, OnErr};
+ghost use Rattle.nfs_core.specs.Following.{IsNext, StoreAgrees};
 ghost use Rattle.nfs_core.specs.Entered.{IsEntered};
-ghost use Rattle.nfs_core.specs.Step.{HasNoAnswer};
 ghost use Rattle.nfs_core.specs.Server.{AreAlike, server_of};
-ghost use Rattle.nfs_state.specs.Entries.{IsSendable, entry_of};
+ghost use Rattle.nfs_state.specs.Entries.{entry_of};
 ghost use Rattle.nfs_state.specs.Room.{state_of};
 ghost use Rattle.nfs_state.specs.Store.{OwnersAgree};
 
 use crate::Entered;
 use crate::committing::commit;
-use crate::following::decide_next;
 use crate::holdings::Holdings;
-use nfs_rules::{Decision, at_most_one_decision};
+use nfs_rules::Decision;
 use nfs_state::{Call, Entry, Request, Shortage, copy_of_answer};
 use nfs_xdr::OpResult;
 use std::alloc::Global;
 
-/// Answers the request and enters it in the journal. Returns the answer, and what came of it. Fails with Limit only if no
-/// answer may come next, and with Memory only if no limit would be exceeded.
-pub(crate) fn enter(
-    alloc: Global,
-    held: &mut Holdings,
-    request: Request,
-) -> Result<(OpResult, Entered), Shortage>
-    requires asked { CanBeAsked held.old.store.journal.history request }
-    requires stored { StoreAgrees held.old.store }
-    ensures entered { IfOk result (λ r. IsEntered (server_of held.old) (server_of held.new)
-        (entry_of request r.0) r.1) }
-    ensures kept { OwnersAgree held.new.store }
-    ensures sendable { IfOk result (λ r. IsSendable request.op r.0) }
-    ensures limit { IsErrOf result Shortage.Limit
-        → HasNoAnswer held.old.store.journal.history (state_of held.old.store.tables) request }
-    ensures memory { IsErrOf result Shortage.Memory
-        → MayBeAnswered held.old.store.journal.history (state_of held.old.store.tables) request }
-    ensures same { OnErr result (AreAlike (server_of held.old) (server_of held.new)) }
-    ensures room { OnErr result (held.old.store.journal.room ≤ held.new.store.journal.room) }
-{
-    at_most_one_decision();
-    match decide_next(alloc, &held.store, &request) {
-        Ok(decision) => enter_decided(alloc, held, request, decision),
-        Err(shortage) => {
-            drop(request);
-            Err(shortage)
-        }
-    }
-}
-
-// Enters the request with the answer that was decided.
-fn enter_decided(
+/// Enters the request with the answer that was decided, and returns the answer, and what came of it. Fails for want of
+/// memory alone.
+pub(crate) fn enter_decided(
     alloc: Global,
     held: &mut Holdings,
     request: Request,

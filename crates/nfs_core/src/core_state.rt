@@ -2,15 +2,14 @@ ghost use Rattle.std.specs.Prelude.{◌≡◌, ◌↔◌, ◌≤◌, ◌<◌, �
 ghost use Rattle.std.specs.Option.{option_copied};
 ghost use Rattle.nfs_core.specs.Callbacks.{callback_of, has_delegation};
 ghost use Rattle.nfs_core.specs.Entered.{Answers};
-ghost use Rattle.nfs_core.specs.Expiry.{IsNotEndedFor, IsWithoutRoom, expire_of};
+ghost use Rattle.nfs_core.specs.Events.{IsNotEntered, IsNotRevokedFor, IsRevoked, IsWithoutRoom, MayHappen, NoneIsDue, entry_by, expire_of, path_of, revoke_of};
 ghost use Rattle.nfs_core.specs.Following.{MayFollow};
 ghost use Rattle.nfs_core.specs.LiveClients.{AreNumbered, AreOfOneRun};
-ghost use Rattle.nfs_core.specs.PathMarking.{IsNotMarkedFor, path_of};
 ghost use Rattle.nfs_core.specs.Recalls.{AreLeftOf, no_recalls};
-ghost use Rattle.nfs_core.specs.Revoking.{IsNotRevokedFor, IsRevoked, NoneIsDue};
 ghost use Rattle.nfs_core.specs.Safe.{IsSafe, KeepRequests};
 ghost use Rattle.nfs_core.specs.Server.{Applies, AreAlike, Enters, IsLawful};
 ghost use Rattle.nfs_core.specs.Step.{HasNoStep};
+ghost use Rattle.nfs_core.specs.declared.event.Event.TheVariants as events;
 ghost use Rattle.nfs_owners.specs.LiveClients.{IsNextLive, IsNextUnknown, replaced_by};
 ghost use Rattle.nfs_owners.specs.Registry.{is_live};
 ghost use Rattle.nfs_state.specs.Entries.{IsFilehandle, request_of};
@@ -21,20 +20,18 @@ ghost use Rattle.nfs_xdr.specs.Op.{has_entry, opnum_of};
 ghost use Rattle.nfs_xdr.specs.OpResult.{op_result};
 ghost use Rattle.nfs_xdr.specs.Opnum.{answer_limit};
 
-use crate::answering::enter;
-use crate::expiry::enter_expiry;
-use crate::following::follow;
+use crate::answering::enter_decided;
+use crate::entering::enter_event;
+use crate::following::{decide_next, follow};
 use crate::holdings::Holdings;
 use crate::laws::{lawful_is_safe, recalls_follow};
-use crate::path_marking::enter_path_mark;
 use crate::pending_recalls::PendingRecalls;
-use crate::revoking::enter_revocation;
-use crate::{CoreError, Entered, FollowError};
+use crate::{CoreError, Entered, Event, FollowError};
 use nfs_owners::ClientState;
 use nfs_rpc::Recall;
 use nfs_state::{
-    Entry, Expire, JOURNAL_LIMIT, Journal, LEASE_MAX, LEASE_MIN, Moment, Path, Request, Store,
-    Tables,
+    Entry, Expire, JOURNAL_LIMIT, Journal, LEASE_MAX, LEASE_MIN, Moment, Path, Request, Revoke,
+    Store, Tables,
 };
 use nfs_tree::{Policy, Tree};
 use nfs_xdr::{Callback, ClientId, Op, OpResult, Principal, Refusal, Stateid};
@@ -146,12 +143,18 @@ impl Core {
         recalls_follow();
         let opnum = request.op.opnum();
         let held = &mut self.held;
-        match enter(self.alloc, held, request) {
-            Ok((answer, entered)) => {
-                answer.fits();
-                (answer, Some(entered))
+        match decide_next(self.alloc, &held.store, &request) {
+            Ok(decision) => match enter_decided(self.alloc, held, request, decision) {
+                Ok((answer, entered)) => {
+                    answer.fits();
+                    (answer, Some(entered))
+                }
+                Err(_) => (opnum.refusal(Refusal::Resource), None),
+            },
+            Err(_) => {
+                drop(request);
+                (opnum.refusal(Refusal::Resource), None)
             }
-            Err(_) => (opnum.refusal(Refusal::Resource), None),
         }
     }
 
@@ -163,7 +166,7 @@ impl Core {
         self.held.store.journal.set_memory_limit(limit);
     }
 
-    /// Makes room for one more entry, so that `expire`, `revoke` or `mark_path` takes no memory where it comes next.
+    /// Makes room for one more entry, so that `enter` takes no memory where it comes next.
     pub fn prepare(&mut self) -> Result<(), CoreError>
         ensures same { AreAlike self.old self.new }
         ensures room { OnOk result ((0 < self.new.room)
@@ -178,14 +181,13 @@ impl Core {
         Ok(self.held.store.journal.reserve()?)
     }
 
-    /// Removes the client with this number, whose lease was renewed last at `seen` and has run out at `now`, with all that
-    /// it has. Returns the entry's number. Fails, and changes nothing but room, of which there isn't less, if the client
-    /// isn't live, its lease hasn't run out, the journal is full, or memory ran out.
-    pub fn expire(&mut self, client: u32, seen: Moment, now: Moment) -> Result<u32, CoreError>
-        ensures expires { IfOk result (Enters self.old self.new
-            (entries.Expire (expire_of client seen now))) }
+    /// Enters an event in the journal, and returns the entry's number. Fails, and changes nothing but room, of which there
+    /// isn't less, for the first of these reasons that there is: the event's client isn't live (NotLive), its time hasn't
+    /// come (NotDue), the journal is full, or memory ran out.
+    pub fn enter(&mut self, event: Event) -> Result<u32, CoreError>
+        ensures enters { IfOk result (Enters self.old self.new (entry_by event)) }
         ensures recalls { self.new.recalls ≡ self.old.recalls }
-        ensures error { IfErr result (IsNotEndedFor self.old (expire_of client seen now)) }
+        ensures error { IfErr result (IsNotEntered self.old event) }
         ensures same { OnErr result (AreAlike self.old self.new) }
         ensures room { OnErr result (self.old.room ≤ self.new.room) }
         ensures lawful { IsLawful self.new }
@@ -193,12 +195,39 @@ impl Core {
         lawful_is_safe();
         recalls_follow();
         let held = &mut self.held;
-        enter_expiry(self.alloc, held, Expire { client, seen, now })
+        enter_event(self.alloc, held, event)
     }
 
-    /// Takes away the delegation with the least number of those that are due at `now`: called back more than a lease
-    /// before, and not given back. Enters that in the journal, and returns the delegation's number; `None` where none
-    /// is due. Fails only where one is due, with Full before Memory, and so changes nothing but room, of which there
+    /// The delegation with the least number of those that are due at `now`: called back more than a lease before, and not
+    /// given back. None where none is due.
+    pub fn due(&self, now: Moment) -> Option<u32>
+        ensures due { IfSome result (λ number.
+            MayHappen self.now (events.Revoke (revoke_of number now))) }
+        ensures none { result ≡ None ↔ NoneIsDue self.now now }
+    {
+        lawful_is_safe();
+        let store = &self.held.store;
+        let due = store.tables.opens.next_due(0, store.journal.lease(), now)?;
+        Some(due.state.number)
+    }
+
+    /// Removes the client with this number, whose lease was renewed last at `seen` and has run out at `now`, with all that
+    /// it has, as `enter` does.
+    pub fn expire(&mut self, client: u32, seen: Moment, now: Moment) -> Result<u32, CoreError>
+        ensures expires { IfOk result (Enters self.old self.new
+            (entries.Expire (expire_of client seen now))) }
+        ensures recalls { self.new.recalls ≡ self.old.recalls }
+        ensures error { IfErr result
+            (IsNotEntered self.old (events.Expire (expire_of client seen now))) }
+        ensures same { OnErr result (AreAlike self.old self.new) }
+        ensures room { OnErr result (self.old.room ≤ self.new.room) }
+        ensures lawful { IsLawful self.new }
+    {
+        self.enter(Event::Expire(Expire { client, seen, now }))
+    }
+
+    /// Takes away the delegation that is due at `now`, if one is, enters that in the journal, and returns the delegation's
+    /// number. Fails only where one is due, with Full before Memory, and so changes nothing but room, of which there
     /// isn't less.
     pub fn revoke(&mut self, now: Moment) -> Result<Option<u32>, CoreError>
         ensures revoked { IfOk result (IsRevoked self.old self.new now) }
@@ -209,31 +238,34 @@ impl Core {
         ensures room { OnErr result (self.old.room ≤ self.new.room) }
         ensures lawful { IsLawful self.new }
     {
-        lawful_is_safe();
-        recalls_follow();
-        let held = &mut self.held;
-        enter_revocation(self.alloc, held, now)
+        match self.due(now) {
+            None => {
+                // For its clause alone: the state is lawful as it is.
+                self.journal();
+                Ok(None)
+            }
+            Some(number) => match self.enter(Event::Revoke(Revoke { number, now })) {
+                Ok(_) => Ok(Some(number)),
+                Err(error) => Err(error),
+            },
+        }
     }
 
-    /// Marks whether callbacks reach the live client with this number, and enters that in the journal. Returns the
-    /// entry's number. Of several errors the first one comes: NotLive, Full, Memory. What fails changes nothing but
-    /// room, of which there isn't less.
+    /// Marks whether callbacks reach the live client with this number, as `enter` does.
     pub fn mark_path(&mut self, client: u32, up: bool) -> Result<u32, CoreError>
         ensures marks { IfOk result (Enters self.old self.new (entries.Path (path_of client up))) }
         ensures recalls { self.new.recalls ≡ self.old.recalls }
-        ensures error { IfErr result (IsNotMarkedFor self.old (path_of client up)) }
+        ensures error { IfErr result
+            (IsNotEntered self.old (events.Path (path_of client up))) }
         ensures same { OnErr result (AreAlike self.old self.new) }
         ensures room { OnErr result (self.old.room ≤ self.new.room) }
         ensures lawful { IsLawful self.new }
     {
-        lawful_is_safe();
-        recalls_follow();
-        let held = &mut self.held;
-        enter_path_mark(self.alloc, held, Path { client, up })
+        self.enter(Event::Path(Path { client, up }))
     }
 
     /// Enters an entry that is handed in, such as one of another server's journal, if it may come next: it is judged as
-    /// `apply`, `expire`, `revoke` and `mark_path` would make it. Returns the entry's number. Fails with NotNext only
+    /// `apply` and `enter` would make it. Returns the entry's number. Fails with NotNext only
     /// if the entry may not come next, and with Memory only if it may as far as it is judged without a call's answer.
     /// What fails changes nothing but room, of which there isn't less.
     pub fn follow(&mut self, entry: Entry) -> Result<u32, FollowError>

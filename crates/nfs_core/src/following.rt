@@ -1,6 +1,7 @@
 //! What may come next in a journal, and entering an entry that is handed in.
 
-ghost use Rattle.std.specs.Prelude.{◌≡◌, ◌≢◌, ◌≤◌, Err, IfOk, IsErrOf, OnErr};
+ghost use Rattle.std.specs.Prelude.{◌≡◌, ◌≤◌, IfOk, IsErrOf, OnErr};
+ghost use Rattle.nfs_core.specs.Events.{entry_by};
 ghost use Rattle.nfs_core.specs.Following.{CanBeAsked, IsNext, MayBeAnswered, MayFollow, StoreAgrees};
 ghost use Rattle.nfs_core.specs.Server.{AreAlike, Enters, server_of};
 ghost use Rattle.nfs_core.specs.Step.{HasNoAnswer, HasNoStep};
@@ -9,13 +10,13 @@ ghost use Rattle.nfs_state.specs.Room.{state_of};
 ghost use Rattle.nfs_state.specs.Store.{OwnersAgree};
 ghost use Rattle.nfs_state.specs.declared.entry.Entry.TheVariants as entries;
 
+use crate::CoreError;
 use crate::committing::commit;
-use crate::expiry::decide_expiry;
+use crate::entering::enter_event;
+use crate::event::Event;
 use crate::holdings::Holdings;
-use crate::path_marking::decide_path_mark;
-use crate::revoking::decide_revocation;
 use nfs_rules::{Decision, at_most_one_decision, decide};
-use nfs_state::{Call, Effect, Entry, Expire, Path, Request, Revoke, Shortage, Store};
+use nfs_state::{Call, Effect, Entry, Request, Shortage, Store};
 use std::alloc::Global;
 
 /// Why an entry that was handed in wasn't entered.
@@ -56,30 +57,55 @@ pub(crate) fn follow(alloc: Global, held: &mut Holdings, entry: Entry) -> Result
     ensures same { OnErr result (AreAlike (server_of held.old) (server_of held.new)) }
     ensures room { OnErr result (held.old.store.journal.room ≤ held.new.store.journal.room) }
 {
-    match effect_of(alloc, held, &entry) {
-        Ok(effect) => Ok(commit(alloc, held, entry, effect)?),
+    match entry {
+        Entry::Call(call) => follow_call(alloc, held, call),
+        Entry::Expire(expire) => follow_event(alloc, held, Event::Expire(expire)),
+        Entry::Revoke(revoke) => follow_event(alloc, held, Event::Revoke(revoke)),
+        Entry::Path(path) => follow_event(alloc, held, Event::Path(path)),
+    }
+}
+
+// Enters a call that is handed in, if it may come next.
+fn follow_call(alloc: Global, held: &mut Holdings, call: Call) -> Result<u32, FollowError>
+    requires { StoreAgrees held.old.store }
+    ensures entered { IfOk result (λ number. Enters (server_of held.old) (server_of held.new)
+        (entries.Call call) number) }
+    ensures kept { OwnersAgree held.new.store }
+    ensures not_next { IsErrOf result FollowError.NotNext
+        → HasNoStep held.old.store.journal.history (state_of held.old.store.tables)
+        (entries.Call call) }
+    ensures memory { IsErrOf result FollowError.Memory
+        → MayFollow (server_of held.old) (entries.Call call) }
+    ensures same { OnErr result (AreAlike (server_of held.old) (server_of held.new)) }
+    ensures room { OnErr result (held.old.store.journal.room ≤ held.new.store.journal.room) }
+{
+    match effect_of_call(alloc, held, &call) {
+        Ok(effect) => Ok(commit(alloc, held, Entry::Call(call), effect)?),
         Err(refused) => {
-            drop(entry);
+            drop(call);
             Err(refused)
         }
     }
 }
 
-// The effect of the entry, if it may come next.
-fn effect_of(alloc: Global, held: &Holdings, entry: &Entry) -> Result<Effect, FollowError>
-    requires { StoreAgrees held.now.store }
-    ensures next { IfOk result (λ effect.
-        IsNext held.now.store.journal.history (state_of held.now.store.tables) entry.now effect) }
+// Enters an event that is handed in, if it may come next.
+fn follow_event(alloc: Global, held: &mut Holdings, event: Event) -> Result<u32, FollowError>
+    requires { StoreAgrees held.old.store }
+    ensures entered { IfOk result (λ number. Enters (server_of held.old) (server_of held.new)
+        (entry_by event) number) }
+    ensures kept { OwnersAgree held.new.store }
     ensures not_next { IsErrOf result FollowError.NotNext
-        → HasNoStep held.now.store.journal.history (state_of held.now.store.tables) entry.now }
+        → HasNoStep held.old.store.journal.history (state_of held.old.store.tables)
+        (entry_by event) }
     ensures memory { IsErrOf result FollowError.Memory
-        → MayFollow (server_of held.now) entry.now }
+        → MayFollow (server_of held.old) (entry_by event) }
+    ensures same { OnErr result (AreAlike (server_of held.old) (server_of held.new)) }
+    ensures room { OnErr result (held.old.store.journal.room ≤ held.new.store.journal.room) }
 {
-    match entry {
-        Entry::Call(call) => effect_of_call(alloc, held, call),
-        Entry::Expire(expire) => effect_of_expire(held, expire),
-        Entry::Revoke(revoke) => effect_of_revoke(held, revoke),
-        Entry::Path(path) => effect_of_path(held, path),
+    match enter_event(alloc, held, event) {
+        Ok(number) => Ok(number),
+        Err(CoreError::Memory) => Err(FollowError::Memory),
+        Err(_) => Err(FollowError::NotNext),
     }
 }
 
@@ -106,51 +132,6 @@ fn effect_of_call(alloc: Global, held: &Holdings, call: &Call) -> Result<Effect,
     } else {
         drop(effect);
         Err(FollowError::NotNext)
-    }
-}
-
-// The effect of the client's end, if it may come next.
-fn effect_of_expire(held: &Holdings, expire: &Expire) -> Result<Effect, FollowError>
-    ensures next { IfOk result (λ effect. IsNext held.now.store.journal.history
-        (state_of held.now.store.tables) (entries.Expire expire.entry.now) effect) }
-    ensures not_next { IsErrOf result FollowError.NotNext
-        → HasNoStep held.now.store.journal.history (state_of held.now.store.tables)
-        (entries.Expire expire.entry.now) }
-    ensures memory { result ≢ Err FollowError.Memory }
-{
-    match decide_expiry(held, expire) {
-        Ok(effect) => Ok(effect),
-        Err(_) => Err(FollowError::NotNext),
-    }
-}
-
-// The effect of the delegation's end, if it may come next.
-fn effect_of_revoke(held: &Holdings, revoke: &Revoke) -> Result<Effect, FollowError>
-    ensures next { IfOk result (λ effect. IsNext held.now.store.journal.history
-        (state_of held.now.store.tables) (entries.Revoke revoke.entry.now) effect) }
-    ensures not_next { IsErrOf result FollowError.NotNext
-        → HasNoStep held.now.store.journal.history (state_of held.now.store.tables)
-        (entries.Revoke revoke.entry.now) }
-    ensures memory { result ≢ Err FollowError.Memory }
-{
-    match decide_revocation(held, revoke) {
-        Some(effect) => Ok(effect),
-        None => Err(FollowError::NotNext),
-    }
-}
-
-// The effect of the mark of a client's path, if it may come next.
-fn effect_of_path(held: &Holdings, path: &Path) -> Result<Effect, FollowError>
-    ensures next { IfOk result (λ effect. IsNext held.now.store.journal.history
-        (state_of held.now.store.tables) (entries.Path path.now) effect) }
-    ensures not_next { IsErrOf result FollowError.NotNext
-        → HasNoStep held.now.store.journal.history (state_of held.now.store.tables)
-        (entries.Path path.now) }
-    ensures memory { result ≢ Err FollowError.Memory }
-{
-    match decide_path_mark(held, path) {
-        Ok(effect) => Ok(effect),
-        Err(_) => Err(FollowError::NotNext),
     }
 }
 

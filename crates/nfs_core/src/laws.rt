@@ -1,5 +1,5 @@
 ghost use Rattle.nfs_core.specs.Lawful.{AtMostOneState, Lawful};
-ghost use Rattle.nfs_core.specs.LiveClients.{AreNumbered, AreOfOneRun, CallsFollow, EffectsFollow, EndsFollow, PathsFollow, RevocationsFollow};
+ghost use Rattle.nfs_core.specs.LiveClients.{AreNumbered, AreOfOneRun, CallsFollow, EffectsFollow, EndsFollow, EventsFollow};
 ghost use Rattle.nfs_core.specs.Recalls.{AreOneList, OthersRecallNothing, RecallsBegin, RecallsFollow, RecallsRise};
 ghost use Rattle.nfs_core.specs.Safe.{HaveFewBytes, IsSafe, KeepRequests};
 ghost use Rattle.nfs_core.specs.Step.{AtMostOneStateAfter, AtMostOneStep};
@@ -82,14 +82,13 @@ pub fn lawful_is_safe()
 }
 
 /// The law of how entries change which clients are live: as their effects say. One becomes so by its confirmation, and once
-/// at most; one that is live stays so until a confirmation replaces it or it ends. The end of a delegation and a mark
-/// of a path leave all clients as they are.
+/// at most; one that is live stays so until a confirmation replaces it or it ends. Other events leave all clients as
+/// they are.
 pub fn live_clients_follow()
     ensures effects { EffectsFollow }
     ensures calls { CallsFollow }
     ensures ends { EndsFollow }
-    ensures revocations { RevocationsFollow }
-    ensures paths { PathsFollow }
+    ensures events { EventsFollow }
 {
     opens_stay_compatible();
     locks_stay_compatible();

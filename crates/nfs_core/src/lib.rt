@@ -6,18 +6,18 @@ mod committing;
 mod core_error;
 mod core_state;
 mod entered;
-mod expiry;
+mod entering;
+mod event;
 mod following;
 mod holdings;
 mod laws;
-mod path_marking;
 mod pending_recalls;
 mod recalling;
-mod revoking;
 
 pub use core_error::CoreError;
 pub use core_state::Core;
 pub use entered::Entered;
+pub use event::Event;
 pub use following::FollowError;
 pub use laws::{
     at_most_one_state, at_most_one_step, lawful_is_safe, live_clients_follow,

@@ -23,9 +23,7 @@ number_of errors.Memory = 3
 -- an entry that a journal can have whose tree has so many nodes
 abbrev pub is_entry : ℕ → Entry → Bool
 is_entry nodes (entries.Call call) = can_be_asked nodes call.request
-is_entry nodes (entries.Expire expire) = true
-is_entry nodes (entries.Revoke revoke) = true
-is_entry nodes (entries.Path path) = true
+is_entry nodes entry = true
 
 -- The lease is within its limits, some document gives the nodes, and each entry is one that the journal can have.
 abbrev pub is_journal : History → Bool

@@ -17,9 +17,7 @@ has_last_client other = false
 -- whether the entry gives it out
 abbrev pub gives_last_client : Entry → Bool
 gives_last_client (entries.Call call) = has_last_client call.answer
-gives_last_client (entries.Expire expire) = false
-gives_last_client (entries.Revoke revoke) = false
-gives_last_client (entries.Path path) = false
+gives_last_client entry = false
 
 -- a limit of which this is seen
 abbrev pub noted : Reach → Bool → Reach

@@ -22,7 +22,7 @@ use Rattle.nfs_rules.specs.operations.OpenGrant.{ok_answer, opened}
 use Rattle.nfs_state.specs.Places as places
 use Rattle.nfs_state.specs.declared.tables.Tables.{Tables}
 use Rattle.nfs_state.specs.Owners.{owner_of, without_owner}
-use Rattle.nfs_state.specs.Entries.{IsSendable, data_of}
+use Rattle.nfs_state.specs.Entries.{IsSendable}
 use Rattle.nfs_state.specs.declared.request.Request.{Request}
 use Rattle.nfs_state.specs.Room.{IsWithinLimits, state_of}
 use Rattle.nfs_state.specs.Stored.{known_owner}
@@ -246,14 +246,14 @@ ruling_given passage journal state directory args request ruling same =
   where
     by : {found : Result Opening Refusal} → ((refusal : Refusal) × (found ≡ Err refusal) × (ruling ≡ refused refusal)) ⊎ ((o : Opening) × (ruling ≡ delayed request.moment args.owner.client o))
         → ((refusal : Refusal) → found ≡ Err refusal → refusal ≢ refusals.Resource)
-        → IsSendable (ops.Open args) ruling.answer × IsWithinLimits (data_of (ops.Open args)) ruling.change state
+        → IsSendable (ops.Open args) ruling.answer × IsWithinLimits ruling.change state
     by (inl (refusal, is, made)) never = (
       refusal_sendable (ops.Open args) refusal ruling.answer (never refusal is) (ap (λ (r : Ruling). r.answer) made),
-      subst (λ (r : Ruling). IsWithinLimits (data_of (ops.Open args)) r.change state) (sym made) tt,
+      subst (λ (r : Ruling). IsWithinLimits r.change state) (sym made) tt,
     )
     by (inr (o, made)) never = (
       refusal_sendable (ops.Open args) refusals.Delay ruling.answer (λ e. cc) (ap (λ (r : Ruling). r.answer) made),
-      subst (λ (r : Ruling). IsWithinLimits (data_of (ops.Open args)) r.change state) (sym made) tt,
+      subst (λ (r : Ruling). IsWithinLimits r.change state) (sym made) tt,
     )
 
 pub opening_opens : (state : State) (moment : ℕ) (client : ClientId) (r : Result Opening Refusal) (o : Opening) → Ok o ≡ opening_or_ruling state moment client r → IsOk r

@@ -16,7 +16,7 @@ use Rattle.nfs_rules.proofs.Sendable.{file_place_other, refused_if_other, then_o
 use Rattle.nfs_rules.proofs.Sequencing.{refusal_sendable}
 use Rattle.nfs_share.specs.AllOpens.{opens_of}
 use Rattle.nfs_share.specs.Opens.{is_denied}
-use Rattle.nfs_state.specs.Entries.{IsSendable, data_of}
+use Rattle.nfs_state.specs.Entries.{IsSendable}
 use Rattle.nfs_state.specs.Room.{HasOwnerPlace, IsWithinLimits}
 use Rattle.nfs_state.specs.State.{State, History}
 use Rattle.nfs_state.specs.declared.request.Request.{Request}
@@ -54,7 +54,7 @@ permitted_other transfer journal state filehandle id =
 -- what is decided in place of a READ or a WRITE can be sent, and needs no place
 pub record IsRefusal (op : Op) (state : State) (decision : Decision) : Type 0 where
   pub sendable : IsSendable op decision.answer
-  pub within : IsWithinLimits (data_of op) decision.effect.change state
+  pub within : IsWithinLimits decision.effect.change state
   pub place : HasOwnerPlace decision.effect.owner state
 
 -- a result that isn't a refusal of that kind says nothing

@@ -9,7 +9,7 @@ use Rattle.nfs_rules.specs.Sequences.{Requester, Refused, Owner, SequenceStep, A
 use Rattle.nfs_rules.specs.Stateids.{Found, target_of}
 use Rattle.nfs_rules.specs.declared.passage.Passage.{Passage}
 use Rattle.nfs_state.specs.State.{State, History}
-use Rattle.nfs_state.specs.Entries.{IsSendable, data_of}
+use Rattle.nfs_state.specs.Entries.{IsSendable}
 use Rattle.nfs_forms.specs.declared.status.Refusal.{Refusal}
 use Rattle.nfs_forms.specs.declared.status.Refusal.TheVariants as refusals
 use Rattle.nfs_xdr.specs.Names.{Names, Owned}
@@ -30,7 +30,7 @@ IsPassage passage name state = IsTrue (is_known name state)
 abbrev pub Decides : (Option Decision → Type 0) → State → Op → Result Decision Shortage → Type 0
 Decides ruled state op (Ok decision) =
     ruled (Some decision) × IsSendable op decision.answer
-    × IsWithinLimits (data_of op) decision.effect.change state
+    × IsWithinLimits decision.effect.change state
     × HasOwnerPlace decision.effect.owner state
 Decides ruled state op (Err Limit) = ruled None
 Decides ruled state op (Err Memory) = (decision : Decision) × ruled (Some decision)
@@ -79,6 +79,6 @@ IsPassageOf op passage state = ⊤
 abbrev pub ByOwnRule : (Option Ruling → Type 0) → State → Op → Result Ruling Shortage → Type 0
 ByOwnRule own state op (Ok ruling) =
     own (Some ruling) × IsSendable op ruling.answer
-    × IsWithinLimits (data_of op) ruling.change state
+    × IsWithinLimits ruling.change state
 ByOwnRule own state op (Err Limit) = own None
 ByOwnRule own state op (Err Memory) = (ruling : Ruling) × own (Some ruling)

@@ -87,23 +87,23 @@ owners_changed update change (Some kept) number old new is sendable keeps same p
     keeps change kept is place
 
 -- what an entry means for an owner passes no limit of the change after it
-limits_alike : (block : List ℕ) (change : Change) (old new : State) → new.clients ≡ old.clients → new.last_state ≡ old.last_state → new.locks ≡ old.locks → IsWithinLimits block change old → IsWithinLimits block change new
-limits_alike block (changes.Clients change) old new clients states locks has =
+limits_alike : (change : Change) (old new : State) → new.clients ≡ old.clients → new.last_state ≡ old.last_state → new.locks ≡ old.locks → IsWithinLimits change old → IsWithinLimits change new
+limits_alike (changes.Clients change) old new clients states locks has =
     subst (λ registry. HasNumbersFor change registry × FitsRecords change registry) (sym clients) has
-limits_alike block (changes.Opens node owner share lent) old new clients states locks has = omega (arith, states, has)
-limits_alike block changes.Nothing old new clients states locks has = tt
-limits_alike block (changes.Confirms node number owner) old new clients states locks has = tt
-limits_alike block (changes.Downgrades node number share) old new clients states locks has = tt
-limits_alike block (changes.Closes node number) old new clients states locks has = tt
-limits_alike block (changes.Begins node first) old new clients states locks has = omega (arith, states, has)
-limits_alike block (changes.Locks node number change) old new clients states locks has =
+limits_alike (changes.Opens node owner share lent) old new clients states locks has = omega (arith, states, has)
+limits_alike changes.Nothing old new clients states locks has = tt
+limits_alike (changes.Confirms node number owner) old new clients states locks has = tt
+limits_alike (changes.Downgrades node number share) old new clients states locks has = tt
+limits_alike (changes.Closes node number) old new clients states locks has = tt
+limits_alike (changes.Begins node first) old new clients states locks has = omega (arith, states, has)
+limits_alike (changes.Locks node number change) old new clients states locks has =
     ap (λ all. is_full_for number change (locks_of node all)) locks ∙ has
-limits_alike block (changes.Releases owner) old new clients states locks has = tt
-limits_alike block (changes.Expires client) old new clients states locks has = tt
-limits_alike block (changes.Recalls node file_use moment) old new clients states locks has = tt
-limits_alike block (changes.Returns node number) old new clients states locks has = tt
-limits_alike block (changes.Writes node offset) old new clients states locks has = has
-limits_alike block (changes.MarksPath client path) old new clients states locks has = tt
+limits_alike (changes.Releases owner) old new clients states locks has = tt
+limits_alike (changes.Expires client) old new clients states locks has = tt
+limits_alike (changes.Recalls node file_use moment) old new clients states locks has = tt
+limits_alike (changes.Returns node number) old new clients states locks has = tt
+limits_alike (changes.Writes node offset bytes) old new clients states locks has = has
+limits_alike (changes.MarksPath client path) old new clients states locks has = tt
 
 same_clients : (owner : OwnerChange) (number : ℕ) (old : State) → (with_owner_change owner number old).clients ≡ old.clients
 same_clients owner_changes.Nothing number old = refl
@@ -117,9 +117,9 @@ same_locks : (owner : OwnerChange) (number : ℕ) (old : State) → (with_owner_
 same_locks owner_changes.Nothing number old = refl
 same_locks owner number old = refl
 
-pub limits_after : (block : List ℕ) (change : Change) (owner : OwnerChange) (number : ℕ) (old : State) → IsWithinLimits block change old → IsWithinLimits block change (with_owner_change owner number old)
-limits_after block change owner number old has =
-    limits_alike block change old (with_owner_change owner number old) (same_clients owner number old) (same_last_state owner number old) (same_locks owner number old) has
+pub limits_after : (change : Change) (owner : OwnerChange) (number : ℕ) (old : State) → IsWithinLimits change old → IsWithinLimits change (with_owner_change owner number old)
+limits_after change owner number old has =
+    limits_alike change old (with_owner_change owner number old) (same_clients owner number old) (same_last_state owner number old) (same_locks owner number old) has
 
 -- nor does it change a file
 pub same_files : (owner : OwnerChange) (number : ℕ) (old : State) → (with_owner_change owner number old).files ≡ old.files

@@ -9,7 +9,7 @@ use Rattle.nfs_state.specs.declared.owner_update.Keeping.{Keeping}
 use Rattle.nfs_state.specs.Owners as known
 use Rattle.nfs_state.specs.Owners.{KnownOwner}
 use Rattle.nfs_state.specs.Room.{HasOwnerPlace}
-use Rattle.nfs_state.specs.Changes.{with_owner_change, without, with_state_change, with_written, without_client}
+use Rattle.nfs_state.specs.Changes.{with_owner_change, without, with_state_change, without_client}
 use Rattle.nfs_state.specs.State.{History, State}
 use Rattle.nfs_state.specs.declared.change.Change.{Change}
 use Rattle.nfs_state.specs.declared.change.Change.TheVariants as own_changes
@@ -230,23 +230,23 @@ restarts_seen old removed name number kept new removes is (changes.Restarts n) o
 -- what is stored after an owner and its open are confirmed
 pub confirms_seen : (old : Stored) (node number : ℕ) (name : OpenOwner) (new : List Owner) (opened : List (List OpenState)) (lent : List (List Delegation)) → new ≡ with_confirmed (open_owner name) old.owners
     → opened ≡ with_opens node (opens.with_each (opens.is_numbered number) opens.with_next_seqid) old.opens
-    → lent ≡ old.delegations → (block : List ℕ) (change : Change) → change ≡ own_changes.Confirms node number name
-    → meaning (record old { owners = new; opens = opened; delegations = lent }) ≡ with_written block change (with_state_change change (meaning old))
-confirms_seen old node number name new opened lent confirmed advanced stay block change is =
+    → lent ≡ old.delegations → (change : Change) → change ≡ own_changes.Confirms node number name
+    → meaning (record old { owners = new; opens = opened; delegations = lent }) ≡ with_state_change change (meaning old)
+confirms_seen old node number name new opened lent confirmed advanced stay change is =
     ap (λ (all : List (List Delegation)). meaning (record old { owners = new; opens = opened; delegations = all })) stay
     ∙ ap (λ (owners : List KnownOwner). record (meaning old) { owners = owners; opens = opened }) (ap (map known_owner) confirmed ∙ confirmed_seen (open_owner name) old.owners)
     ∙ ap (λ (all : List (List OpenState)). record (meaning old) { owners = known.with_confirmation (open_owner name) (map known_owner old.owners); opens = all }) advanced
-    ∙ ap (λ ch. with_written block ch (with_state_change ch (meaning old))) (sym is)
+    ∙ ap (λ ch. with_state_change ch (meaning old)) (sym is)
 
 -- what is stored after a lock owner is forgotten with its lock states
 pub releases_seen : (old : Stored) (name : LockOwner) (new : List Owner) (locked : List (List StoredLock))
     → new ≡ without_owner (lock_owner name) old.owners
     → map (map byte_locks) locked ≡ map (locks.without (locks.is_lock_of name)) (map (map byte_locks) old.locks)
-    → (block : List ℕ) (change : Change) → change ≡ own_changes.Releases name
-    → meaning (record old { owners = new; locks = locked }) ≡ with_written block change (with_state_change change (meaning old))
-releases_seen old name new locked fewer freed block change is =
+    → (change : Change) → change ≡ own_changes.Releases name
+    → meaning (record old { owners = new; locks = locked }) ≡ with_state_change change (meaning old)
+releases_seen old name new locked fewer freed change is =
     (λ i. record (meaning old) { owners = (ap (map known_owner) fewer ∙ without_seen (lock_owner name) old.owners) i; locks = freed i })
-    ∙ ap (λ ch. with_written block ch (with_state_change ch (meaning old))) (sym is)
+    ∙ ap (λ ch. with_state_change ch (meaning old)) (sym is)
 
 -- what is stored without the owners, the opens, the lock states and the delegations of a client
 pub left_seen : (old : Stored) (client : ClientId) (new : List Owner) (opened : List (List OpenState)) (locked : List (List StoredLock)) (lent : List (List Delegation)) → new ≡ without_owners_of client old.owners

@@ -1,5 +1,4 @@
--- What an entry of the journal changes in the state: first what it means for an owner, then the operation's own change,
--- and then what the entry tells of that.
+-- What an entry of the journal changes in the state: first what it means for an owner, and then the operation's own change.
 use Rattle.std.specs.Prelude.{ℕ, ◌+◌, Bool, not, List, [], ◌∷◌, ◌++◌, filter, map, Option, Some, None, is_some, if◌then◌else◌}
 use Rattle.nfs_forms.specs.ClientId.{is_same_client}
 use Rattle.nfs_forms.specs.OpenOwner.{is_same_owner}
@@ -20,14 +19,12 @@ use Rattle.nfs_share.specs.declared.delegation.DelegationKind.{DelegationKind}
 use Rattle.nfs_share.specs.declared.share.Share.{Share}
 use Rattle.nfs_share.specs.Opens.{after_downgrade, is_numbered, is_of_client, open_of, with_each, with_next_seqid, with_opening}
 use Rattle.nfs_share.specs.Opens as opens
-use Rattle.nfs_state.specs.Entries.{data_in}
-use Rattle.nfs_state.specs.Files.{FileState, with_bytes}
+use Rattle.nfs_state.specs.Files.{with_bytes}
 use Rattle.nfs_state.specs.Owners.{with_confirmation, with_kept_entry, with_record, without_owner}
 use Rattle.nfs_state.specs.State.{State}
 use Rattle.nfs_state.specs.declared.change.Change.{Change}
 use Rattle.nfs_state.specs.declared.change.Change.TheVariants as changes
 use Rattle.nfs_state.specs.declared.effect.Effect.{Effect}
-use Rattle.nfs_state.specs.declared.entry.Entry.{Entry}
 use Rattle.nfs_state.specs.declared.owner_change.OwnerChange.{OwnerChange}
 use Rattle.nfs_state.specs.declared.owner_change.OwnerChange.TheVariants.{Nothing, Keeps, KeepsBoth, Introduces, Records, Restarts, Drops}
 
@@ -131,8 +128,8 @@ with_state_change (changes.Recalls node file_use moment) old = record old {
 with_state_change (changes.Returns node number) old = record old {
   delegations = with_delegations node (without_lent (is_delegation_numbered number)) old.delegations;
 }
--- nothing here: what comes into the file stands in the entry, and `with_written` puts it there
-with_state_change (changes.Writes node offset) old = old
+with_state_change (changes.Writes node offset bytes) old =
+    record old { files = with_bytes node offset bytes old.files }
 with_state_change (changes.MarksPath client path) old =
     record old { clients = with_mark client path old.clients }
 
@@ -140,22 +137,7 @@ with_state_change (changes.MarksPath client path) old =
 abbrev pub change_alone : Change → Effect
 change_alone change = record { owner = Nothing; change = change }
 
--- the files after a change for which these bytes are to be written
-abbrev pub files_after : List ℕ → Change → List FileState → List FileState
-files_after block (changes.Writes node offset) files = with_bytes node offset block files
-files_after block change files = files
-
--- The state after what the entry itself tells of its change, beyond what the change has: the bytes that its operation
--- writes.
-abbrev pub with_written : List ℕ → Change → State → State
-with_written block change old = record old { files = files_after block change old.files }
-
-abbrev pub with_entry_told : Entry → Change → State → State
-with_entry_told entry change old = with_written (data_in entry) change old
-
--- The state after this entry, with this number, where it has this effect: first what it means for the owners, then the
--- change, and then what the entry tells of the change.
-abbrev pub after : ℕ → Entry → Effect → State → State
-after number entry effect old =
-    with_entry_told entry effect.change
-    (with_state_change effect.change (with_owner_change effect.owner number old))
+-- The state after an entry with this number and this effect: first what it means for the owners, and then the change.
+abbrev pub after : ℕ → Effect → State → State
+after number effect old =
+    with_state_change effect.change (with_owner_change effect.owner number old)

@@ -48,21 +48,7 @@ entry_of request answer =
 -- the call that an entry records, if it records one
 abbrev pub call_of : Entry → Option Call
 call_of (entries.Call call) = Some call
-call_of (entries.Expire expire) = None
-call_of (entries.Revoke revoke) = None
-call_of (entries.Path path) = None
-
--- the bytes that an operation writes to a file: those of a WRITE
-abbrev pub data_of : Op → List ℕ
-data_of (ops.Write args) = args.bytes
-data_of op = []
-
--- the bytes that the operation of an entry writes
-abbrev pub data_in : Entry → List ℕ
-data_in (entries.Call call) = data_of call.request.op
-data_in (entries.Expire expire) = []
-data_in (entries.Revoke revoke) = []
-data_in (entries.Path path) = []
+call_of entry = None
 
 -- the journal with one more entry at the end
 abbrev pub with_entry : Entry → History → History

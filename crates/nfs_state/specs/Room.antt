@@ -10,7 +10,6 @@ use Rattle.nfs_state.specs.declared.tables.Tables.{Tables}
 use Rattle.nfs_state.specs.declared.owner_update.OwnerUpdate.{OwnerUpdate}
 use Rattle.nfs_state.specs.declared.owner_update.OwnerUpdate.TheVariants as updates
 use Rattle.nfs_state.specs.Kept.{CanBeKept, kept_in}
-use Rattle.nfs_state.specs.Entries.{data_in}
 use Rattle.nfs_state.specs.Files.{HasFileRoom, files_in}
 use Rattle.nfs_state.specs.Owners.{owner_of}
 use Rattle.nfs_owners.specs.Owner as owners
@@ -44,24 +43,16 @@ stored_of tables = record {
 abbrev pub state_of : Tables → State
 state_of tables = meaning (stored_of tables)
 
--- the change takes no memory where these bytes are to be written
-abbrev pub HasRoom : List ℕ → Change → Tables → Type 0
-HasRoom block changes.Nothing tables = ⊤
-HasRoom block (changes.Clients change) tables = HasRoomFor change tables.clients
-HasRoom block (changes.Opens node owner share lent) tables =
+-- the change takes no memory
+abbrev pub HasRoom : Change → Tables → Type 0
+HasRoom (changes.Clients change) tables = HasRoomFor change tables.clients
+HasRoom (changes.Opens node owner share lent) tables =
     HasRoomAt node tables.opens × (lent ≢ None → HasLendingRoomAt node tables.opens)
-HasRoom block (changes.Confirms node number owner) tables = ⊤
-HasRoom block (changes.Downgrades node number share) tables = ⊤
-HasRoom block (changes.Closes node number) tables = ⊤
-HasRoom block (changes.Begins node first) tables = HasLockRoomAt node tables.locks
-HasRoom block (changes.Locks node number change) tables = locks.HasRoomFor node number tables.locks
-HasRoom block (changes.Releases owner) tables = ⊤
-HasRoom block (changes.Expires client) tables = ⊤
-HasRoom block (changes.Recalls node file_use moment) tables = ⊤
-HasRoom block (changes.Returns node number) tables = ⊤
-HasRoom block (changes.Writes node offset) tables =
-    HasFileRoom node (offset + length block) tables.files
-HasRoom block (changes.MarksPath client path) tables = ⊤
+HasRoom (changes.Begins node first) tables = HasLockRoomAt node tables.locks
+HasRoom (changes.Locks node number change) tables = locks.HasRoomFor node number tables.locks
+HasRoom (changes.Writes node offset bytes) tables =
+    HasFileRoom node (offset + length bytes) tables.files
+HasRoom change tables = ⊤
 
 -- what the entry means for an owner takes no memory
 abbrev pub HasOwnerRoom : OwnerChange → Tables → Type 0
@@ -101,7 +92,7 @@ pub record TakesNoMemory (entry : Entry) (effect : Effect) (tables : Tables) : T
   pub call : IsNoCall entry
   pub kept : kept_in entry ≡ None
   pub owner : HasOwnerRoom effect.owner tables
-  pub change : HasRoom (data_in entry) effect.change tables
+  pub change : HasRoom effect.change tables
 
 -- What is known of the owners before the entry: one that keeps it or starts anew is known; one that is recorded isn't,
 -- and there is a place for it.
@@ -118,16 +109,16 @@ HasOwnerPlace (owner_changes.Drops name) state = ⊤
 
 -- The next client number and confirm value that the change uses exist, and the next state numbers, two for an OPEN;
 -- a client's record that it adds fits those that are there, the runs of a lock state aren't too many after it, and the
--- bytes that are to be written end within the limit of a file. (How many states there may be is judged by the rules.)
-abbrev pub IsWithinLimits : List ℕ → Change → State → Type 0
-IsWithinLimits block (changes.Clients change) state =
+-- bytes that it writes end within the limit of a file. (How many states there may be is judged by the rules.)
+abbrev pub IsWithinLimits : Change → State → Type 0
+IsWithinLimits (changes.Clients change) state =
     HasNumbersFor change state.clients × FitsRecords change state.clients
-IsWithinLimits block (changes.Opens node owner share lent) state = state.last_state < 2 ^ 32 - 2
-IsWithinLimits block (changes.Begins node first) state = state.last_state < 2 ^ 32 - 1
-IsWithinLimits block (changes.Locks node number change) state =
+IsWithinLimits (changes.Opens node owner share lent) state = state.last_state < 2 ^ 32 - 2
+IsWithinLimits (changes.Begins node first) state = state.last_state < 2 ^ 32 - 1
+IsWithinLimits (changes.Locks node number change) state =
     IsFalse (is_full_for number change (locks_of node state.locks))
-IsWithinLimits block (changes.Writes node offset) state = offset + length block ≤ TEXT_LIMIT
-IsWithinLimits block change state = ⊤
+IsWithinLimits (changes.Writes node offset bytes) state = offset + length bytes ≤ TEXT_LIMIT
+IsWithinLimits change state = ⊤
 
 -- each open, each lock state and each delegation has a number that was given: at most the last
 pub record HasGivenNumbers (state : State) : Type 0 where
@@ -139,5 +130,5 @@ pub record HasGivenNumbers (state : State) : Type 0 where
 -- left and no limit is passed, and there is a place for an owner that it records.
 pub record Fits (entry : Entry) (effect : Effect) (state : State) : Type 0 where
   pub kept : CanBeKept (kept_in entry) effect.owner
-  pub numbers : IsWithinLimits (data_in entry) effect.change state
+  pub numbers : IsWithinLimits effect.change state
   pub place : HasOwnerPlace effect.owner state

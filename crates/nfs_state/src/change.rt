@@ -4,6 +4,7 @@ use nfs_owners::{ClientChange, LiveChange, PathMark};
 use nfs_ranges::Piece;
 use nfs_share::{DelegationKind, FileUse, Share};
 use nfs_xdr::{ClientId, OpenOwner};
+use xdr::SharedBytes;
 
 /// What an entry changes in the state, besides what its entry means for an owner.
 #[derive(Drop)]
@@ -31,10 +32,11 @@ pub enum Change {
         node: u32,
         number: u32,
     },
-    /// What the entry's WRITE writes comes into the node's file at this offset. The bytes stand in the entry.
+    /// These bytes come into the node's file at this offset. They are shared with the entry's WRITE.
     Writes {
         node: u32,
         offset: u64,
+        bytes: SharedBytes,
     },
     /// Whether callbacks reach the client with this number.
     MarksPath {

@@ -1,6 +1,6 @@
 ghost use Rattle.std.specs.Prelude.{◌≡◌, ◌<◌, ◌≤◌, IfErr, IfOk, IsOk, None, OnErr, OnOk, length};
 ghost use Rattle.nfs_state.specs.Changes.{after};
-ghost use Rattle.nfs_state.specs.Entries.{data_in, with_entry};
+ghost use Rattle.nfs_state.specs.Entries.{with_entry};
 ghost use Rattle.nfs_state.specs.Files.{CanChange};
 ghost use Rattle.nfs_state.specs.Kept.{Agrees, kept_in, owners_after, update_by};
 ghost use Rattle.nfs_state.specs.MemoryCount.{IsNoCall};
@@ -34,8 +34,7 @@ pub fn commit_entry(
     ensures entry { OnOk result
         (store.new.journal.history ≡ with_entry entry store.old.journal.history) }
     ensures state { OnOk result (state_of store.new.tables
-        ≡ after (length store.old.journal.history.entries) entry effect
-        (state_of store.old.tables)) }
+        ≡ after (length store.old.journal.history.entries) effect (state_of store.old.tables)) }
     ensures kept { OnOk result (OwnersAgree store.new) }
     ensures memory { IfErr result (λ e. e ≡ Shortage.Memory) }
     ensures ready { 0 < store.old.journal.room → TakesNoMemory entry effect store.old.tables
@@ -73,11 +72,11 @@ fn make_ready(
     ensures same { HoldTheSame store.old store.new }
     ensures grows { store.old.journal.room ≤ store.new.journal.room }
     ensures room { OnOk result (0 < store.new.journal.room) }
-    ensures tables_room { OnOk result (HasRoom (data_in entry.now) effect.now.change store.new.tables
+    ensures tables_room { OnOk result (HasRoom effect.now.change store.new.tables
         × HasOwnerRoom effect.now.owner store.new.tables) }
     ensures ready { 0 < store.old.journal.room
         → HasOwnerRoom effect.now.owner store.old.tables
-        → HasRoom (data_in entry.now) effect.now.change store.old.tables
+        → HasRoom effect.now.change store.old.tables
         → IsNoCall entry.now → IsOk result }
     ensures memory { IfErr result (λ e. e ≡ Shortage.Memory) }
 {
@@ -88,10 +87,7 @@ fn make_ready(
     if effect.is_nothing() {
         return Ok(());
     }
-    let block = entry.written();
-    store
-        .tables
-        .make_room(alloc, &effect.change, &effect.owner, block)
+    store.tables.make_room(alloc, &effect.change, &effect.owner)
 }
 
 // Makes the changes of the entry, which gets this number, for which there is room.
@@ -102,12 +98,12 @@ fn make_changes(
     number: u32,
 ) -> Result<(), Shortage>
     requires fits { Fits entry.now effect (state_of tables.old) }
-    requires room { HasRoom (data_in entry.now) effect.change tables.old
+    requires room { HasRoom effect.change tables.old
         × HasOwnerRoom effect.owner tables.old }
     requires given { HasGivenNumbers (state_of tables.old) }
     requires changes { CanChange (state_of tables.old).files }
     ensures state { OnOk result (state_of tables.new
-        ≡ after number entry.now effect (state_of tables.old)) }
+        ≡ after number effect (state_of tables.old)) }
     ensures kept { OnOk result ((journal : History) → Agrees journal (owners_after
         (update_by effect.owner (kept_in entry.now)) number tables.old.owners.owners)
         → Agrees journal tables.new.owners.owners) }
@@ -122,7 +118,7 @@ fn make_changes(
     match OwnerUpdate::of(effect.owner, entry) {
         Ok(update) => {
             tables.commit_owner(update, number);
-            tables.commit(effect.change, entry.written());
+            tables.commit(effect.change);
             Ok(())
         }
         Err(_) => {

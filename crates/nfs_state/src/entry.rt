@@ -1,5 +1,4 @@
 ghost use Rattle.std.specs.Prelude.{◌≡◌, IfOk};
-ghost use Rattle.nfs_state.specs.Entries.{data_in, data_of};
 ghost use Rattle.nfs_state.specs.Kept.{kept_with, lock_owner_seqid, seqid_for};
 ghost use Rattle.nfs_xdr.specs.Names.{seqid_of};
 
@@ -59,28 +58,6 @@ pub struct Path {
 
 /// How many entries a journal can have.
 pub const JOURNAL_LIMIT: usize = 1_000_000;
-
-impl Entry {
-    /// The bytes that its operation writes to a file.
-    pub(crate) fn written(&self) -> &[u8]
-        ensures { result.now ≡ data_in self.now }
-    {
-        match self {
-            Entry::Call(call) => data_of(&call.request.op),
-            Entry::Expire(_) | Entry::Revoke(_) | Entry::Path(_) => &[],
-        }
-    }
-}
-
-// The bytes that an operation writes to a file.
-fn data_of(op: &Op) -> &[u8]
-    ensures { result.now ≡ data_of op.now }
-{
-    match op {
-        Op::Write(args) => args.bytes.as_slice(),
-        _ => &[],
-    }
-}
 
 impl Call {
     /// The sequence id by which the request goes, if it goes by one.

@@ -161,8 +161,8 @@ impl Journal {
         self.memory.set_limit(limit);
     }
 
-    /// How many bytes the entries count: each 320, and those of the names, owners, ids and addresses of its operation, and
-    /// what a WRITE writes or a READ gives.
+    /// How many bytes the entries count: each 320, and those of the names, owners, ids, addresses, masks and attributes of
+    /// its operation, and what a WRITE writes or a READ gives.
     pub fn memory(&self) -> u64 {
         self.memory.len()
     }

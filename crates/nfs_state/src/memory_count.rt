@@ -1,8 +1,8 @@
-ghost use Rattle.std.specs.Prelude.{◌≡◌, ◌-◌, ◌^◌, IsTrue, min};
-ghost use Rattle.nfs_state.specs.MemoryCount.{IsNoCall, claim_len, entry_len, locker_len, op_len, result_len};
+ghost use Rattle.std.specs.Prelude.{◌≡◌, ◌+◌, ◌-◌, ◌^◌, ◌<◌, ◌≤◌, ◌⊎◌, IsFalse, IsTrue, min};
+ghost use Rattle.nfs_state.specs.MemoryCount.{IsNoCall, attributes_len, claim_len, create_len, entry_len, how_len, locker_len, mask_len, op_len, result_len};
 
 use crate::Entry;
-use nfs_forms::{Answer, Claim, Locker};
+use nfs_forms::{Answer, Bitmap, Claim, CreateHow, Fattr, Locker, OpenHow};
 use nfs_xdr::{Op, OpResult};
 
 /// How many bytes an entry counts beside those that its operation and its answer have of their own.
@@ -18,7 +18,9 @@ pub(crate) struct MemoryCount {
 
 impl MemoryCount {
     /// Nothing, and no bound.
-    pub(crate) fn new() -> MemoryCount {
+    pub(crate) fn new() -> MemoryCount
+        ensures { (result.len ≡ 0) × (result.limit ≡ 2 ^ 64 - 1) }
+    {
         MemoryCount {
             len: 0,
             limit: u64::MAX,
@@ -27,23 +29,35 @@ impl MemoryCount {
     }
 
     /// Sets the bound.
-    pub(crate) fn set_limit(&mut self, limit: u64) {
+    pub(crate) fn set_limit(&mut self, limit: u64)
+        ensures { self.new ≡ record self.old { limit = limit } }
+    {
         self.limit = limit;
     }
 
     /// How many bytes are counted.
-    pub(crate) fn len(&self) -> u64 {
+    pub(crate) fn len(&self) -> u64
+        ensures { result ≡ self.now.len }
+    {
         self.len
     }
 
     /// Whether a call found no room.
-    pub(crate) fn is_full(&self) -> bool {
+    pub(crate) fn is_full(&self) -> bool
+        ensures { result ≡ self.now.is_full }
+    {
         self.is_full
     }
 
     /// Whether the entry finds room below the bound: each that is no call does.
     pub(crate) fn has_room(&mut self, entry: &Entry) -> bool
-        ensures { IsNoCall entry.now → IsTrue result }
+        ensures no_call { IsNoCall entry.now → IsTrue result }
+        ensures within { IsTrue result → IsNoCall entry.now
+            ⊎ (min (self.old.len + entry_len entry.now) (2 ^ 64 - 1) ≤ self.old.limit) }
+        ensures above { IsFalse result
+            → self.old.limit < min (self.old.len + entry_len entry.now) (2 ^ 64 - 1) }
+        ensures told { IsFalse result → IsTrue self.new.is_full }
+        ensures same { self.new ≡ record self.old { is_full = self.new.is_full } }
     {
         match entry {
             Entry::Call(_) if self.len.saturating_add(entry_len(entry)) > self.limit => {
@@ -55,7 +69,11 @@ impl MemoryCount {
     }
 
     /// Counts the entry.
-    pub(crate) fn add(&mut self, entry: &Entry) {
+    pub(crate) fn add(&mut self, entry: &Entry)
+        ensures { self.new ≡ record self.old {
+          len = min (self.old.len + entry_len entry.now) (2 ^ 64 - 1);
+        } }
+    {
         self.len = self.len.saturating_add(entry_len(entry));
     }
 }
@@ -72,16 +90,19 @@ fn entry_len(entry: &Entry) -> u64
     }
 }
 
-// The names, owners, ids and addresses of an operation, and what it writes.
+// The names, owners, ids, addresses, masks and attributes of an operation, and what it writes.
 fn op_len(op: &Op) -> u64
     ensures { result ≡ min (op_len op.now) (2 ^ 64 - 1) }
 {
     match op {
+        Op::Getattr(mask) => mask_len(mask),
         Op::Lock(args) => locker_len(&args.locker),
         Op::Lockt(args) => args.owner.name.as_slice().len() as u64,
         Op::Open(args) => {
             let owner = args.owner.name.as_slice().len() as u64;
-            owner.saturating_add(claim_len(&args.claim))
+            owner
+                .saturating_add(claim_len(&args.claim))
+                .saturating_add(how_len(&args.how))
         }
         Op::Setclientid(args) => {
             let (id, address) = (args.id.as_slice().len() as u64, &args.callback.address);
@@ -114,6 +135,40 @@ fn claim_len(claim: &Claim) -> u64
         }
         Claim::Previous(_) => 0,
     }
+}
+
+// How a file is to be created.
+fn how_len(how: &OpenHow) -> u64
+    ensures { result ≡ min (how_len how.now) (2 ^ 64 - 1) }
+{
+    match how {
+        OpenHow::Nocreate => 0,
+        OpenHow::Create(how) => create_len(how.get()),
+    }
+}
+
+// The attributes that a file is to be created with.
+fn create_len(how: &CreateHow) -> u64
+    ensures { result ≡ min (create_len how.now) (2 ^ 64 - 1) }
+{
+    match how {
+        CreateHow::Unchecked(given) | CreateHow::Guarded(given) => attributes_len(given),
+        CreateHow::Exclusive(_) => 0,
+    }
+}
+
+// Attributes, with the mask that tells which they are.
+fn attributes_len(given: &Fattr) -> u64
+    ensures { result ≡ min (attributes_len given.now) (2 ^ 64 - 1) }
+{
+    mask_len(&given.mask).saturating_add(given.values.as_slice().len() as u64)
+}
+
+// The words of a mask.
+fn mask_len(mask: &Bitmap) -> u64
+    ensures { result ≡ min (mask_len mask.now) (2 ^ 64 - 1) }
+{
+    (mask.as_slice().len() as u64).saturating_mul(4)
 }
 
 // What a READ gives.

@@ -22,7 +22,7 @@ pub struct PieceList<T> {
 }
 
 impl<T> Model for PieceList<T> {
-    ghost use Rattle.std.specs.Prelude.{◌≡◌, ◌+◌, ◌-◌, ◌≤◌, ◌++◌, length, min, vec_capacity, vec_len};
+    ghost use Rattle.std.specs.Prelude.{◌≡◌, ◌+◌, ◌-◌, ◌<◌, ◌≤◌, ◌++◌, length, min, vec_capacity, vec_len};
     ghost use Rattle.std.specs.List.{All, flat_map};
     ghost use Rattle.nfs_state.specs.PieceList.{RoomyList};
     ghost use Rattle.nfs_state.specs.declared.piece_list.TheConstants.{PIECE_LEN};
@@ -36,6 +36,7 @@ impl<T> Model for PieceList<T> {
 
     ghost invariant = { λ l. All (λ p. length p.items ≡ PIECE_LEN) l.full.items
         × (length l.last.items ≤ PIECE_LEN)
+        × (0 < vec_capacity l.last → PIECE_LEN ≤ vec_capacity l.last)
         × (l.len ≡ length (flat_map (λ p. p.items) l.full.items ++ l.last.items)) };
 }
 

@@ -1,4 +1,4 @@
-ghost use Rattle.std.specs.Prelude.{ℕ, List, ◌≡◌, ◌<◌, ◌≤◌, ◌+◌, ◌-◌, ◌^◌, IfErr, IfOk, IsOk, IsTrue, OnOk, Some, map};
+ghost use Rattle.std.specs.Prelude.{ℕ, ◌≡◌, ◌<◌, ◌≤◌, ◌+◌, ◌-◌, ◌^◌, IfErr, IfOk, IsOk, IsTrue, OnOk, Some, map};
 
 use crate::change::Change;
 use crate::limits::STATE_LIMIT;
@@ -31,7 +31,7 @@ impl Tables {
     ghost use Rattle.nfs_state.specs.Files.{CanChange, change_of, file_of, files_in, size_of};
     ghost use Rattle.nfs_state.specs.State.{has_state, record_has_state, History};
     ghost use Rattle.nfs_state.specs.Kept.{Agrees, kept_by, owners_after, update_of};
-    ghost use Rattle.nfs_state.specs.Changes.{with_grant, with_open, with_owner_change, with_state_change, with_written, without_client};
+    ghost use Rattle.nfs_state.specs.Changes.{with_grant, with_open, with_owner_change, with_state_change, without_client};
     ghost use Rattle.nfs_state.specs.Changes as changed_state;
     ghost use Rattle.nfs_state.specs.Room.{IsWithinLimits, HasGivenNumbers, HasOwnerPlace, HasOwnerRoom, HasRoom, HasUpdateRoom, CanKeep, state_of, stored_of};
     ghost use Rattle.nfs_state.specs.declared.owner_change.OwnerChange.{OwnerChange};
@@ -128,21 +128,20 @@ impl Tables {
         self.opens.has_place_without(owner, self.places_left())
     }
 
-    /// Makes room for the change, with the block that is to be written, and for what the entry means for an owner.
-    /// Fails for want of memory alone, and never where there is room already.
+    /// Makes room for the change, and for what the entry means for an owner. Fails for want of memory alone, and never
+    /// where there is room already.
     pub(crate) fn make_room(
         &mut self,
         alloc: Global,
         change: &Change,
         owner: &OwnerChange,
-        block: &[u8],
     ) -> Result<(), Shortage>
-        requires numbers { IsWithinLimits block.now change.now (state_of self.old) }
+        requires numbers { IsWithinLimits change.now (state_of self.old) }
         requires place { HasOwnerPlace owner.now (state_of self.old) }
         ensures same { stored_of self.new ≡ stored_of self.old }
         ensures room { OnOk result (
-            HasRoom block.now change.now self.new × HasOwnerRoom owner.now self.new) }
-        ensures ready { HasRoom block.now change.now self.old
+            HasRoom change.now self.new × HasOwnerRoom owner.now self.new) }
+        ensures ready { HasRoom change.now self.old
             → HasOwnerRoom owner.now self.old → IsOk result }
         ensures memory { IfErr result (λ e. e ≡ Shortage.Memory) }
     {
@@ -161,8 +160,13 @@ impl Tables {
             }
             Change::Begins { node, .. } => self.locks.reserve(alloc, *node)?,
             Change::Locks { node, number, .. } => self.locks.reserve_change(*node, *number)?,
-            Change::Writes { node, offset } => {
-                self.files.reserve(*node, *offset as usize + block.len())?
+            Change::Writes {
+                node,
+                offset,
+                bytes,
+            } => {
+                let len = bytes.as_slice().len();
+                self.files.reserve(*node, *offset as usize + len)?
             }
             Change::Nothing
             | Change::Confirms { .. }
@@ -183,8 +187,8 @@ impl Tables {
         ensures same { stored_of self.new ≡ stored_of self.old }
         ensures room { OnOk result (HasOwnerRoom change.now self.new) }
         ensures ready { HasOwnerRoom change.now self.old → IsOk result }
-        ensures others { (block : List ℕ) (other : Change)
-            → HasRoom block other self.old → HasRoom block other self.new }
+        ensures others { (other : Change)
+            → HasRoom other self.old → HasRoom other self.new }
         ensures memory { IfErr result (λ e. e ≡ Shortage.Memory) }
     {
         match change {
@@ -210,8 +214,8 @@ impl Tables {
             → state_of self.new ≡ state_of self.old }
         ensures owners { self.new.owners.owners
             ≡ owners_after update number self.old.owners.owners }
-        ensures room { (block : List ℕ) (change : Change)
-            → HasRoom block change self.old → HasRoom block change self.new }
+        ensures room { (change : Change)
+            → HasRoom change self.old → HasRoom change self.new }
     {
         match update {
             OwnerUpdate::Nothing => {}
@@ -234,8 +238,8 @@ impl Tables {
         ensures stored { stored_of self.new ≡ record (stored_of self.old) {
           owners = kept_by keeping number self.old.owners.owners;
         } }
-        ensures room { (block : List ℕ) (change : Change)
-            → HasRoom block change self.old → HasRoom block change self.new }
+        ensures room { (change : Change)
+            → HasRoom change self.old → HasRoom change self.new }
         ensures known { (other : StateOwner)
             → IsTrue (is_known keeping.owner self.old.owners.owners)
             → CanKeep other self.old.owners → CanKeep other self.new.owners }
@@ -249,8 +253,8 @@ impl Tables {
           owners = without_owner (open_owner name.now) self.old.owners.owners;
           opens = map (without (is_of name.now)) (opens_in self.old.opens);
         } }
-        ensures room { (block : List ℕ) (change : Change)
-            → HasRoom block change self.old → HasRoom block change self.new }
+        ensures room { (change : Change)
+            → HasRoom change self.old → HasRoom change self.new }
         ensures owner_room { self.old.owners.room ≤ self.new.owners.room }
         ensures owner_places { (other : StateOwner)
             → IsTrue (has_place other self.old.owners.owners)
@@ -260,14 +264,13 @@ impl Tables {
         self.opens.remove_owner(name);
     }
 
-    /// Makes the change, with the block that is to be written. There has to be room for it, and it takes no memory.
-    pub(crate) fn commit(&mut self, change: Change, block: &[u8])
-        requires room { HasRoom block.now change self.old }
-        requires numbers { IsWithinLimits block.now change (state_of self.old) }
+    /// Makes the change, for which there has to be room. It takes no memory.
+    pub(crate) fn commit(&mut self, change: Change)
+        requires room { HasRoom change self.old }
+        requires numbers { IsWithinLimits change (state_of self.old) }
         requires given { HasGivenNumbers (state_of self.old) }
         requires changes { CanChange (files_in self.old.files) }
-        ensures state { state_of self.new
-            ≡ with_written block.now change (with_state_change change (state_of self.old)) }
+        ensures state { state_of self.new ≡ with_state_change change (state_of self.old) }
         ensures kept { (journal : History)
             → Agrees journal self.old.owners.owners → Agrees journal self.new.owners.owners }
     {
@@ -292,7 +295,11 @@ impl Tables {
                 moment,
             } => self.opens.recall(node, file_use, moment),
             Change::Returns { node, number } => self.opens.give_back(node, number),
-            Change::Writes { node, offset } => self.files.write(node, offset, block),
+            Change::Writes {
+                node,
+                offset,
+                bytes,
+            } => self.files.write(node, offset, bytes.as_slice()),
             Change::MarksPath { client, path } => self.clients.mark(client, path),
             Change::Confirms {
                 node,

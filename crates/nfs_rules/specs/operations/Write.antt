@@ -33,7 +33,7 @@ answer_of journal args = record {
 
 -- The bytes come into the node's file at the offset; without bytes nothing changes.
 abbrev pub change_by : Write → ℕ → Change
-change_by args node = if length args.bytes == 0 then Nothing else Writes node args.offset
+change_by args node = if length args.bytes == 0 then Nothing else Writes node args.offset args.bytes
 
 abbrev pub written : History → Write → ℕ → Decision
 written journal args node = record {

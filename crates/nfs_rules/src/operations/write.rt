@@ -1,4 +1,4 @@
-ghost use Rattle.std.specs.Prelude.{◌≡◌, ◌+◌, ◌<◌, ◌^◌, length, nat_lt};
+ghost use Rattle.std.specs.Prelude.{◌≡◌, ◌+◌, ◌<◌, ◌^◌, IfOk, length, nat_lt};
 ghost use Rattle.nfs_tree.specs.declared.tree.TheConstants.{TEXT_LIMIT};
 ghost use Rattle.nfs_rules.specs.Deciding.{Decides};
 ghost use Rattle.nfs_rules.specs.operations.Write.{answer_of, change_by, rule, verifier_of};
@@ -11,6 +11,7 @@ use nfs_operations::write::{Write, WriteOk};
 use nfs_state::{Change, Effect, Journal, Request, Shortage, Store};
 use nfs_tree::TEXT_LIMIT;
 use nfs_xdr::{Answer, Op, OpResult, Refusal};
+use std::alloc::AllocError;
 
 /// Decides a WRITE: its answer, and its change or what it calls back.
 pub(super) fn decide(store: &Store, request: &Request, args: &Write) -> Result<Decision, Shortage>
@@ -24,23 +25,25 @@ pub(super) fn decide(store: &Store, request: &Request, args: &Write) -> Result<D
     if is_too_long(args) {
         return Ok(Transfer::Write.refusal(Refusal::FBig));
     }
+    let change = change_by(args, node)?;
     Ok(Decision {
         answer: OpResult::Write(Answer::Done(answer_of(&store.journal, args))),
-        effect: Effect::change_alone(change_by(args, node)),
+        effect: Effect::change_alone(change),
     })
 }
 
 // The bytes come into the node's file at the offset; without bytes nothing changes.
-fn change_by(args: &Write, node: u32) -> Change
-    ensures { result ≡ change_by args.now node }
+fn change_by(args: &Write, node: u32) -> Result<Change, AllocError>
+    ensures { IfOk result (λ change. change ≡ change_by args.now node) }
 {
     if args.bytes.as_slice().is_empty() {
-        return Change::Nothing;
+        return Ok(Change::Nothing);
     }
-    Change::Writes {
+    Ok(Change::Writes {
         node,
         offset: args.offset,
-    }
+        bytes: args.bytes.clone()?,
+    })
 }
 
 // Whether the bytes would end beyond the limit of a file.

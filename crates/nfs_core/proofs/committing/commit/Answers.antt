@@ -1,5 +1,5 @@
 use Rattle.std.proofs.Common.{length, refl, rules}
-use Rattle.nfs_core.proofs.Entering.{Step-next}
+use Rattle.nfs_core.proofs.NextEntries.{Step-next}
 use Rattle.nfs_core.proofs.FileChanges.{can_change}
 use Rattle.nfs_core.proofs.committing.commit.Goals as goal
 use Rattle.nfs_state.specs.Room.{state_of}

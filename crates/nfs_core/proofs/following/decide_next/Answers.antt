@@ -1,5 +1,5 @@
 use Rattle.std.proofs.Common.{rules}
-use Rattle.nfs_core.proofs.Entering.{asked_entry, asked_node, decided_next, decided_sendable, no_answer, within_limits}
+use Rattle.nfs_core.proofs.NextEntries.{asked_entry, asked_node, decided_next, decided_sendable, no_answer, within_limits}
 use Rattle.nfs_core.proofs.following.decide_next.Goals as goal
 use Rattle.nfs_state.specs.Room.{state_of}
 

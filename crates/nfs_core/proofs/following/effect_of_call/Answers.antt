@@ -1,6 +1,6 @@
 use Rattle.std.proofs.Common.{◌≡◌, Err, ap, rules}
 use Rattle.std.proofs.lemmas.Result.{err_from_is_err_and}
-use Rattle.nfs_core.proofs.Entering.{limit_not_next, memory_runs_out, not_asked, with_same_answer}
+use Rattle.nfs_core.proofs.NextEntries.{limit_not_next, memory_runs_out, not_asked, with_same_answer}
 use Rattle.nfs_core.specs.Following.{error_of}
 use Rattle.nfs_core.specs.declared.following.FollowError.TheVariants as errors
 use Rattle.nfs_state.specs.declared.shortage.Shortage.{Shortage}

@@ -1,18 +1,25 @@
-use Rattle.std.proofs.Common.{rules}
-use Rattle.nfs_core.proofs.Entering.{next_follows}
+use Rattle.std.proofs.Common.{rules, subst}
 use Rattle.nfs_core.proofs.following.follow.Goals as goal
-use Rattle.nfs_core.specs.Server.{server_of}
+use Rattle.nfs_core.specs.Step.{Step}
+use Rattle.nfs_state.specs.Room.{state_of}
+use Rattle.nfs_state.specs.declared.entry.Entry.{Entry}
 
-pub returns-in_ok-commit-in-Ok-clause-entered : goal.returns-in_ok-commit-in-Ok-clause-entered
-returns-in_ok-commit-in-Ok-clause-entered c =
-    c.in_ok-commit-in-Ok.ensures.entered.0
+pub returns-in-Call-clause-not_next : goal.returns-in-Call-clause-not_next
+returns-in-Call-clause-not_next c is new step =
+    let before : Entry → Type 0 = λ e. Step c.args.held.now.store.journal.history (state_of c.args.held.now.store.tables) e new in
+    c.follow_call.ensures.not_next is new (subst before (search rules) step)
 
-pub returns-in-Err-clause-not_next : goal.returns-in-Err-clause-not_next
-returns-in-Err-clause-not_next c not_next = c.effect_of.ensures.not_next (search (rules, not_next))
+pub returns-in-Expire-clause-not_next : goal.returns-in-Expire-clause-not_next
+returns-in-Expire-clause-not_next c is new step =
+    let before : Entry → Type 0 = λ e. Step c.args.held.now.store.journal.history (state_of c.args.held.now.store.tables) e new in
+    c.follow_event.ensures.not_next is new (subst before (search rules) step)
 
-pub returns-in-Err-clause-memory : goal.returns-in-Err-clause-memory
-returns-in-Err-clause-memory c is_memory = c.effect_of.ensures.memory (search (rules, is_memory))
+pub returns-in-Revoke-clause-not_next : goal.returns-in-Revoke-clause-not_next
+returns-in-Revoke-clause-not_next c is new step =
+    let before : Entry → Type 0 = λ e. Step c.args.held.now.store.journal.history (state_of c.args.held.now.store.tables) e new in
+    c.follow_event-in-Revoke.ensures.not_next is new (subst before (search rules) step)
 
-pub returns-in_err-commit-in-Ok-clause-memory : goal.returns-in_err-commit-in-Ok-clause-memory
-returns-in_err-commit-in-Ok-clause-memory c is_memory =
-    next_follows (server_of c.args.held.now) c.args.entry c.in-Ok.effect c.in-Ok.ensures.next
+pub returns-in-Path-clause-not_next : goal.returns-in-Path-clause-not_next
+returns-in-Path-clause-not_next c is new step =
+    let before : Entry → Type 0 = λ e. Step c.args.held.now.store.journal.history (state_of c.args.held.now.store.tables) e new in
+    c.follow_event-in-Path.ensures.not_next is new (subst before (search rules) step)

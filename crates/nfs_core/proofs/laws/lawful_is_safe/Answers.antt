@@ -35,5 +35,5 @@ returns c =
       kept = Lawful-kept;
       numbered = Lawful-numbered laws;
       run = Lawful-run laws;
-      bytes = Lawful-bytes;
+      bytes = Lawful-bytes laws;
     }

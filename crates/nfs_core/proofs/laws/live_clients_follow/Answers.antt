@@ -1,5 +1,5 @@
 use Rattle.nfs_core.proofs.laws.live_clients_follow.Goals as goal
-use Rattle.nfs_core.proofs.LiveLaws.{Calls-follow, Effects-follow, Ends-follow, Paths-follow, Revocations-follow}
+use Rattle.nfs_core.proofs.LiveLaws.{Calls-follow, Effects-follow, Ends-follow, Events-follow}
 use Rattle.nfs_core.proofs.Safety.{Laws}
 
 pub returns : goal.returns
@@ -32,6 +32,5 @@ returns c =
       effects = Effects-follow laws;
       calls = Calls-follow laws;
       ends = Ends-follow laws;
-      revocations = Revocations-follow;
-      paths = Paths-follow c.marks_keep_clients.ensures;
+      events = Events-follow c.marks_keep_clients.ensures;
     }

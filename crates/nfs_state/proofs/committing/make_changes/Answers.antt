@@ -1,7 +1,6 @@
-use Rattle.std.proofs.Common.{◌∙◌, ℕ, List, ap, sym, subst}
+use Rattle.std.proofs.Common.{◌∙◌, ap, sym, subst}
 use Rattle.nfs_state.specs.Kept.{Agrees, kept_in, owners_after, update_by}
-use Rattle.nfs_state.specs.Changes.{after, with_state_change, with_written}
-use Rattle.nfs_state.specs.Entries.{data_in}
+use Rattle.nfs_state.specs.Changes.{after, with_state_change}
 use Rattle.nfs_state.specs.Files.{CanChange}
 use Rattle.nfs_state.specs.Room.{HasGivenNumbers, HasUpdateRoom, IsWithinLimits, state_of}
 use Rattle.nfs_state.specs.State.{State}
@@ -12,7 +11,7 @@ use Rattle.nfs_state.proofs.committing.make_changes.Goals as goal
 -- an entry that changes nothing leaves the state as it is
 pub returns-then-is_nothing-clause-state : goal.returns-then-is_nothing-clause-state
 returns-then-is_nothing-clause-state c =
-    sym (ap (λ (e : Effect). after c.args.number c.args.entry.now e (state_of c.args.tables.now)) (c.is_nothing.ensures.0 c.if-is_nothing.true))
+    sym (ap (λ (e : Effect). after c.args.number e (state_of c.args.tables.now)) (c.is_nothing.ensures.0 c.if-is_nothing.true))
 
 pub returns-then-is_nothing-clause-kept : goal.returns-then-is_nothing-clause-kept
 returns-then-is_nothing-clause-kept c = λ journal agrees.
@@ -31,9 +30,8 @@ commit-requires-clause-numbers c =
     let roomy = c.args.tables.now in
     let place = c.requires.fits.place in
     let changed = owners_changed c.in-Ok.update effect.owner (kept_in c.args.entry.now) c.args.number (state_of roomy) (state_of c.commit_owner.new.self) c.in-Ok.ensures.update c.requires.fits.kept c.commit_owner.ensures.state c.commit_owner.ensures.nothing place in
-    subst (λ (b : List ℕ). IsWithinLimits b effect.change (state_of c.commit_owner.new.self)) (sym c.written.ensures)
-    (subst (IsWithinLimits (data_in c.args.entry.now) effect.change) (sym changed)
-    (limits_after (data_in c.args.entry.now) effect.change effect.owner c.args.number (state_of c.args.tables.now) c.requires.fits.numbers))
+    subst (IsWithinLimits effect.change) (sym changed)
+    (limits_after effect.change effect.owner c.args.number (state_of c.args.tables.now) c.requires.fits.numbers)
 
 pub commit-requires-clause-given : goal.commit-requires-clause-given
 commit-requires-clause-given c =
@@ -57,8 +55,7 @@ returns-in-Ok-clause-state c =
     let roomy = c.args.tables.now in
     let place = c.requires.fits.place in
     let changed = owners_changed c.in-Ok.update effect.owner (kept_in c.args.entry.now) c.args.number (state_of roomy) (state_of c.commit_owner.new.self) c.in-Ok.ensures.update c.requires.fits.kept c.commit_owner.ensures.state c.commit_owner.ensures.nothing place in
-    c.commit.ensures.state
-    ∙ (λ i. with_written (c.written.ensures i) effect.change (with_state_change effect.change (changed i)))
+    c.commit.ensures.state ∙ ap (with_state_change effect.change) changed
 
 pub returns-in-Ok-clause-kept : goal.returns-in-Ok-clause-kept
 returns-in-Ok-clause-kept c = λ journal agrees.

@@ -12,7 +12,7 @@ pub returns-in-Confirms-clause-state : goal.returns-in-Confirms-clause-state
 returns-in-Confirms-clause-state c =
     let owners = c.args.self.now.owners.owners in
     confirms_seen (stored_of c.args.self.now) c.in-Confirms.node c.in-Confirms.number c.in-Confirms.owner c.confirm.new.self.owners _ _
-    (c.confirm.ensures.owners ∙ ap (λ n. with_confirmed n owners) c.of_open.ensures) c.advance.ensures.opens c.advance.ensures.delegations c.args.block.now c.args.change c.in-Confirms.is
+    (c.confirm.ensures.owners ∙ ap (λ n. with_confirmed n owners) c.of_open.ensures) c.advance.ensures.opens c.advance.ensures.delegations c.args.change c.in-Confirms.is
 
 pub returns-in-Confirms-clause-kept : goal.returns-in-Confirms-clause-kept
 returns-in-Confirms-clause-kept c journal agrees =
@@ -24,7 +24,7 @@ pub returns-in-Releases-clause-state : goal.returns-in-Releases-clause-state
 returns-in-Releases-clause-state c =
     let owners = c.args.self.now.owners.owners in
     releases_seen (stored_of c.args.self.now) c.in-Releases.owner c.remove.new.self.owners _
-    (c.remove.ensures.owners ∙ ap (λ n. without_owner n owners) c.of_lock.ensures) c.remove_owner.ensures c.args.block.now c.args.change c.in-Releases.is
+    (c.remove.ensures.owners ∙ ap (λ n. without_owner n owners) c.of_lock.ensures) c.remove_owner.ensures c.args.change c.in-Releases.is
 
 pub returns-in-Releases-clause-kept : goal.returns-in-Releases-clause-kept
 returns-in-Releases-clause-kept c journal agrees =

@@ -1,22 +1,20 @@
 -- Which entries may come next, and which may not, by what is decided.
-use Rattle.std.proofs.Common.{◌≡◌, ◌≢◌, ◌<◌, ◌≤◌, [], Option, Some, None, Result, Ok, Err, ℕ, length, refl, ap, ◌∙◌, arith, subst, sym}
-use Rattle.std.specs.Prelude.{Bool, true, false, ◌&&◌, IfNone, IfOk, IfSome, IsErrOf, IsFalse, IsTrue, is_some, not, option_map}
+use Rattle.std.proofs.Common.{◌≡◌, ◌≢◌, ◌<◌, ◌≤◌, Option, Some, None, Result, Ok, Err, ℕ, length, refl, ap, ◌∙◌, arith, subst, sym}
+use Rattle.std.specs.Option.{ok_or}
+use Rattle.std.specs.Prelude.{Bool, true, false, ◌&&◌, IfErr, IfNone, IfOk, IfSome, IsErrOf, IsFalse, IsTrue, is_some, not, option_map}
 use Rattle.std.proofs.lemmas.Bool.{both_ways, cond_both, lt-ltb, ltb-true}
 use Rattle.nfs_core.proofs.Journals.{decides_something}
 use Rattle.nfs_core.proofs.Transferring.{each_read, each_write}
 use Rattle.nfs_core.proofs.SoundSequences.{some_equal}
-use Rattle.nfs_core.specs.Expiry.{IsNotEndedFor}
-use Rattle.nfs_core.specs.PathMarking.{IsNotMarkedFor}
+use Rattle.nfs_core.specs.Events.{MayNotHappen}
 use Rattle.nfs_core.specs.Server.{Server}
-use Rattle.nfs_core.specs.declared.core_error.CoreError.{CoreError}
 use Rattle.nfs_core.specs.declared.core_error.CoreError.TheVariants as core_errors
+use Rattle.nfs_core.specs.declared.event.Event.TheVariants as events
 use Rattle.nfs_core.specs.Following.{CanBeAsked, IsNext, MayBeAnswered, MayFollow, error_of}
 use Rattle.nfs_core.specs.declared.following.FollowError.TheVariants as errors
 use Rattle.nfs_core.specs.Step.{HasNoAnswer, HasNoStep, IsAnswered, Step}
 use Rattle.nfs_rules.specs.Deciding.{Decides}
 use Rattle.nfs_rules.specs.declared.decision.Decision.{Decision}
-use Rattle.nfs_rules.specs.entries.Expire.{IsExpiry}
-use Rattle.nfs_rules.specs.entries.Path.{IsPathMark}
 use Rattle.nfs_rules.specs.entries.Revoke.{IsRevocation}
 use Rattle.nfs_rules.specs.operations.{AtMostOneDecision, IsPlain, IsRuled, IsRuledBy}
 use Rattle.nfs_rules.specs.operations.Delegreturn as delegreturn
@@ -40,15 +38,10 @@ use Rattle.nfs_xdr.specs.Names as names
 use Rattle.nfs_xdr.specs.Names.{Names, Nothing, Client, Opener, Owned, names_of, seqid_in}
 use Rattle.nfs_state.specs.Changes.{after}
 use Rattle.nfs_state.specs.Entries.{IsFilehandle, IsSendable, can_be_asked, entry_of, is_filehandle}
-use Rattle.nfs_state.specs.Room.{HasOwnerPlace, HasOwnerRoom, HasRoom, TakesNoMemory}
-use Rattle.nfs_state.specs.Room.{IsWithinLimits as IsWithinNumbers}
 use Rattle.nfs_state.specs.State.{State, History}
 use Rattle.nfs_state.specs.Stored.{meaning}
-use Rattle.nfs_state.specs.declared.tables.Tables.{Tables}
-use Rattle.nfs_state.specs.declared.entry.Expire.{Expire}
-use Rattle.nfs_state.specs.declared.entry.Path.{Path}
-use Rattle.nfs_state.specs.declared.entry.Revoke.{Revoke}
 use Rattle.nfs_state.specs.declared.effect.Effect.{Effect}
+use Rattle.nfs_state.specs.declared.entry.Revoke.{Revoke}
 use Rattle.nfs_state.specs.declared.entry.Call.{Call}
 use Rattle.nfs_state.specs.declared.entry.Entry.{Entry}
 use Rattle.nfs_state.specs.declared.entry.Entry.TheVariants as entries
@@ -218,7 +211,7 @@ limit_not_next shortages.Limit is = refl
 limit_not_next shortages.Memory is = absurd cc
 
 -- an entry that may come next, and leads to the state that its effect gives
-abbrev pub Step-next : (journal : History) (old new : State) (entry : Entry) (effect : Effect) → IsNext journal old entry effect → new ≡ after (length journal.entries) entry effect old → Step journal old entry new
+abbrev pub Step-next : (journal : History) (old new : State) (entry : Entry) (effect : Effect) → IsNext journal old entry effect → new ≡ after (length journal.entries) effect old → Step journal old entry new
 Step-next journal old new entry effect next state = record { below = next.below; effect = effect; allowed = next.allowed; state = state }
 
 -- where memory runs out for a decision, no limit would be passed
@@ -235,84 +228,8 @@ next_follows server (entries.Expire expire) effect next = ((next.allowed.live, n
 next_follows server (entries.Revoke revoke) effect next = ((effect, next.allowed), next.below)
 next_follows server (entries.Path path) effect next = (next.allowed.live, next.below)
 
--- a client's end may come next
-pub expiry_next : (journal : History) (old : State) (expire : Expire) (effect : Effect) → length journal.entries < JOURNAL_LIMIT → IsExpiry journal old expire effect → IsNext journal old (entries.Expire expire) effect
-expiry_next journal old expire effect below expiry = record {
-  below = below;
-  allowed = expiry;
-  fits = record {
-    kept = ap (λ (e : Effect). e.owner) expiry.removal;
-    numbers = subst (λ (e : Effect). IsWithinNumbers [] e.change old) (sym expiry.removal) tt;
-    place = subst (λ (e : Effect). HasOwnerPlace e.owner old) (sym expiry.removal) tt;
-  };
-}
-
--- where a client isn't removed though there is memory, its end may not come next
-pub no_expiry : (server : Server) (expire : Expire) (error : CoreError) → error ≢ core_errors.Memory → IsNotEndedFor server expire error → HasNoStep server.journal (meaning server.stored) (entries.Expire expire)
-no_expiry server expire core_errors.NotLive other kept new step = absurd (cc (kept, step.allowed.live))
-no_expiry server expire core_errors.NotDue other kept new step = absurd (cc (kept.1, step.allowed.due))
-no_expiry server expire core_errors.Full other kept new step = omega (arith, kept.1, step.below)
-no_expiry server expire core_errors.Memory other kept new step = absurd (other refl)
-
--- a client's end takes no memory beside its entry
-pub expiry_memory : (journal : History) (old : State) (expire : Expire) (effect : Effect) (tables : Tables) → IsExpiry journal old expire effect → TakesNoMemory (entries.Expire expire) effect tables
-expiry_memory journal old expire effect tables expiry = record {
-  call = tt;
-  kept = refl;
-  owner = subst (λ (e : Effect). HasOwnerRoom e.owner tables) (sym expiry.removal) tt;
-  change = subst (λ (e : Effect). HasRoom [] e.change tables) (sym expiry.removal) tt;
-}
-
--- a delegation's end may come next
-pub revocation_next : (journal : History) (old : State) (revoke : Revoke) (effect : Effect) → length journal.entries < JOURNAL_LIMIT → IsRevocation journal old revoke effect → IsNext journal old (entries.Revoke revoke) effect
-revocation_next journal old revoke effect below revocation = record {
-  below = below;
-  allowed = revocation;
-  fits = record {
-    kept = ap (λ (e : Effect). e.owner) revocation.removal;
-    numbers = subst (λ (e : Effect). IsWithinNumbers [] e.change old) (sym revocation.removal) tt;
-    place = subst (λ (e : Effect). HasOwnerPlace e.owner old) (sym revocation.removal) tt;
-  };
-}
-
--- where a delegation isn't the next one to be taken away, its end may not come next
-pub no_revocation : (journal : History) (old : State) (revoke : Revoke) (result : Option Effect) → IfNone result ((effect : Effect) → IsRevocation journal old revoke effect → ⊥) → IfNone result (HasNoStep journal old (entries.Revoke revoke))
-no_revocation journal old revoke None none = λ new step. none step.effect step.allowed
-no_revocation journal old revoke (Some effect) none = tt
-
--- a delegation's end takes no memory beside its entry
-pub revocation_memory : (journal : History) (old : State) (revoke : Revoke) (effect : Effect) (tables : Tables) → IsRevocation journal old revoke effect → TakesNoMemory (entries.Revoke revoke) effect tables
-revocation_memory journal old revoke effect tables revocation = record {
-  call = tt;
-  kept = refl;
-  owner = subst (λ (e : Effect). HasOwnerRoom e.owner tables) (sym revocation.removal) tt;
-  change = subst (λ (e : Effect). HasRoom [] e.change tables) (sym revocation.removal) tt;
-}
-
--- a mark of a client's path may come next
-pub path_next : (journal : History) (old : State) (path : Path) (effect : Effect) → length journal.entries < JOURNAL_LIMIT → IsPathMark journal old path effect → IsNext journal old (entries.Path path) effect
-path_next journal old path effect below mark = record {
-  below = below;
-  allowed = mark;
-  fits = record {
-    kept = ap (λ (e : Effect). e.owner) mark.mark;
-    numbers = subst (λ (e : Effect). IsWithinNumbers [] e.change old) (sym mark.mark) tt;
-    place = subst (λ (e : Effect). HasOwnerPlace e.owner old) (sym mark.mark) tt;
-  };
-}
-
--- where a path isn't marked though there is memory, its mark may not come next
-pub no_path_mark : (server : Server) (path : Path) (error : CoreError) → error ≢ core_errors.Memory → IsNotMarkedFor server path error → HasNoStep server.journal (meaning server.stored) (entries.Path path)
-no_path_mark server path core_errors.NotLive other kept new step = absurd (cc (kept, step.allowed.live))
-no_path_mark server path core_errors.NotDue other kept new step = absurd kept.1
-no_path_mark server path core_errors.Full other kept new step = omega (arith, kept.1, step.below)
-no_path_mark server path core_errors.Memory other kept new step = absurd (other refl)
-
--- a mark of a client's path takes no memory beside its entry
-pub path_memory : (journal : History) (old : State) (path : Path) (effect : Effect) (tables : Tables) → IsPathMark journal old path effect → TakesNoMemory (entries.Path path) effect tables
-path_memory journal old path effect tables mark = record {
-  call = tt;
-  kept = refl;
-  owner = subst (λ (e : Effect). HasOwnerRoom e.owner tables) (sym mark.mark) tt;
-  change = subst (λ (e : Effect). HasRoom [] e.change tables) (sym mark.mark) tt;
-}
+-- where no delegation may be taken away with this entry, it may not happen
+pub revocation_refused : (server : Server) (revoke : Revoke) (found : Option Effect) → IfNone found ((effect : Effect) → IsRevocation server.journal (meaning server.stored) revoke effect → ⊥)
+    → IfErr (ok_or found core_errors.NotDue) (MayNotHappen server (events.Revoke revoke))
+revocation_refused server revoke None none = λ may. none may.0 may.1
+revocation_refused server revoke (Some effect) none = tt
