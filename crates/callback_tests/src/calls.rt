@@ -183,6 +183,43 @@ fn answer_next(rt: &HostRuntime, peer: &mut Peer) -> io::Result<Option<(u32, u32
     Ok(peer.toy.asked)
 }
 
+/// Where 512 calls are under way and another waits, 64 of their clients are asked about in a round. One that isn't live
+/// any more gives its place, and marks nothing. Where all are live, none does.
+#[test]
+fn place_of_a_dead_client(rt: HostRuntime) -> io::Result<()> {
+    let mut peer = Peer::new(&rt)?;
+    let seen = ask_who_is_live(&rt, &mut peer);
+    let is_marked = !peer.toy.marks.is_empty();
+    drop(peer);
+    let wanted = [(Some(64u32), false), (Some(100), true), (Some(99), false)];
+    assert!(&rt; seen? == wanted && !is_marked);
+    Ok(())
+}
+
+// Which client was asked about last, and whether the next call was begun: in two rounds, before which one of 512 clients
+// died; and after eight more, in which one more waits, and all others are live.
+fn ask_who_is_live(rt: &HostRuntime, peer: &mut Peer) -> io::Result<[(Option<u32>, bool); 3]> {
+    let addr = peer.address(rt)?;
+    for client in 1..=513 {
+        peer.toy.recall(rt.alloc(), client, client, addr.as_str())?;
+    }
+    peer.toy.dead = Some(100);
+    peer.round(rt);
+    let first = (peer.toy.asked_live, has_asked(peer, 513));
+    peer.round(rt);
+    let second = (peer.toy.asked_live, has_asked(peer, 513));
+    peer.toy.recall(rt.alloc(), 514, 514, addr.as_str())?;
+    for _ in 0..8 {
+        peer.round(rt);
+    }
+    Ok([first, second, (peer.toy.asked_live, has_asked(peer, 514))])
+}
+
+// Whether this delegation was asked about last, as it is where its recall is begun in the last look.
+fn has_asked(peer: &Peer, number: u32) -> bool {
+    matches!(peer.toy.asked, Some((_, last)) if last == number)
+}
+
 /// Once a mark finds no room for good, it is dropped, and no more clients are probed.
 #[test]
 fn no_room_for_marks(rt: HostRuntime) -> io::Result<()> {

@@ -10,6 +10,10 @@ use xdr::Bytes;
 pub(crate) struct Toy {
     pub(crate) recalls: VecDeque<Recall>,
     pub(crate) unknown: Option<Probe>,
+    /// A client that isn't live any more, though its delegations are still said to be its own.
+    pub(crate) dead: Option<u32>,
+    /// The client of which it was asked last whether it is live.
+    pub(crate) asked_live: Option<u32>,
     /// Whether the delegations are still their clients'.
     pub(crate) is_held: bool,
     /// What marks fail with.
@@ -25,6 +29,8 @@ impl Toy {
         Ok(Toy {
             recalls: VecDeque::new(alloc),
             unknown: None,
+            dead: None,
+            asked_live: None,
             is_held: true,
             refusal: None,
             marks: Vec::with_capacity(alloc, 16)?,
@@ -83,6 +89,11 @@ impl CallbackSource for Toy {
             })),
             _ => Ok(None),
         }
+    }
+
+    fn is_live(&mut self, client: u32) -> bool {
+        self.asked_live = Some(client);
+        self.dead != Some(client)
     }
 
     fn has_callback(&mut self, _client: u32, _callback: &Callback) -> bool {

@@ -117,6 +117,14 @@ queue_at client lines = queue_in (tree.get nat_cmp lines.lines client)
 abbrev pub recalls_at : ℕ → Lines → List Recall
 recalls_at client lines = recalls_in (queue_at client lines)
 
+abbrev pub current_in : Option Line → Option Errand
+current_in None = None
+current_in (Some line) = current_of line
+
+-- the call of this client that is under way
+abbrev pub current_for : ℕ → Lines → Option Errand
+current_for client lines = current_in (tree.get nat_cmp lines.lines client)
+
 abbrev pub state_in : Option Line → LineState
 state_in None = states.Empty
 state_in (Some line) = state_of line

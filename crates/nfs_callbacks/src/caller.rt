@@ -98,6 +98,7 @@ impl Caller {
             self.calls.retry_refused();
             self.calls.mark_owed(source);
             self.calls.check(source);
+            self.calls.renew_asks();
             self.probe(source);
             self.can_begin = true;
         }
@@ -175,16 +176,23 @@ impl Caller {
         is_put
     }
 
-    // Begins calls, the client's first behind whose call was begun last, until the system refuses one a socket.
+    // Begins calls, the client's first behind whose call was begun last, until the system refuses one a socket. Where as
+    // many are under way as may be, one whose client isn't live any more gives its place.
     fn begin<N: Net, S: CallbackSource>(&mut self, net: &N, source: &mut S) {
         let mut room = UNDER_WAY_LIMIT.saturating_sub(self.calls.under_way());
         for _ in 0..BEGIN_LIMIT {
-            if room == 0 || !self.can_begin {
+            if !self.can_begin {
                 return;
             }
             let Some(client) = self.calls.lines.next(self.turn, LineState::Ready) else {
                 return;
             };
+            if room == 0 {
+                if !self.calls.give_place(source) {
+                    return;
+                }
+                room = 1;
+            }
             match self.begin_first(client, net, source) {
                 Beginning::UnderWay => room -= 1,
                 Beginning::Over => {}

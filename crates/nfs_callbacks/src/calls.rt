@@ -4,7 +4,8 @@ use crate::lines::Lines;
 use crate::{CallbackSource, MarkError};
 use std::alloc::Global;
 
-// The most calls of which one round asks whether they are still awaited.
+// The most calls of which one round asks whether they are still awaited, and the most of which it asks whether their
+// clients are live, where others wait for their places.
 const CHECK_LIMIT: usize = 64;
 
 /// The calls to all clients, and what becomes of those that are over: they mark the path of their client.
@@ -13,6 +14,10 @@ pub(crate) struct Calls {
     pub(crate) lines: Lines,
     // The client whose call was checked last.
     last_check: u32,
+    // The client that was asked about last.
+    last_ask: u32,
+    // About how many more it may be asked in this round.
+    asks_left: usize,
     // Whether paths can still be marked in this run.
     can_mark: bool,
 }
@@ -22,6 +27,8 @@ impl Calls {
         Calls {
             lines: Lines::new(alloc),
             last_check: 0,
+            last_ask: 0,
+            asks_left: CHECK_LIMIT,
             can_mark: true,
         }
     }
@@ -159,5 +166,39 @@ impl Calls {
             line.let_go();
             self.lines.tidy(client);
         }
+    }
+
+    /// Has as many calls asked about again as one round may.
+    pub(crate) fn renew_asks(&mut self) {
+        self.asks_left = CHECK_LIMIT;
+    }
+
+    /// Lets go the first call under way whose client isn't live any more, behind the one that was asked about last, and
+    /// returns whether it found one. It marks nothing.
+    pub(crate) fn give_place<S: CallbackSource>(&mut self, source: &mut S) -> bool {
+        for _ in 0..self.asks_left {
+            let Some(client) = self.lines.next_called(self.last_ask) else {
+                return false;
+            };
+            self.last_ask = client;
+            self.asks_left = self.asks_left.saturating_sub(1);
+            if !source.is_live(client) {
+                return self.let_go(client);
+            }
+        }
+        false
+    }
+
+    // Lets go the client's call, and returns whether one was under way.
+    fn let_go(&mut self, client: u32) -> bool {
+        let Some(line) = self.lines.line_mut(client) else {
+            return false;
+        };
+        if line.current().is_none() {
+            return false;
+        }
+        line.let_go();
+        self.lines.tidy(client);
+        true
     }
 }

@@ -1,7 +1,7 @@
 ghost use Rattle.std.specs.BTreeMap.Range.{IsFromStart};
 ghost use Rattle.std.specs.Ordering.{nat_cmp};
-ghost use Rattle.std.specs.Prelude.{◌≡◌, ◌≢◌, ◌≤◌, ◌∷◌, ◌++◌, [], ℕ, IfErr, IfNone, IfSome, OnErr, OnOk};
-ghost use Rattle.nfs_callbacks.specs.Lines.{IsNextIn, IsNowhere, recalls_at, recalls_in, state_for, queue_at};
+ghost use Rattle.std.specs.Prelude.{◌≡◌, ◌≢◌, ◌≤◌, ◌∷◌, ◌++◌, [], ℕ, IfErr, IfNone, IfSome, IsSome, OnErr, OnOk};
+ghost use Rattle.nfs_callbacks.specs.Lines.{IsNextIn, IsNowhere, current_for, recalls_at, recalls_in, state_for, queue_at};
 ghost use Rattle.nfs_callbacks.specs.declared.line.LineState.TheVariants as states;
 
 use crate::errand::Errand;
@@ -90,6 +90,26 @@ impl Lines {
             .values()
             .filter(|line| line.state() == state)
             .count()
+    }
+
+    /// The client whose call is the first one under way behind that of the client `after`, and from the least number
+    /// again after the greatest.
+    pub(crate) fn next_called(&self, after: u32) -> Option<u32>
+        ensures { IfSome result (λ client. IsSome (current_for client self.now)) }
+    {
+        match self.first_called_from(Bound::Excluded(after)) {
+            None => self.first_called_from(Bound::Unbounded),
+            found => found,
+        }
+    }
+
+    // The client whose call is the first one under way from there on.
+    fn first_called_from(&self, start: Bound<u32>) -> Option<u32>
+        ensures { IfSome result (λ client. IsSome (current_for client self.now)) }
+    {
+        let mut rest = self.lines.range((start, Bound::Unbounded));
+        let (client, _) = rest.find(|(_, line)| line.current().is_some())?;
+        Some(*client)
     }
 
     /// The client whose line is the first one in this state behind that of the client `after`, and from the least

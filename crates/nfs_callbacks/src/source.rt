@@ -30,6 +30,9 @@ pub trait CallbackSource {
     /// refused for the copy of the callback.
     fn probe(&mut self, after: u32) -> Result<Option<Probe>, AllocError>;
 
+    /// Whether the client with this number is live.
+    fn is_live(&mut self, client: u32) -> bool;
+
     /// Whether the client is live, and is called back like this.
     fn has_callback(&mut self, client: u32, callback: &Callback) -> bool;
 

@@ -52,6 +52,10 @@ impl<N: Naming, R: Wait> CallbackSource for SharedSource<'_, N, R> {
         }))
     }
 
+    fn is_live(&mut self, client: u32) -> bool {
+        self.shared.hold(self.rt).core().live(client)
+    }
+
     // Where memory is refused for the copy, the client may be as it was.
     fn has_callback(&mut self, client: u32, callback: &Callback) -> bool {
         match self.shared.callback(self.rt, client) {
