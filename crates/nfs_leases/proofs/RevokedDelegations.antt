@@ -1,9 +1,9 @@
 -- Delegations that are revoked, one after another.
 use Rattle.std.proofs.Common.{◌≡◌, ℕ, ◌-◌, ◌<◌, List, [], ◌∷◌, ◌++◌, length, true, false, None, Some, refl, sym, ap, subst, ◌∙◌, arith, length-append}
 use Rattle.std.proofs.lemmas.List.{map-append}
+use Rattle.nfs_core.specs.Events.{IsNotRevokedFor, IsRevoked, NoneIsDue, revoke_of}
 use Rattle.nfs_core.specs.Lawful as lawful
 use Rattle.nfs_core.specs.LiveClients.{RevocationsFollow}
-use Rattle.nfs_core.specs.Revoking.{IsNotRevokedFor, IsRevoked, NoneIsDue, revoke_of}
 use Rattle.nfs_core.specs.Server.{AreAlike, IsLawful, Server}
 use Rattle.nfs_core.specs.declared.core_error.CoreError.{CoreError}
 use Rattle.nfs_leases.specs.Sweeps.{AreRevoked, RevokesDue, revocations}

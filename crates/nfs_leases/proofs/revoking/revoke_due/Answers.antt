@@ -1,6 +1,6 @@
 -- The loop goes one revocation further, until none is due or one is refused.
 use Rattle.std.proofs.Common.{ℕ, [], ◌∷◌, ◌++◌, Option, Ok, refl, sym, ap, subst, ◌∙◌, arith, length-append}
-use Rattle.nfs_core.specs.Revoking.{IsRevoked}
+use Rattle.nfs_core.specs.Events.{IsRevoked}
 use Rattle.nfs_core.specs.Server.{Server}
 use Rattle.nfs_leases.proofs.RevokedDelegations.{clients_alike, count_below, ends, entries_left, revokes_more, revokes_none, stops}
 use Rattle.nfs_leases.proofs.revoking.revoke_due.Goals as goal
