@@ -3,11 +3,10 @@ use Rattle.std.proofs.Common.{◌≡◌, ℕ, Bool, true, false, not, ◌==◌, 
 use Rattle.std.proofs.lemmas.Bool.{eqb-true}
 use Rattle.std.specs.Prelude.{IfOk, IsFalse, IsTrue, OnErr}
 use Rattle.nfs_core.specs.Events.{EndsNoClient, entry_by}
-use Rattle.nfs_core.specs.LiveClients.{AreNumbered, LiveFollows, PathsFollow, RevocationsFollow}
+use Rattle.nfs_core.specs.LiveClients.{AreNumbered, EventsFollow, LiveFollows}
 use Rattle.nfs_core.specs.Server.{AreAlike, Enters, IsLawful, Server}
 use Rattle.nfs_core.specs.declared.core_error.CoreError.{CoreError}
 use Rattle.nfs_core.specs.declared.event.Event.{Event}
-use Rattle.nfs_core.specs.declared.event.Event.TheVariants as events
 use Rattle.nfs_owners.specs.ClientLaws.{HaveSameClients}
 use Rattle.nfs_owners.specs.LiveClients.{can_become_live}
 use Rattle.nfs_owners.specs.Registry.{Registry, is_live}
@@ -175,23 +174,13 @@ book_kept is_open was_opened lease old new same clients of = record {
   past = λ q h. clients.can_come q ∙ of.past q h;
 }
 
--- An event that ends no client leaves all clients as they are.
-clients_entered : RevocationsFollow → PathsFollow → (event : Event) (old new : Server) (number : ℕ)
-    → EndsNoClient event → IsLawful old → Enters old new (entry_by event) number
-    → HaveSameClients old.stored.clients new.stored.clients
-clients_entered revocations paths (events.Expire expire) old new number ends lawful enters = absurd ends
-clients_entered revocations paths (events.Revoke revoke) old new number ends lawful enters =
-    revocations old.journal (meaning old.stored) (meaning new.stored) revoke lawful enters.2
-clients_entered revocations paths (events.Path path) old new number ends lawful enters =
-    paths old.journal (meaning old.stored) (meaning new.stored) path lawful enters.2
-
--- So it keeps the book, and what isn't entered does too.
-pub book_entered : RevocationsFollow → PathsFollow → (is_open was_opened : ℕ → Bool) (lease : ℕ) (event : Event)
-    (old new : Server) (result : Result ℕ CoreError)
+-- An event that ends no client keeps the book, and so does one that isn't entered.
+pub book_entered : EventsFollow → (is_open was_opened : ℕ → Bool) (lease : ℕ) (event : Event) (old new : Server)
+    (result : Result ℕ CoreError)
     → EndsNoClient event → IsLawful old → IfOk result (Enters old new (entry_by event)) → OnErr result (AreAlike old new)
     → IsBookOf is_open was_opened lease old → IsBookOf is_open was_opened lease new
-book_entered revocations paths is_open was_opened lease event old new (Ok number) ends lawful enters alike of =
+book_entered follow is_open was_opened lease event old new (Ok number) ends lawful enters alike of =
     book_kept is_open was_opened lease old new (ap (λ (j : History). j.lease) enters.1)
-    (clients_entered revocations paths event old new number ends lawful enters) of
-book_entered revocations paths is_open was_opened lease event old new (Err error) ends lawful enters alike of =
+    (follow old.journal (meaning old.stored) (meaning new.stored) event ends lawful enters.2) of
+book_entered follow is_open was_opened lease event old new (Err error) ends lawful enters alike of =
     book_alike is_open was_opened lease old new alike of

@@ -33,7 +33,7 @@ loop-count-preserved c =
     subst (λ (o : Option ℕ). IsRevoked c.loop-count.core c.revoke.new.self c.args.now o) c.in-Ok-Some.field-0-is
     c.in-Ok-Some.ensures.revoked in
     let more =
-    revokes_more c.live_clients_follow.ensures.revocations c.args.now i.0 number c.args.core.now c.loop-count.core
+    revokes_more c.live_clients_follow.ensures.events c.args.now i.0 number c.args.core.now c.loop-count.core
     c.revoke.new.self i.3 i.2 revoked in (
       i.0 ++ number ∷ [],
       omega (arith, i.1, length-append i.0 (number ∷ [])),

@@ -5,10 +5,9 @@ use Rattle.nfs_leases.proofs.leased_core.LeasedCore.enter.Goals as goal
 pub invariant_of-self : goal.invariant_of-self
 invariant_of-self g c =
     let old = c.args.self.now in
-    let laws = c.live_clients_follow.ensures in
     record {
       agrees =
-          book_entered laws.revocations laws.paths (g.B.LeaseBook.is_open old.book)
+          book_entered c.live_clients_follow.ensures.events (g.B.LeaseBook.is_open old.book)
           (g.B.LeaseBook.was_opened old.book) (g.B.LeaseBook.lease old.book) c.args.event old.core c.enter.new.self
           c.enter.result c.requires c.cores_are_lawful.ensures c.enter.ensures.enters c.enter.ensures.same old.agrees;
     }
