@@ -1,11 +1,12 @@
 -- A book that follows what an entry did is again the book of the core's clients.
-use Rattle.std.proofs.Common.{◌≡◌, ℕ, Bool, true, false, not, ◌==◌, ◌&&◌, ◌||◌, [], ◌∷◌, Option, Some, None, Result, Ok, Err, refl, sym, ap, subst, ◌∙◌}
+use Rattle.std.proofs.Common.{◌≡◌, ℕ, Bool, true, false, not, ◌==◌, ◌&&◌, ◌||◌, [], ◌∷◌, Result, Ok, Err, refl, sym, ap, ◌∙◌}
 use Rattle.std.proofs.lemmas.Bool.{eqb-true}
 use Rattle.std.specs.Prelude.{IfOk, IsFalse, IsTrue, OnErr}
-use Rattle.nfs_core.specs.LiveClients.{AreNumbered, LiveFollows, PathsFollow, RevocationsFollow}
-use Rattle.nfs_core.specs.Revoking.{IsRevoked, revoke_of}
+use Rattle.nfs_core.specs.Events.{EndsNoClient, entry_by}
+use Rattle.nfs_core.specs.LiveClients.{AreNumbered, EventsFollow, LiveFollows}
 use Rattle.nfs_core.specs.Server.{AreAlike, Enters, IsLawful, Server}
 use Rattle.nfs_core.specs.declared.core_error.CoreError.{CoreError}
+use Rattle.nfs_core.specs.declared.event.Event.{Event}
 use Rattle.nfs_owners.specs.ClientLaws.{HaveSameClients}
 use Rattle.nfs_owners.specs.LiveClients.{can_become_live}
 use Rattle.nfs_owners.specs.Registry.{Registry, is_live}
@@ -16,8 +17,6 @@ use Rattle.nfs_leases.specs.BookOf.{CanFollow, IsBookOf, events_of_change}
 use Rattle.nfs_leases.proofs.Comes.{AreLaws, lease_after}
 use Rattle.nfs_state.specs.State.{History}
 use Rattle.nfs_state.specs.Stored.{Stored, meaning}
-use Rattle.nfs_state.specs.declared.entry.Entry.TheVariants as entries
-use Rattle.nfs_state.specs.declared.entry.Path.{Path}
 
 fresh_by : (opened can : Bool) → (IsTrue opened → IsFalse can) → IsTrue can → IsFalse opened
 fresh_by true can h k = sym k ∙ h refl
@@ -175,25 +174,13 @@ book_kept is_open was_opened lease old new same clients of = record {
   past = λ q h. clients.can_come q ∙ of.past q h;
 }
 
--- A call of `revoke`, and one of `mark_path`, keep the book.
-pub book_revoked : RevocationsFollow → (is_open was_opened : ℕ → Bool) (lease now : ℕ) (old new : Server)
-    (result : Result (Option ℕ) CoreError)
-    → IsLawful old → IfOk result (IsRevoked old new now) → OnErr result (AreAlike old new)
-    → IsBookOf is_open was_opened lease old → IsBookOf is_open was_opened lease new
-book_revoked follow is_open was_opened lease now old new (Ok None) lawful same alike of =
-    subst (IsBookOf is_open was_opened lease) (sym same) of
-book_revoked follow is_open was_opened lease now old new (Ok (Some number)) lawful enters alike of =
-    book_kept is_open was_opened lease old new (ap (λ (j : History). j.lease) enters.1)
-    (follow old.journal (meaning old.stored) (meaning new.stored) (revoke_of number now) lawful enters.2) of
-book_revoked follow is_open was_opened lease now old new (Err error) lawful enters alike of =
-    book_alike is_open was_opened lease old new alike of
-
-pub book_marked : PathsFollow → (is_open was_opened : ℕ → Bool) (lease : ℕ) (old new : Server) (path : Path)
+-- An event that ends no client keeps the book, and so does one that isn't entered.
+pub book_entered : EventsFollow → (is_open was_opened : ℕ → Bool) (lease : ℕ) (event : Event) (old new : Server)
     (result : Result ℕ CoreError)
-    → IsLawful old → IfOk result (Enters old new (entries.Path path)) → OnErr result (AreAlike old new)
+    → EndsNoClient event → IsLawful old → IfOk result (Enters old new (entry_by event)) → OnErr result (AreAlike old new)
     → IsBookOf is_open was_opened lease old → IsBookOf is_open was_opened lease new
-book_marked follow is_open was_opened lease old new path (Ok number) lawful enters alike of =
+book_entered follow is_open was_opened lease event old new (Ok number) ends lawful enters alike of =
     book_kept is_open was_opened lease old new (ap (λ (j : History). j.lease) enters.1)
-    (follow old.journal (meaning old.stored) (meaning new.stored) path lawful enters.2) of
-book_marked follow is_open was_opened lease old new path (Err error) lawful enters alike of =
+    (follow old.journal (meaning old.stored) (meaning new.stored) event ends lawful enters.2) of
+book_entered follow is_open was_opened lease event old new (Err error) ends lawful enters alike of =
     book_alike is_open was_opened lease old new alike of

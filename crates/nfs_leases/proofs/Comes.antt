@@ -5,7 +5,7 @@ use Rattle.std.specs.Prelude.{IsFalse, IsTrue}
 use Rattle.std.specs.List.{list_any}
 use Rattle.nfs_core.specs.LiveClients.{AreNumbered, EndsFollow, LiveEnd}
 use Rattle.nfs_core.specs.Server.{IsLawful, Server}
-use Rattle.nfs_core.specs.Expiry.{expire_of}
+use Rattle.nfs_core.specs.Events.{expire_of}
 use Rattle.nfs_core.specs.Step.{Step}
 use Rattle.nfs_owners.specs.LiveClients.{IsNextLive, can_become_live}
 use Rattle.nfs_owners.specs.Registry.{Registry, is_live}

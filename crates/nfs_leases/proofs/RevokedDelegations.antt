@@ -1,11 +1,12 @@
 -- Delegations that are revoked, one after another.
 use Rattle.std.proofs.Common.{◌≡◌, ℕ, ◌-◌, ◌<◌, List, [], ◌∷◌, ◌++◌, length, true, false, None, Some, refl, sym, ap, subst, ◌∙◌, arith, length-append}
 use Rattle.std.proofs.lemmas.List.{map-append}
+use Rattle.nfs_core.specs.Events.{IsNotRevokedFor, IsRevoked, NoneIsDue, revoke_of}
 use Rattle.nfs_core.specs.Lawful as lawful
-use Rattle.nfs_core.specs.LiveClients.{RevocationsFollow}
-use Rattle.nfs_core.specs.Revoking.{IsNotRevokedFor, IsRevoked, NoneIsDue, revoke_of}
+use Rattle.nfs_core.specs.LiveClients.{EventsFollow}
 use Rattle.nfs_core.specs.Server.{AreAlike, IsLawful, Server}
 use Rattle.nfs_core.specs.declared.core_error.CoreError.{CoreError}
+use Rattle.nfs_core.specs.declared.event.Event.TheVariants as events
 use Rattle.nfs_leases.specs.Sweeps.{AreRevoked, RevokesDue, revocations}
 use Rattle.nfs_leases.specs.Visit.{Gains}
 use Rattle.nfs_leases.specs.laws.Counting.{revoked_entries}
@@ -65,7 +66,7 @@ gains_one : (now number : ℕ) (mid new : Server) → IsRevoked mid new now (Som
     → Gains (revocations now (number ∷ [])) mid new
 gains_one now number mid new k = record { journal = k.1; leads = (meaning new.stored, k.2, refl) }
 
-pub revokes_more : RevocationsFollow → (now : ℕ) (numbers : List ℕ) (number : ℕ) (old mid new : Server)
+pub revokes_more : EventsFollow → (now : ℕ) (numbers : List ℕ) (number : ℕ) (old mid new : Server)
     → IsLawful mid → Revokes now numbers old mid → IsRevoked mid new now (Some number)
     → Revokes now (numbers ++ number ∷ []) old new
 revokes_more follow now numbers number old mid new lawful h k = record {
@@ -76,7 +77,7 @@ revokes_more follow now numbers number old mid new lawful h k = record {
       (gains_more (revocations now numbers) (revocations now (number ∷ [])) old mid new h.gains (gains_one now number mid new k));
   clients =
       clients_more old.stored.clients mid.stored.clients new.stored.clients h.clients
-      (follow mid.journal (meaning mid.stored) (meaning new.stored) (revoke_of number now) lawful k.2);
+      (follow mid.journal (meaning mid.stored) (meaning new.stored) (events.Revoke (revoke_of number now)) tt lawful k.2);
 }
 
 -- there are no more of them than a journal has entries

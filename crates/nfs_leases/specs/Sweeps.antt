@@ -1,8 +1,7 @@
 -- What a sweep does.
 use Rattle.std.specs.Prelude.{◌≡◌, ℕ, ◌<◌, Bool, false, true, ◌==◌, List, [], ◌∷◌, ◌++◌, length, map, Some, ⊤}
 use Rattle.std.specs.List.{list_any}
-use Rattle.nfs_core.specs.Expiry.{IsWithoutRoom}
-use Rattle.nfs_core.specs.Revoking.{IsRevoked, NoneIsDue, revoke_of}
+use Rattle.nfs_core.specs.Events.{IsRevoked, IsWithoutRoom, NoneIsDue, revoke_of}
 use Rattle.nfs_core.specs.Server.{AreAlike, Server}
 use Rattle.nfs_core.specs.declared.core_error.CoreError.{CoreError}
 use Rattle.nfs_owners.specs.Registry.{is_live}

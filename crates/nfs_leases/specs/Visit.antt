@@ -1,6 +1,6 @@
 -- What a sweep does with one client.
 use Rattle.std.specs.Prelude.{◌≡◌, ℕ, ◌+◌, IsFalse, IsTrue, List, [], ◌∷◌, ◌++◌}
-use Rattle.nfs_core.specs.Expiry.{IsWithoutRoom, expire_of}
+use Rattle.nfs_core.specs.Events.{IsWithoutRoom, expire_of}
 use Rattle.nfs_core.specs.Lawful as lawful
 use Rattle.nfs_core.specs.Server.{Server}
 use Rattle.nfs_core.specs.declared.core_error.CoreError.{CoreError}

@@ -1,14 +1,12 @@
-ghost use Rattle.std.specs.Prelude.{◌≡◌, ◌≤◌, ◌↔◌, ◌+◌, [], ◌∷◌, IfErr, IfNone, IfOk, IfSome, IsTrue, None, Ok, OnErr, length};
+ghost use Rattle.std.specs.Prelude.{◌≡◌, ◌≤◌, ◌+◌, [], ◌∷◌, IfErr, IfNone, IfOk, IfSome, IsTrue, OnErr, length};
 ghost use Rattle.nfs_core.specs.Entered.{Answers};
-ghost use Rattle.nfs_core.specs.PathMarking.{IsNotMarkedFor, path_of};
-ghost use Rattle.nfs_core.specs.Revoking.{IsNotRevokedFor, IsRevoked, NoneIsDue};
+ghost use Rattle.nfs_core.specs.Events.{EndsNoClient, IsNotEntered, entry_by};
 ghost use Rattle.nfs_core.specs.Server.{AreAlike, Enters, IsLawful};
 ghost use Rattle.nfs_leases.specs.BookEvent.{AllHappen};
 ghost use Rattle.nfs_leases.specs.BookOf.{IsBookOf, events_entered};
 ghost use Rattle.nfs_leases.specs.PlainBook.{has_open_lease, with_renewal};
 ghost use Rattle.nfs_leases.specs.Sweeps.{Sweeps, leased_server};
 ghost use Rattle.nfs_state.specs.Entries.{IsFilehandle};
-ghost use Rattle.nfs_state.specs.declared.entry.Entry.TheVariants as entries;
 ghost use Rattle.nfs_xdr.specs.Op.{has_entry, opnum_of};
 ghost use Rattle.nfs_xdr.specs.OpResult.{op_result};
 ghost use Rattle.nfs_xdr.specs.Opnum.{answer_limit};
@@ -17,7 +15,7 @@ use crate::following::follow;
 use crate::renewing::renew_lease;
 use crate::sweeping::sweep_core;
 use crate::{LeaseBook, PlainLeases, Swept};
-use nfs_core::{Core, CoreError, Entered, Recall, lawful_is_safe, live_clients_follow};
+use nfs_core::{Core, CoreError, Entered, Event, Recall, lawful_is_safe, live_clients_follow};
 use nfs_state::{Moment, Request};
 use nfs_xdr::OpResult;
 
@@ -77,13 +75,13 @@ impl<B: LeaseBook> LeasedCore<B> {
         sweep_core(&mut self.core, &mut self.book, now)
     }
 
-    /// Revokes the delegation that is due at `now`, and of those that are due has the least number. Returns its number,
-    /// or None where none is due. Fails where there is no room for an entry; then nothing changes but room, of which
-    /// there isn't less. The leases stay as they are.
-    pub fn revoke(&mut self, now: Moment) -> Result<Option<u32>, CoreError>
-        ensures revoked { IfOk result (IsRevoked self.old.core self.new.core now) }
-        ensures none { (result ≡ Ok None) ↔ NoneIsDue self.old.core now }
-        ensures error { IfErr result (IsNotRevokedFor self.old.core now) }
+    /// Enters an event that ends no client, and returns the entry's number. Fails where the core does, and then nothing
+    /// changes but room, of which there isn't less. The leases stay as they are. A client's end comes by `sweep`, which
+    /// closes its lease before it.
+    pub fn enter(&mut self, event: Event) -> Result<u32, CoreError>
+        requires { EndsNoClient event }
+        ensures enters { IfOk result (Enters self.old.core self.new.core (entry_by event)) }
+        ensures error { IfErr result (IsNotEntered self.old.core event) }
         ensures same { OnErr result (AreAlike self.old.core self.new.core) }
         ensures room { OnErr result (self.old.core.room ≤ self.new.core.room) }
         ensures recalls { self.new.core.recalls ≡ self.old.core.recalls }
@@ -92,25 +90,7 @@ impl<B: LeaseBook> LeasedCore<B> {
     {
         live_clients_follow();
         cores_are_lawful(&self.core);
-        self.core.revoke(now)
-    }
-
-    /// Marks whether callbacks reach the client with this number. Returns the entry's number. Fails if the client isn't
-    /// live, or there is no room for an entry; then nothing changes but room, of which there isn't less. The leases stay
-    /// as they are.
-    pub fn mark_path(&mut self, client: u32, up: bool) -> Result<u32, CoreError>
-        ensures marks { IfOk result (Enters self.old.core self.new.core
-            (entries.Path (path_of client up))) }
-        ensures error { IfErr result (IsNotMarkedFor self.old.core (path_of client up)) }
-        ensures same { OnErr result (AreAlike self.old.core self.new.core) }
-        ensures room { OnErr result (self.old.core.room ≤ self.new.core.room) }
-        ensures recalls { self.new.core.recalls ≡ self.old.core.recalls }
-        ensures book { self.new.book ≡ self.old.book }
-        ensures lawful { IsLawful self.new.core }
-    {
-        live_clients_follow();
-        cores_are_lawful(&self.core);
-        self.core.mark_path(client, up)
+        self.core.enter(event)
     }
 
     /// Takes out the first of the recalls that are pending, as the core does. The leases stay as they are.

@@ -1,22 +1,20 @@
 //! The sweep through the leases of all live clients, and then the delegations that are due.
 
-ghost use Rattle.std.specs.Prelude.{◌≡◌, ◌<◌, ◌∷◌, [], List, ℕ, IsTrue, length};
+ghost use Rattle.std.specs.Prelude.{◌≡◌, List, ℕ, IsTrue};
 ghost use Rattle.nfs_core.specs.LiveClients.{AreOfOneRun};
 ghost use Rattle.nfs_core.specs.Server.{IsLawful};
 ghost use Rattle.nfs_owners.specs.Registry.{IsClientNumber, is_live};
-ghost use Rattle.nfs_leases.specs.BookEvent.{Close, AllHappen};
+ghost use Rattle.nfs_leases.specs.BookEvent.{AllHappen};
 ghost use Rattle.nfs_leases.specs.BookOf.{IsBookOf};
 ghost use Rattle.nfs_leases.specs.Sweeps.{EndsClients, Sweeps, leased_server, none_swept, tally};
 ghost use Rattle.nfs_leases.specs.Visit.{Gains, IsRightBy, Visit, events_by, expiries};
-ghost use Rattle.nfs_state.specs.Lease.{is_over};
 ghost use Rattle.nfs_state.specs.Stored.{meaning};
-ghost use Rattle.nfs_state.specs.declared.entry.TheConstants.{JOURNAL_LIMIT};
 
 use crate::revoking::revoke_due;
 use crate::visit_case::VisitCase;
 use crate::{Closing, LeaseBook, LeaseState, Swept};
-use nfs_core::{Core, lawful_is_safe, live_clients_follow};
-use nfs_state::{Moment, is_over};
+use nfs_core::{Core, Event, lawful_is_safe, live_clients_follow};
+use nfs_state::{Expire, Moment, is_over};
 
 /// Goes through the live clients, by rising numbers, and removes each whose lease is over at `now`: from the book, where
 /// the lease is still as it was seen, and then from the core. A client whose lease isn't over stays, and so does one
@@ -66,7 +64,8 @@ fn end_clients<B: LeaseBook>(core: &mut Core, book: &mut B, now: Moment) -> Swep
     swept
 }
 
-// Treats one live client.
+// Treats one live client: where its lease is over and there is room for an entry, the lease is closed, if it is still as
+// it was seen, and then the client is removed from the core.
 fn visit_of<B: LeaseBook>(core: &mut Core, book: &mut B, client: u32, now: Moment) -> VisitCase
     requires live { IsTrue (is_live client core.old.stored.clients) }
     requires number { IsClientNumber client }
@@ -88,37 +87,10 @@ fn visit_of<B: LeaseBook>(core: &mut Core, book: &mut B, client: u32, now: Momen
     if core.prepare().is_err() {
         return VisitCase::Refused;
     }
-    match close_and_expire(core, book, client, seen, now) {
-        Closing::Closed => VisitCase::Expired,
+    match book.close(client, seen, now) {
         Closing::Changed => VisitCase::Changed,
-    }
-}
-
-// Closes the lease of a live client, where it is still as it was seen, and then removes the client from the core, which
-// has room for the entry.
-fn close_and_expire<B: LeaseBook>(
-    core: &mut Core,
-    book: &mut B,
-    client: u32,
-    seen: Moment,
-    now: Moment,
-) -> Closing
-    requires live { IsTrue (is_live client core.old.stored.clients) }
-    requires number { IsClientNumber client }
-    requires run { AreOfOneRun core.old.journal (meaning core.old.stored) }
-    requires lease { B.lease book.old ≡ core.old.journal.lease }
-    requires due { IsTrue (is_over seen core.old.journal.lease now) }
-    requires room { 0 < core.old.room }
-    requires below { length core.old.journal.entries < JOURNAL_LIMIT }
-    ensures book { B.happens book.old (Close client seen now result) book.new }
-    ensures core { Gains (expiries (Close client seen now result ∷ [])) core.old core.new }
-    ensures recalls { core.new.recalls ≡ core.old.recalls }
-{
-    let closing = book.close(client, seen, now);
-    match closing {
-        Closing::Changed => closing,
-        Closing::Closed => match core.expire(client, seen, now) {
-            Ok(_) => closing,
+        Closing::Closed => match core.enter(Event::Expire(Expire { client, seen, now })) {
+            Ok(_) => VisitCase::Expired,
             Err(_) => unreachable!(),
         },
     }

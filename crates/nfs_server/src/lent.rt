@@ -1,15 +1,13 @@
-ghost use Rattle.std.specs.Prelude.{◌≡◌, ◌≤◌, ◌↔◌, ◌^◌, ◌∷◌, [], IfErr, IfNone, IfOk, IfSome, IsFalse, None, Ok, OnErr, ℕ, refl};
-ghost use Rattle.nfs_core.specs.PathMarking.{IsNotMarkedFor, path_of};
-ghost use Rattle.nfs_core.specs.Revoking.{IsNotRevokedFor, IsRevoked, NoneIsDue};
-ghost use Rattle.nfs_core.specs.Server.{AreAlike, Enters};
+ghost use Rattle.std.specs.Prelude.{◌≡◌, ◌≤◌, ◌^◌, ◌∷◌, [], IfErr, IfNone, IfOk, IfSome, IsFalse, OnErr, ℕ, refl};
+ghost use Rattle.nfs_core.specs.Events.{EndsNoClient, IsNotEntered, entry_by};
+ghost use Rattle.nfs_core.specs.Server.{AreAlike, Enters, IsLawful};
 ghost use Rattle.nfs_owners.specs.Registry.{is_live};
 ghost use Rattle.nfs_server.specs.Leases.{IsLent};
 ghost use Rattle.nfs_leases.specs.PlainBook.{Happens};
 ghost use Rattle.nfs_leases.specs.Sweeps.{Sweeps, leased_server};
-ghost use Rattle.nfs_state.specs.declared.entry.Entry.TheVariants as entries;
 
 use crate::Service;
-use nfs_core::{Core, CoreError, Moment, Recall};
+use nfs_core::{Core, CoreError, Event, Moment, Recall};
 use nfs_leases::{LeasedCore, PlainLeases, Swept, renewal_answer, renewed_client};
 use nfs_state::Request;
 use nfs_xdr::{ClientId, OpResult};
@@ -69,31 +67,19 @@ impl Lent {
         self.leased.sweep(now)
     }
 
-    /// Revokes the delegation that is due at `now`, and of those that are due has the least number. Returns its number,
-    /// or None where none is due. Fails where there is no room for an entry; then nothing changes but room, of which
-    /// there isn't less.
-    pub fn revoke(&mut self, now: Moment) -> Result<Option<u32>, CoreError>
-        ensures revoked { IfOk result (IsRevoked self.old.core self.new.core now) }
-        ensures none { (result ≡ Ok None) ↔ NoneIsDue self.old.core now }
-        ensures error { IfErr result (IsNotRevokedFor self.old.core now) }
+    /// Enters an event that ends no client, and returns the entry's number. Fails where the core does, and then nothing
+    /// changes but room, of which there isn't less.
+    pub fn enter(&mut self, event: Event) -> Result<u32, CoreError>
+        requires { EndsNoClient event }
+        ensures enters { IfOk result (Enters self.old.core self.new.core (entry_by event)) }
+        ensures error { IfErr result (IsNotEntered self.old.core event) }
         ensures same { OnErr result (AreAlike self.old.core self.new.core) }
         ensures room { OnErr result (self.old.core.room ≤ self.new.core.room) }
+        ensures recalls { self.new.core.recalls ≡ self.old.core.recalls }
         ensures book { self.new.book ≡ self.old.book }
+        ensures lawful { IsLawful self.new.core }
     {
-        self.leased.revoke(now)
-    }
-
-    /// Marks whether callbacks reach the client with this number. Returns the entry's number. Fails if the client isn't
-    /// live, or there is no room for an entry; then nothing changes but room, of which there isn't less.
-    pub fn mark_path(&mut self, client: u32, up: bool) -> Result<u32, CoreError>
-        ensures marks { IfOk result (Enters self.old.core self.new.core
-            (entries.Path (path_of client up))) }
-        ensures error { IfErr result (IsNotMarkedFor self.old.core (path_of client up)) }
-        ensures same { OnErr result (AreAlike self.old.core self.new.core) }
-        ensures room { OnErr result (self.old.core.room ≤ self.new.core.room) }
-        ensures book { self.new.book ≡ self.old.book }
-    {
-        self.leased.mark_path(client, up)
+        self.leased.enter(event)
     }
 
     /// Takes out the first of the recalls that are pending. It makes no entry.

@@ -8,12 +8,13 @@ use crate::batch::Batch;
 use crate::calls::Calls;
 use crate::connection::Connection;
 use crate::failure::Failure;
-use crate::order::Order;
+use crate::order::{Mark, Order};
 use crate::outcome::{BatchOutcome, ConnectionOutcome};
 use crate::session::Session;
 use crate::sweeping::Sweeps;
-use nfs_core::{Core, CoreError, Moment};
+use nfs_core::{Core, CoreError, Event, Moment};
 use nfs_server::{Lent, serve_duplex};
+use nfs_state::{Path, Revoke};
 use nfs_tree::Tree;
 use std::alloc::Global;
 use std::io::{Read, Write};
@@ -70,7 +71,7 @@ impl Alone<'_> {
         match order {
             Order::Serve(batch) => self.serve(batch)?.put(answer)?,
             Order::Sweep(now) => answer.put_swept(self.lent.sweep(now))?,
-            Order::Mark(mark) => answer.put_marked(self.lent.mark_path(mark.client, mark.is_up))?,
+            Order::Mark(mark) => answer.put_marked(self.mark(mark))?,
             Order::Revoke(now) => answer.put_revoked(self.revoke(now))?,
             Order::Take(xid) => answer.put_recall(xid, self.lent.take_recall())?,
             Order::Pending => answer.put_count(self.lent.core().pending().len())?,
@@ -79,10 +80,23 @@ impl Alone<'_> {
         Ok(())
     }
 
+    // The number of the entry.
+    fn mark(&mut self, mark: Mark) -> Result<u32, CoreError> {
+        self.lent.enter(Event::Path(Path {
+            client: mark.client,
+            up: mark.is_up,
+        }))
+    }
+
     // The number of the entry, if a delegation was due.
-    fn revoke(&mut self, now: Moment) -> Result<Option<usize>, CoreError> {
-        let entry = self.lent.core().journal().len();
-        Ok(self.lent.revoke(now)?.map(|_| entry))
+    fn revoke(&mut self, now: Moment) -> Result<Option<u32>, CoreError> {
+        match self.lent.core().due(now) {
+            None => Ok(None),
+            Some(number) => match self.lent.enter(Event::Revoke(Revoke { number, now })) {
+                Ok(entry) => Ok(Some(entry)),
+                Err(error) => Err(error),
+            },
+        }
     }
 
     fn serve(&mut self, batch: Batch) -> Result<BatchOutcome, Failure> {

@@ -70,7 +70,7 @@ impl Answer {
     /// Why a delegation that is due wasn't revoked, or 0; how many were; and the number of the entry, or 0.
     pub(crate) fn put_revoked(
         &mut self,
-        revoked: Result<Option<usize>, CoreError>,
+        revoked: Result<Option<u32>, CoreError>,
     ) -> Result<(), AllocError> {
         let (error, count, entry) = match revoked {
             Ok(Some(entry)) => (0, 1, entry),
@@ -79,7 +79,7 @@ impl Answer {
         };
         self.put_word(error)?;
         self.put_word(count)?;
-        self.put_count(entry)
+        self.put_word(entry)
     }
 
     /// The record by which the recall is sent, with this xid, behind its length; or a length of 0 where none waits.

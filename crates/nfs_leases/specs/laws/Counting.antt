@@ -1,7 +1,7 @@
 -- How many clients a sweep ends, how many delegations it revokes, and how many entries it makes.
 use Rattle.std.proofs.Common.{◌≡◌, ℕ, ◌+◌, List, [], ◌∷◌, ◌++◌, length, refl, ap, arith, length-append}
 use Rattle.std.proofs.lemmas.List.{length-map}
-use Rattle.nfs_core.specs.Expiry.{expire_of}
+use Rattle.nfs_core.specs.Events.{expire_of}
 use Rattle.nfs_leases.specs.BookEvent.{BookEvent, Look, Renew, Close, Open, Retire}
 use Rattle.nfs_leases.specs.Sweeps.{entries_of_sweep, events_of_all, none_swept, revocations, tally}
 use Rattle.nfs_leases.specs.Visit.{Visit, events_by, events_of, expiries, with_case}

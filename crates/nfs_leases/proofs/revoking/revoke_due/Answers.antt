@@ -1,6 +1,6 @@
 -- The loop goes one revocation further, until none is due or one is refused.
 use Rattle.std.proofs.Common.{ℕ, [], ◌∷◌, ◌++◌, Option, Ok, refl, sym, ap, subst, ◌∙◌, arith, length-append}
-use Rattle.nfs_core.specs.Revoking.{IsRevoked}
+use Rattle.nfs_core.specs.Events.{IsRevoked}
 use Rattle.nfs_core.specs.Server.{Server}
 use Rattle.nfs_leases.proofs.RevokedDelegations.{clients_alike, count_below, ends, entries_left, revokes_more, revokes_none, stops}
 use Rattle.nfs_leases.proofs.revoking.revoke_due.Goals as goal
@@ -33,7 +33,7 @@ loop-count-preserved c =
     subst (λ (o : Option ℕ). IsRevoked c.loop-count.core c.revoke.new.self c.args.now o) c.in-Ok-Some.field-0-is
     c.in-Ok-Some.ensures.revoked in
     let more =
-    revokes_more c.live_clients_follow.ensures.revocations c.args.now i.0 number c.args.core.now c.loop-count.core
+    revokes_more c.live_clients_follow.ensures.events c.args.now i.0 number c.args.core.now c.loop-count.core
     c.revoke.new.self i.3 i.2 revoked in (
       i.0 ++ number ∷ [],
       omega (arith, i.1, length-append i.0 (number ∷ [])),
