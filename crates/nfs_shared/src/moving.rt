@@ -1,10 +1,9 @@
 //! How recalls go from the core into the queue, at the end of each hold of the lock.
 
-ghost use Rattle.std.specs.Prelude.{◌≡◌, ◌++◌, [], IfNone, IsFalse, IsTrue, None, option_to_list};
+ghost use Rattle.std.specs.Prelude.{◌≡◌, ◌≤◌, ◌++◌, [], IfNone, IsFalse, IsTrue, None, length, option_to_list};
 ghost use mathlib.Core.List.{IsPrefix};
 ghost use mathlib.Core.Logic.{◌⊎◌};
 ghost use Rattle.nfs_shared.specs.Held.{HasOneMore, IsMoved, Moves, waiting};
-ghost use Rattle.nfs_shared.specs.RecallOrder.{WasFull};
 ghost use Rattle.nfs_shared.specs.declared.recall_queue.TheConstants.{CAPACITY};
 
 use crate::held::{Held, recalls_are_left};
@@ -63,7 +62,7 @@ fn put_one<R: Wait>(
     ensures put { IsPrefix put.old.recalls put.new.recalls }
     ensures one { IsTrue result → HasOneMore put.old.recalls put.new.recalls }
     ensures room { IsFalse result → (waiting hand.new leased.new.core.recalls ≡ [])
-        ⊎ WasFull CAPACITY put.new.recalls }
+        ⊎ (CAPACITY ≤ length put.new.recalls) }
 {
     let Some(recall) = next_waiting(hand, leased) else {
         return false;
