@@ -111,7 +111,7 @@ pub record Moves (old new : HeldView) : Type 0 where
 abbrev pub HasOneMore : List Recall → List Recall → Type 0
 HasOneMore old new = (recall : Recall) × (new ≡ old ++ recall ∷ [])
 
--- none waits, or as many were put as the queue has room for
+-- none waits, or at least as many were put as the queue has room for
 abbrev pub IsMoved : HeldView → Type 0
 IsMoved held = (waiting held.hand held.server.recalls ≡ []) ⊎ (CAPACITY ≤ length held.put)
 

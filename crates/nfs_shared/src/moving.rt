@@ -13,7 +13,7 @@ use nfs_core::Recall;
 use nfs_leases::{LeasedCore, PlainLeases};
 use std::sync::Wait;
 
-/// Puts the recalls that wait into the queue, in order, until none waits or the queue is full.
+/// Puts the recalls that wait into the queue, in order, until none waits or the queue gives one back.
 pub(crate) fn move_held<N: Naming, R: Wait>(rt: &R, queue: &RecallQueue, held: &mut Held<N>)
     requires queue { queue.now ≡ N.run.queue }
     ensures moves { Moves held.old held.new }
@@ -31,7 +31,7 @@ pub(crate) fn move_held<N: Naming, R: Wait>(rt: &R, queue: &RecallQueue, held: &
     unreachable!()
 }
 
-// Puts the first of the recalls that wait into the queue. False where none waits, and where the queue is full.
+// Puts the first of the recalls that wait into the queue. False where none waits, and where the queue gives it back.
 fn move_one<N: Naming, R: Wait>(rt: &R, queue: &RecallQueue, held: &mut Held<N>) -> bool
     requires queue { queue.now ≡ N.run.queue }
     ensures moves { Moves held.old held.new }

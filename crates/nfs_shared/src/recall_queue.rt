@@ -90,7 +90,7 @@ impl Outcome<Recall, Log> for Takes {
     ghost then = { λ v x w. w ≡ taker (v.taken ++ x ∷ []) };
 }
 
-// Who takes learns nothing of what is left: its own view doesn't have what was put.
+// Who takes learns nothing of what is left.
 impl Lesson<Recall, Log> for Takes {
     ghost use Rattle.std.specs.Prelude.{⊤};
 
@@ -176,8 +176,8 @@ impl RecallQueue {
         ))
     }
 
-    /// Puts a recall at the end. It comes back only if as many as the queue has room for were put before. It takes no
-    /// memory.
+    /// Puts a recall at the end. It comes back only if at least as many were put before as the queue has room for. It takes
+    /// no memory.
     pub fn put<R: Wait>(&self, rt: &R, pass: &mut PutPass, recall: Recall) -> Result<(), Recall>
         requires queue { pass.old.queue ≡ self.now }
         ensures ok { OnOk result (pass.new ≡ with_recall recall pass.old) }
@@ -187,7 +187,8 @@ impl RecallQueue {
         self.line.push_as::<Puts, R>(rt, &mut pass.token, recall)
     }
 
-    /// Takes out the first recall, or none. It takes no memory.
+    /// Takes out the first recall, or none. No clause tells when there is none: what a pass learns of the queue is beside
+    /// its own view, and that of this one doesn't have what was put. It takes no memory.
     pub fn take<R: Wait>(&self, rt: &R, pass: &mut TakePass) -> Option<Recall>
         requires queue { pass.old.queue ≡ self.now }
         ensures some { IfSome result (λ r. pass.new ≡ with_recall r pass.old) }

@@ -269,8 +269,7 @@ impl<N: Naming> Shared<N> {
         }
     }
 
-    /// Takes the first recall out of the queue, without the lock, or none. No clause tells when it takes none: a pass of
-    /// the queue learns of what the queue holds only beside its own view, which doesn't have what was put. It takes no
+    /// Takes the first recall out of the queue, or none, without the lock. No clause tells when it takes none. It takes no
     /// memory.
     pub fn take<R: Wait>(&self, rt: &R, sender: &mut Sender<N>) -> Option<Recall>
         ensures some { IfSome result (λ r. sender.new ≡ with_taken r sender.old) }
