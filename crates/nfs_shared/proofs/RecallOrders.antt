@@ -1,12 +1,12 @@
 -- Each move keeps the rule of the queue.
-use Rattle.std.proofs.Common.{◌≡◌, ◌≢◌, ℕ, zero, suc, true, false, true≢false, List, [], ◌∷◌, ◌++◌, length, set, sym, refl, ap, ◌∙◌, subst, ⊎_elim, append_assoc, Option, Some, None, MatchOption, IfNone}
+use Rattle.std.proofs.Common.{◌≡◌, ◌≢◌, ◌≤◌, ℕ, zero, suc, true, false, true≢false, List, [], ◌∷◌, ◌++◌, length, set, sym, refl, ap, ◌∙◌, subst, ⊎_elim, arith, append_assoc, length-append}
 use mathlib.Core.Option.{some, some-ne-none}
 use lib.ListN.{get_elem?}
-use Rattle.crossbeam_queue.specs.Fifo.{Pushes, Pops, Forks, Merges, Learns, Held}
+use Rattle.crossbeam_queue.specs.Fifo.{Pushes, Pops, Forks, Merges, Learns}
 use Rattle.crossbeam_queue.proofs.Lists.{at_set, at_snoc}
 use Rattle.nfs_rpc.specs.declared.recall.Recall.{Recall}
 use Rattle.nfs_shared.specs.declared.recall_queue.Log.{Log}
-use Rattle.nfs_shared.specs.RecallOrder.{log, putter, taker, Fits, Relayed, WereHeldBy, WereLeftOf, WasEmpty}
+use Rattle.nfs_shared.specs.RecallOrder.{log, putter, taker, idle, Fits, Relayed}
 
 at_end : (l : List Log) (a b : Log) (j : ℕ) → get_elem? l j ≢ some b → get_elem? (l ++ a ∷ []) j ≡ some b → j ≡ length l
 at_end [] a b zero n e = refl
@@ -54,11 +54,10 @@ takes port v is x items views h at = let w : Log = taker (v.taken ++ x ∷ []) i
   refl,
 )
 
-pub left : (port : ℕ) (v : Log) → v ≡ putter v.put → Learns Relayed port v (λ items. WereLeftOf v.put items)
-left port v is items views h at = (h.3, ((h.5 port v at).0 (ap (λ (y : Log). y.puts) is)).1 ∙ h.4)
-
-pub held : (port : ℕ) (v : Log) → Learns Relayed port v (λ items. WereHeldBy v items)
-held port v items views h at = (port, views, h, at)
+-- what a pass that puts learns: it put as many as the queue holds, or more
+pub covers : (port : ℕ) (v : Log) → v ≡ putter v.put → Learns Relayed port v (λ items. length items ≤ length v.put)
+covers port v is items views h at =
+    omega (arith, ap length (((h.5 port v at).0 (ap (λ (y : Log). y.puts) is)).1 ∙ h.4), length-append h.3 items)
 
 pub forks : (port : ℕ) (v : Log) → v.puts ≡ true → v.takes ≡ true → Forks Relayed port v (putter v.put) (taker v.taken)
 forks port v a b items views h at = let l : Log = putter v.put in let r : Log = taker v.taken in let mine = h.5 port v at in let vs : List Log = set views port l in
@@ -73,24 +72,26 @@ forks port v a b items views h at = let l : Log = putter v.put in let r : Log = 
           (λ (is : r ≡ u). ((λ p. absurd (true≢false (sym (ap (λ (y : Log). y.puts) is ∙ p)))), λ p. (at_end vs r u j (λ x. (old j u x).1 p) e, ap (λ (y : Log). y.taken) (sym is) ∙ (mine.1 b).1))) (at_snoc vs r u j e),
     )
 
-pub merges : (port : ℕ) (v : Log) (other : ℕ) (u : Log) → v.puts ≡ true → u.takes ≡ true → Merges Relayed port v other u (log true true v.put u.taken) (log false false [] [])
+-- the right to take goes to a new pass
+pub hands_on : (port : ℕ) (v : Log) → v ≡ taker v.taken → Forks Relayed port v idle v
+hands_on port v is items views h at = let mine = (h.5 port v at).1 (ap (λ (y : Log). y.takes) is) in let vs : List Log = set views port idle in
+    let Old : ℕ → Log → Type 0 = λ j u. (u.puts ≡ true → (j ≡ h.0) × (u.put ≡ h.2)) × (u.takes ≢ true) in
+    let old : All Old vs = all_set Old views port idle ((λ p. absurd (true≢false (sym p))), λ p. true≢false (sym p)) (λ j u other e. ((h.5 j u e).0, λ p. other (((h.5 j u e).1 p).0 ∙ sym mine.0))) in (
+      h.0,
+      length vs,
+      h.2,
+      h.3,
+      h.4,
+      λ j u e. ⊎_elim (λ x. ((old j u x).0, λ p. absurd ((old j u x).1 p)))
+          (λ (e' : v ≡ u). ((λ p. absurd (true≢false (sym (ap (λ (y : Log). y.puts) (sym is ∙ e') ∙ p)))), λ p. (at_end vs v u j (λ x. (old j u x).1 p) e, ap (λ (y : Log). y.taken) (sym e') ∙ mine.1))) (at_snoc vs v u j e),
+    )
+
+pub merges : (port : ℕ) (v : Log) (other : ℕ) (u : Log) → v.puts ≡ true → u.takes ≡ true → Merges Relayed port v other u (log true true v.put u.taken) idle
 merges port v other u a b items views h at two at' = let both : Log = log true true v.put u.taken in let mine = h.5 port v at in let vs : List Log = set views port both in
     let was : get_elem? views other ≡ some u = ⊎_elim (λ x. absurd (two x.0)) (λ x. x.1) (at_set views port other both u at') in let theirs = (h.5 other u was).1 b in
     let Now : ℕ → Log → Type 0 = λ j y. j ≢ other → Fits h.0 port h.2 h.3 j y in
     let now : All Now vs = all_set Now views port both (λ _. ((λ _. mine.0 a), λ _. (refl, theirs.1))) (λ j y _ e apart. ((h.5 j y e).0, λ p. absurd (apart (((h.5 j y e).1 p).0 ∙ sym theirs.0)))) in
-    (h.0, port, h.2, h.3, h.4, all_set (Fits h.0 port h.2 h.3) vs other (log false false [] []) ((λ p. absurd (true≢false (sym p))), λ p. absurd (true≢false (sym p))) (λ j y apart e. now j y e apart))
+    (h.0, port, h.2, h.3, h.4, all_set (Fits h.0 port h.2 h.3) vs other idle ((λ p. absurd (true≢false (sym p))), λ p. absurd (true≢false (sym p))) (λ j y apart e. now j y e apart))
 
 pub totals : (port : ℕ) (v : Log) → v.puts ≡ true → v.takes ≡ true → Learns Relayed port v (λ items. v.put ≡ v.taken ++ items)
 totals port v a b items views h at = let mine = h.5 port v at in (mine.0 a).1 ∙ h.4 ∙ ap (λ l. l ++ items) (sym (mine.1 b).1)
-
-no_items : (items : List Recall) → length items ≡ 0 → items ≡ []
-no_items [] h = refl
-no_items (x ∷ xs) h = cc
-
--- what a pass learns where it finds the queue empty
-pub was_empty : (r : Option Recall) (taken : List Recall) (v w : Log) (then : Recall → Type 0) → v ≡ taker taken
-    → MatchOption r ((w ≡ v) × Held 0 (λ items. WereHeldBy v items)) then → IfNone r (WasEmpty taken)
-was_empty None taken v w then is h =
-    let found = h.1 in
-    subst (λ (y : Log × List Recall). WereHeldBy y.0 y.1) (λ i. (is i, no_items found.0 found.1 i)) found.2
-was_empty (Some r) taken v w then is h = tt

@@ -4,6 +4,9 @@ use Rattle.std.proofs.lemmas.List.{append-nil}
 use Rattle.std.proofs.lemmas.List.Elements.{filter-append, filter_map-append}
 use Rattle.std.proofs.lemmas.Option.{slice_get_within}
 use Rattle.std.specs.List.{cons_option, filter_map, zip}
+use Rattle.nfs_core.specs.Events.{entry_by}
+use Rattle.nfs_core.specs.declared.event.Event.{Event}
+use Rattle.nfs_core.specs.declared.event.Event.TheVariants as events
 use Rattle.nfs_leases.specs.BookEvent.{BookEvent, Close}
 use Rattle.nfs_shared.specs.Receipts.{calls_in, numbered_calls, receipt_of, receipts_of, others_in}
 use Rattle.nfs_leases.specs.Sweeps.{entries_of_sweep, events_of_all, revocations}
@@ -60,6 +63,12 @@ expiries_no_calls (event ∷ events) = expiries_no_calls events
 pub revocations_no_calls : (now : ℕ) (numbers : List ℕ) → calls_in (revocations now numbers) ≡ 0
 revocations_no_calls now [] = refl
 revocations_no_calls now (number ∷ numbers) = revocations_no_calls now numbers
+
+-- nor does an event make one
+pub event_no_call : (event : Event) → calls_in (entry_by event ∷ []) ≡ 0
+event_no_call (events.Expire expire) = refl
+event_no_call (events.Revoke revoke) = refl
+event_no_call (events.Path path) = refl
 
 pub sweep_no_calls : (now : ℕ) (visits : List Visit) (numbers : List ℕ) → calls_in (entries_of_sweep now visits numbers) ≡ 0
 sweep_no_calls now visits numbers =

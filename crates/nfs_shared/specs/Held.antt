@@ -1,5 +1,5 @@
 -- What the lock of the shared state guards, and what holds whenever the lock is free (`IsHeld`).
-use Rattle.std.specs.Prelude.{◌≡◌, ℕ, List, [], ◌∷◌, ◌++◌, Option, length, option_to_list}
+use Rattle.std.specs.Prelude.{◌≡◌, ℕ, ◌≤◌, List, [], ◌∷◌, ◌++◌, Option, length, option_to_list}
 use mathlib.Core.List.{IsPrefix}
 use mathlib.Core.Logic.{◌⊎◌}
 use Rattle.atomic_table.specs.Seated.{TableId}
@@ -10,11 +10,12 @@ use Rattle.nfs_core.specs.Server.{IsLawful, Server}
 use Rattle.nfs_leases.specs.BookOf.{IsBookOf}
 use Rattle.nfs_rpc.specs.declared.recall.Recall.{Recall}
 use Rattle.nfs_shared.specs.Naming.{start_of}
-use Rattle.nfs_shared.specs.RecallOrder.{WasFull}
 use Rattle.nfs_leases.specs.PlainBook.{PlainBook, is_open_in, was_opened_in}
-use Rattle.nfs_shared.specs.Receipts.{calls_in, receipts_of}
+use Rattle.nfs_shared.specs.Receipts.{calls_in, others_in, receipts_of}
 use Rattle.nfs_shared.specs.Roll.{IsOf, IsWriter, list_of}
 use Rattle.nfs_shared.specs.Seats.{SeatView}
+use Rattle.nfs_shared.specs.Sender.{SenderView}
+use Rattle.nfs_shared.specs.Sweeper.{SweeperView}
 use Rattle.nfs_shared.specs.declared.recall_queue.TheConstants.{CAPACITY}
 use Rattle.nfs_shared.specs.declared.receipt.Receipt.{Receipt}
 use Rattle.nfs_shared.specs.declared.roll.View.{View}
@@ -75,6 +76,22 @@ pub record MayBeHeld (origin : History) (seat : SeatView) (value : HeldView) : T
   pub start : start_of value.server.journal ≡ origin
   pub begins : IsPrefix seat.receipts.list value.receipts
 
+-- As far as the sender can tell, the lock may guard this value, in a run with this start: it is one as the lock guards,
+-- what the sender took begins what was put into the queue, and no more entries came by the sender than are no calls.
+pub record SenderMayFind (origin : History) (sender : SenderView) (value : HeldView) : Type 0 where
+  pub held : IsHeld value
+  pub start : start_of value.server.journal ≡ origin
+  pub begins : IsPrefix sender.taken value.put
+  pub count : sender.count ≤ others_in value.server.journal.entries
+
+-- As far as the sweeper can tell, the lock may guard this value, in a run with this start: it is one as the lock guards,
+-- and no more entries came by the sweeper than are no calls.
+pub record SweeperMayFind (origin : History) (sweeper : SweeperView) (value : HeldView)
+    : Type 0 where
+  pub held : IsHeld value
+  pub start : start_of value.server.journal ≡ origin
+  pub count : sweeper.count ≤ others_in value.server.journal.entries
+
 -- what was put into the queue and what is in hand stay
 abbrev pub HasQueued : HeldView → HeldView → Type 0
 HasQueued old new = (new.put ≡ old.put) × (new.hand ≡ old.hand)
@@ -94,9 +111,9 @@ pub record Moves (old new : HeldView) : Type 0 where
 abbrev pub HasOneMore : List Recall → List Recall → Type 0
 HasOneMore old new = (recall : Recall) × (new ≡ old ++ recall ∷ [])
 
--- none waits, or the queue was full when it held all that was put and not taken
+-- none waits, or at least as many were put as the queue has room for
 abbrev pub IsMoved : HeldView → Type 0
-IsMoved held = (waiting held.hand held.server.recalls ≡ []) ⊎ WasFull CAPACITY held.put
+IsMoved held = (waiting held.hand held.server.recalls ≡ []) ⊎ (CAPACITY ≤ length held.put)
 
 -- The token is the writer's of this run's roll, which is the roll that is kept, and the run's ledger has counted the
 -- receipts.

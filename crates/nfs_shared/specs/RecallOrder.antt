@@ -1,6 +1,6 @@
 -- The rule of the queue of recalls: what was put is what was taken and then what the queue holds. One pass at most may
 -- put, and it knows all that was put. The same for taking.
-use Rattle.std.specs.Prelude.{◌≡◌, ℕ, Bool, true, false, List, [], ◌++◌, length}
+use Rattle.std.specs.Prelude.{◌≡◌, ℕ, Bool, true, false, List, [], ◌++◌}
 use mathlib.Core.Option.{some}
 use lib.ListN.{get_elem?}
 use Rattle.nfs_rpc.specs.declared.recall.Recall.{Recall}
@@ -16,6 +16,10 @@ putter put = log true false put []
 abbrev pub taker : List Recall → Log
 taker taken = log false true [] taken
 
+-- the view of a pass that may do neither
+abbrev pub idle : Log
+idle = log false false [] []
+
 abbrev pub Fits : ℕ → ℕ → List Recall → List Recall → ℕ → Log → Type 0
 Fits writer reader put taken port v =
     (v.puts ≡ true → (port ≡ writer) × (v.put ≡ put)) × (v.takes ≡ true → (port ≡ reader) × (v.taken ≡ taken))
@@ -24,19 +28,3 @@ abbrev pub Relayed : List Recall → List Log → Type 0
 Relayed items views =
     (writer : ℕ) × (reader : ℕ) × (put : List Recall) × (taken : List Recall) × (put ≡ taken ++ items)
     × ((port : ℕ) (v : Log) → get_elem? views port ≡ some v → Fits writer reader put taken port v)
-
--- The queue held these items where the pass had this view: the rule held of them and of the views of all passes.
-abbrev pub WereHeldBy : Log → List Recall → Type 0
-WereHeldBy v items = (port : ℕ) × (views : List Log) × Relayed items views × (get_elem? views port ≡ some v)
-
--- what the queue held when this was put
-abbrev pub WereLeftOf : List Recall → List Recall → Type 0
-WereLeftOf put items = (taken : List Recall) × (put ≡ taken ++ items)
-
--- When this was put, at a moment of the call, the queue held as many as it can.
-abbrev pub WasFull : ℕ → List Recall → Type 0
-WasFull capacity put = (items : List Recall) × (length items ≡ capacity) × WereLeftOf put items
-
--- At a moment of the call, when this was taken, the queue held none.
-abbrev pub WasEmpty : List Recall → Type 0
-WasEmpty taken = WereHeldBy (taker taken) []

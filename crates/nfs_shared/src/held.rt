@@ -1,23 +1,20 @@
 //! The value that the lock guards, and what is done to it.
-ghost use Rattle.std.specs.Prelude.{◌≡◌, ◌↔◌, ◌+◌, ◌<◌, ◌≤◌, ◌++◌, ◌∷◌, [], IfErr, IfNone, IfOk, IfSome, IsTrue, Ok, OnErr, OnOk, Option, None, Some, length, slice_get, vec_capacity, vec_len};
-ghost use Rattle.std.specs.Option.{option_copied};
-ghost use Rattle.nfs_core.specs.Callbacks.{callback_of, has_delegation};
+ghost use Rattle.std.specs.Prelude.{◌≡◌, ◌↔◌, ◌+◌, ◌<◌, ◌≤◌, ◌++◌, ◌∷◌, [], IfErr, IfNone, IfOk, IfSome, IsNone, IsTrue, OnErr, OnOk, Option, Some, length, slice_get, vec_capacity, vec_len};
 ghost use Rattle.nfs_core.specs.Entered.{Answers, number_entered};
-ghost use Rattle.nfs_core.specs.PathMarking.{IsNotMarkedFor, path_of};
+ghost use Rattle.nfs_core.specs.Events.{EndsNoClient, IsNotEntered, entry_by};
 ghost use Rattle.nfs_core.specs.Recalls.{AreLeftOf, AreOneList, RecallsBegin};
 ghost use Rattle.nfs_core.specs.Server.{Applies, AreAlike, Enters, IsLawful};
 ghost use Rattle.nfs_core.specs.declared.entered.Entered.{Entered};
 ghost use Rattle.nfs_forms.specs.ClientId.{number_in};
 ghost use Rattle.nfs_leases.specs.BookEvent.{AllHappen};
 ghost use Rattle.nfs_leases.specs.BookOf.{events_entered};
-ghost use Rattle.nfs_shared.specs.Held.{CanBeHeld, HasQueued, MayBeHeld, waiting};
+ghost use Rattle.nfs_shared.specs.Held.{CanBeHeld, HasQueued, MayBeHeld, SenderMayFind, SweeperMayFind, waiting};
 ghost use Rattle.nfs_leases.specs.PlainBook.{Happens, has_open_lease, with_renewal};
 ghost use Rattle.nfs_leases.specs.Renewals.{renewed_by};
 ghost use Rattle.nfs_shared.specs.Sender.{with_mark};
 ghost use Rattle.nfs_shared.specs.Seats.{Gives, KnowsTheSame, number_given};
 ghost use Rattle.nfs_leases.specs.Sweeps.{Sweeps, leased_server};
-ghost use Rattle.nfs_owners.specs.LiveClients.{IsNextUnknown};
-ghost use Rattle.nfs_state.specs.Entries.{IsFilehandle};
+ghost use Rattle.nfs_state.specs.Entries.{IsFilehandle, resource};
 ghost use Rattle.nfs_state.specs.declared.entry.Call.{Call};
 ghost use Rattle.nfs_state.specs.declared.entry.Entry.TheVariants as entries;
 ghost use Rattle.nfs_xdr.specs.Op.{has_entry, opnum_of};
@@ -25,7 +22,7 @@ ghost use Rattle.nfs_xdr.specs.OpResult.{op_result};
 ghost use Rattle.nfs_xdr.specs.Opnum.{answer_limit};
 
 use crate::naming::{Naming, OtherLedger};
-use crate::recall_queue::PutPass;
+use crate::recall_queue::{PutPass, RecallQueue};
 use crate::receipt::Receipt;
 use crate::register::{Register, give};
 use crate::roll::meet;
@@ -33,13 +30,12 @@ use crate::seat::Seat;
 use crate::sender::Sender;
 use crate::sweeper::Sweeper;
 use nfs_core::{
-    Core, CoreError, Entered, Entry, Moment, Recall, lawful_is_safe, recalls_are_one_list,
+    Core, CoreError, Entered, Entry, Event, Moment, Recall, lawful_is_safe, recalls_are_one_list,
     recalls_begin,
 };
 use nfs_leases::{LeasedCore, PlainLeases, Swept, renewed_client};
-use nfs_owners::ClientState;
 use nfs_state::{Request, SeenCall};
-use nfs_xdr::{Callback, ClientId, Op, OpResult, Refusal, Stateid};
+use nfs_xdr::{ClientId, Op, OpResult, Refusal};
 use std::marker::Model;
 use std::sync::ledger::Book;
 
@@ -55,24 +51,16 @@ pub struct Held<N: Naming> {
 }
 
 impl<N: Naming> Held<N> {
-    /// The core.
-    pub(crate) fn core(&self) -> &Core
-        ensures { result.now ≡ self.now.server }
+    /// The core, to be looked at.
+    pub fn core(&self) -> &Core
+        ensures core { result.now ≡ self.now.server }
+        ensures known { CanBeHeld N.start self.now }
     {
         &self.leased.core
     }
 
-    /// What the record of a live client has of whose path to its callbacks nothing is known: of the client with the
-    /// least number above this one, if there is one.
-    pub(crate) fn probe(&self, after: u32) -> Option<&ClientState>
-        ensures next { IsNextUnknown after self.now.server.stored.clients (option_copied result) }
-        ensures known { CanBeHeld N.start self.now }
-    {
-        self.leased.core.probe(after)
-    }
-
-    /// How many recalls wait for room in the queue.
-    pub(crate) fn waiting(&self) -> usize
+    /// How many recalls wait for room in the queue. Where a hold of the lock ends, they go there as far as there is room.
+    pub fn waiting(&self) -> usize
         ensures { result ≡ length (waiting self.now.hand self.now.server.recalls) }
     {
         let left = self.leased.core.pending().len();
@@ -80,34 +68,6 @@ impl<N: Naming> Held<N> {
             Some(_) => 1 + left,
             None => left,
         }
-    }
-
-    /// How the live client with this number is called back, if there is one.
-    pub(crate) fn callback(&self, client: u32) -> Option<&Callback>
-        ensures callback { option_copied result ≡ callback_of client self.now.server }
-        ensures known { CanBeHeld N.start self.now }
-    {
-        self.leased.core.callback(client)
-    }
-
-    // Whether the client is live and is called back so.
-    fn is_called_by(&self, client: u32, callback: &Callback) -> bool
-        ensures called { IsTrue result
-            ↔ (callback_of client self.now.server ≡ Some callback.now) }
-        ensures known { CanBeHeld N.start self.now }
-    {
-        match self.callback(client) {
-            Some(found) => *found == *callback,
-            None => false,
-        }
-    }
-
-    /// Whether a client has the delegation that the stateid names, no matter its seqid.
-    pub(crate) fn has_delegation(&self, stateid: Stateid) -> bool
-        ensures has { result ≡ has_delegation stateid self.now.server }
-        ensures known { CanBeHeld N.start self.now }
-    {
-        self.leased.core.has_delegation(stateid)
     }
 }
 
@@ -157,6 +117,7 @@ pub fn call_held<N: Naming>(
     requires node { IsFilehandle N.start request.filehandle }
     ensures applies { Applies held.old.server held.new.server request result.0
         (number_given result.1) }
+    ensures refused { IsNone result.1 ↔ (result.0 ≡ resource request.op) }
     ensures entry { IfSome result.1
         (λ r. r.call ≡ record { request = request; answer = result.0 }) }
     ensures same { IfNone result.1 ((held.new.places ≡ held.old.places)
@@ -235,6 +196,7 @@ fn call_at(core: &Core, number: u32) -> SeenCall
 pub fn sweep_held<N: Naming>(held: &mut Held<N>, sweeper: &mut Sweeper<N>, now: Moment) -> Swept
     ensures sweeps { Sweeps Happens now (leased_server held.old.server held.old.leases) result
         (leased_server held.new.server held.new.leases) }
+    ensures known { SweeperMayFind N.start sweeper.old held.old }
     ensures count { sweeper.new.count ≡ sweeper.old.count + result.expired + result.revoked }
     ensures queue { HasQueued held.old held.new }
     ensures places { held.new.places ≡ held.old.places }
@@ -242,6 +204,7 @@ pub fn sweep_held<N: Naming>(held: &mut Held<N>, sweeper: &mut Sweeper<N>, now: 
 {
     lawful_is_safe();
     recalls_stay();
+    held.other_count.audit(&mut sweeper.share);
     let swept = held.leased.sweep(now);
     recalls_are_left(&held.leased.core);
     let entries = swept.expired as u64 + swept.revoked as u64;
@@ -249,17 +212,16 @@ pub fn sweep_held<N: Naming>(held: &mut Held<N>, sweeper: &mut Sweeper<N>, now: 
     swept
 }
 
-/// Marks whether callbacks reach this client, and returns the number of the entry. No receipt is made: the entry is the
+/// Enters an event that ends no client, and returns the number of the entry. No receipt is made: the entry is the
 /// sender's. What fails changes nothing but room, of which there isn't less.
-pub fn mark_path_held<N: Naming>(
+pub fn enter_held<N: Naming>(
     held: &mut Held<N>,
     sender: &mut Sender<N>,
-    client: u32,
-    up: bool,
+    event: Event,
 ) -> Result<u32, CoreError>
-    ensures marks { IfOk result
-        (Enters held.old.server held.new.server (entries.Path (path_of client up))) }
-    ensures error { IfErr result (IsNotMarkedFor held.old.server (path_of client up)) }
+    requires { EndsNoClient event }
+    ensures enters { IfOk result (Enters held.old.server held.new.server (entry_by event)) }
+    ensures error { IfErr result (IsNotEntered held.old.server event) }
     ensures known { CanBeHeld N.start held.old }
     ensures same { OnErr result (AreAlike held.old.server held.new.server) }
     ensures room { OnErr result (held.old.server.room ≤ held.new.server.room) }
@@ -272,9 +234,9 @@ pub fn mark_path_held<N: Naming>(
 {
     lawful_is_safe();
     recalls_stay();
-    let marked = held.leased.mark_path(client, up);
+    let entered = held.leased.enter(event);
     recalls_are_left(&held.leased.core);
-    match marked {
+    match entered {
         Ok(number) => {
             held.other_count.add(&mut sender.share, 1);
             Ok(number)
@@ -283,39 +245,19 @@ pub fn mark_path_held<N: Naming>(
     }
 }
 
-/// Marks whether callbacks reach this client, as `mark_path_held` does, where the client is live and is called back so.
-/// Elsewhere nothing is marked, and nothing changes.
-pub fn mark_called_held<N: Naming>(
+/// What the sender took begins what was put, and no more entries are the sender's than are no calls.
+pub(crate) fn meet_sender<N: Naming>(
+    queue: &RecallQueue,
     held: &mut Held<N>,
     sender: &mut Sender<N>,
-    client: u32,
-    callback: &Callback,
-    up: bool,
-) -> Result<Option<u32>, CoreError>
-    ensures called { callback_of client held.old.server ≡ Some callback.now
-        ↔ (result ≡ Ok None → ⊥) }
-    ensures other { result ≡ Ok None → (held.new ≡ held.old) × (sender.new ≡ sender.old) }
-    ensures marks { IfOk result (λ marked. IfSome marked
-        (Enters held.old.server held.new.server (entries.Path (path_of client up)))) }
-    ensures error { IfErr result (IsNotMarkedFor held.old.server (path_of client up)) }
-    ensures known { CanBeHeld N.start held.old }
-    ensures same { OnErr result (AreAlike held.old.server held.new.server) }
-    ensures room { OnErr result (held.old.server.room ≤ held.new.server.room) }
-    ensures count { IfOk result (λ marked. IfSome marked
-        (λ number. sender.new ≡ with_mark sender.old)) }
-    ensures uncounted { OnErr result (sender.new ≡ sender.old) }
-    ensures leases { held.new.leases ≡ held.old.leases }
-    ensures queue { HasQueued held.old held.new }
-    ensures places { held.new.places ≡ held.old.places }
-    ensures receipts { held.new.receipts ≡ held.old.receipts }
+)
+    requires queue { queue.now ≡ N.run.queue }
+    ensures known { SenderMayFind N.start sender.old held.old }
+    ensures held { held.new ≡ held.old }
+    ensures sender { sender.new ≡ sender.old }
 {
-    if !held.is_called_by(client, callback) {
-        return Ok(None);
-    }
-    match mark_path_held(held, sender, client, up) {
-        Ok(number) => Ok(Some(number)),
-        Err(error) => Err(error),
-    }
+    queue.meet(&mut held.put, &mut sender.pass);
+    held.other_count.audit(&mut sender.share);
 }
 
 // The law that the recalls which are left in the core are those of the journal without those that left it.
@@ -336,7 +278,7 @@ fn recalls_stay()
 
 /// Renews the lease of this client, if it is open, and returns whether it is. The seat's receipts begin those that were
 /// given.
-pub(crate) fn renew_held<N: Naming>(
+pub fn renew_held<N: Naming>(
     held: &mut Held<N>,
     seat: &mut Seat<N>,
     moment: Moment,

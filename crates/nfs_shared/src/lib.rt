@@ -17,7 +17,7 @@ mod sender;
 mod shared;
 mod sweeper;
 
-pub use held::{Held, call_held, mark_called_held, mark_path_held, sweep_held};
+pub use held::{Held, call_held, enter_held, renew_held, sweep_held};
 pub use hold::Hold;
 pub use limits::limit_of_queue;
 pub use naming::Naming;

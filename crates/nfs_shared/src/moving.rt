@@ -1,10 +1,9 @@
 //! How recalls go from the core into the queue, at the end of each hold of the lock.
 
-ghost use Rattle.std.specs.Prelude.{◌≡◌, ◌++◌, [], IfNone, IsFalse, IsTrue, None, option_to_list};
+ghost use Rattle.std.specs.Prelude.{◌≡◌, ◌≤◌, ◌++◌, [], IfNone, IsFalse, IsTrue, None, length, option_to_list};
 ghost use mathlib.Core.List.{IsPrefix};
 ghost use mathlib.Core.Logic.{◌⊎◌};
 ghost use Rattle.nfs_shared.specs.Held.{HasOneMore, IsMoved, Moves, waiting};
-ghost use Rattle.nfs_shared.specs.RecallOrder.{WasFull};
 ghost use Rattle.nfs_shared.specs.declared.recall_queue.TheConstants.{CAPACITY};
 
 use crate::held::{Held, recalls_are_left};
@@ -14,7 +13,7 @@ use nfs_core::Recall;
 use nfs_leases::{LeasedCore, PlainLeases};
 use std::sync::Wait;
 
-/// Puts the recalls that wait into the queue, in order, until none waits or the queue is full.
+/// Puts the recalls that wait into the queue, in order, until none waits or the queue gives one back.
 pub(crate) fn move_held<N: Naming, R: Wait>(rt: &R, queue: &RecallQueue, held: &mut Held<N>)
     requires queue { queue.now ≡ N.run.queue }
     ensures moves { Moves held.old held.new }
@@ -32,7 +31,7 @@ pub(crate) fn move_held<N: Naming, R: Wait>(rt: &R, queue: &RecallQueue, held: &
     unreachable!()
 }
 
-// Puts the first of the recalls that wait into the queue. False where none waits, and where the queue is full.
+// Puts the first of the recalls that wait into the queue. False where none waits, and where the queue gives it back.
 fn move_one<N: Naming, R: Wait>(rt: &R, queue: &RecallQueue, held: &mut Held<N>) -> bool
     requires queue { queue.now ≡ N.run.queue }
     ensures moves { Moves held.old held.new }
@@ -63,7 +62,7 @@ fn put_one<R: Wait>(
     ensures put { IsPrefix put.old.recalls put.new.recalls }
     ensures one { IsTrue result → HasOneMore put.old.recalls put.new.recalls }
     ensures room { IsFalse result → (waiting hand.new leased.new.core.recalls ≡ [])
-        ⊎ WasFull CAPACITY put.new.recalls }
+        ⊎ (CAPACITY ≤ length put.new.recalls) }
 {
     let Some(recall) = next_waiting(hand, leased) else {
         return false;

@@ -1,8 +1,8 @@
 //! The queue by which recalls go from whoever holds the lock to the thread that sends them.
-ghost use Rattle.std.specs.Prelude.{◌≡◌, [], IfErr, IfOk, IfNone, IfSome, OnOk};
+ghost use Rattle.std.specs.Prelude.{◌≡◌, ◌≤◌, [], IfErr, IfOk, IfNone, IfSome, OnErr, OnOk, length};
 ghost use mathlib.Core.List.{IsPrefix};
-ghost use Rattle.nfs_shared.specs.RecallOrder.{WasEmpty, WasFull};
 ghost use Rattle.nfs_shared.specs.Passes.{with_recall};
+ghost use Rattle.nfs_shared.specs.declared.recall_queue.TheConstants.{CAPACITY};
 
 use crossbeam_queue::protocol::{Join, Lesson, Outcome, Protocol, Split};
 use crossbeam_queue::{Pass, RuledArrayQueue};
@@ -46,12 +46,23 @@ impl Split<Log> for Roles {
 }
 
 impl Join<Log> for Roles {
-    ghost use Rattle.std.specs.Prelude.{true, false, []};
-    ghost use Rattle.nfs_shared.specs.RecallOrder.{log};
+    ghost use Rattle.std.specs.Prelude.{true};
+    ghost use Rattle.nfs_shared.specs.RecallOrder.{log, idle};
 
     ghost both = { λ v w. log true true v.put w.taken };
 
-    ghost spent = { log false false [] [] };
+    ghost spent = { idle };
+}
+
+// All that a pass may do goes to a new one.
+pub struct HandedOn;
+
+impl Split<Log> for HandedOn {
+    ghost use Rattle.nfs_shared.specs.RecallOrder.{idle};
+
+    ghost left = { λ v. idle };
+
+    ghost right = { λ v. v };
 }
 
 pub struct Puts;
@@ -63,10 +74,11 @@ impl Outcome<Recall, Log> for Puts {
     ghost then = { λ v x w. w ≡ putter (v.put ++ x ∷ []) };
 }
 
+// Who puts learns that it put as many as the queue holds, or more.
 impl Lesson<Recall, Log> for Puts {
-    ghost use Rattle.nfs_shared.specs.RecallOrder.{WereLeftOf};
+    ghost use Rattle.std.specs.Prelude.{◌≤◌, length};
 
-    ghost fact = { λ v items. WereLeftOf v.put items };
+    ghost fact = { λ v items. length items ≤ length v.put };
 }
 
 pub struct Takes;
@@ -78,10 +90,11 @@ impl Outcome<Recall, Log> for Takes {
     ghost then = { λ v x w. w ≡ taker (v.taken ++ x ∷ []) };
 }
 
+// Who takes learns nothing of what is left.
 impl Lesson<Recall, Log> for Takes {
-    ghost use Rattle.nfs_shared.specs.RecallOrder.{WereHeldBy};
+    ghost use Rattle.std.specs.Prelude.{⊤};
 
-    ghost fact = { λ v items. WereHeldBy v items };
+    ghost fact = { λ v items. ⊤ };
 }
 
 // Who may do both learns that what was put is what was taken and what is left.
@@ -163,34 +176,38 @@ impl RecallQueue {
         ))
     }
 
-    /// Puts a recall at the end. It comes back only if the queue was full at a moment of the call. It takes no memory.
+    /// Puts a recall at the end. It comes back only if at least as many were put before as the queue has room for. It takes
+    /// no memory.
     pub fn put<R: Wait>(&self, rt: &R, pass: &mut PutPass, recall: Recall) -> Result<(), Recall>
         requires queue { pass.old.queue ≡ self.now }
         ensures ok { OnOk result (pass.new ≡ with_recall recall pass.old) }
         ensures back { IfErr result (λ r. (r ≡ recall) × (pass.new ≡ pass.old)) }
-        ensures full { IfErr result (λ r. WasFull CAPACITY pass.old.recalls) }
+        ensures full { OnErr result (CAPACITY ≤ length pass.old.recalls) }
     {
         self.line.push_as::<Puts, R>(rt, &mut pass.token, recall)
     }
 
-    /// Takes out the first recall. None only if the queue was empty at a moment of the call. It takes no memory.
+    /// Takes out the first recall, or none. No clause tells when there is none: what a pass learns of the queue is beside
+    /// its own view, and that of this one doesn't have what was put. It takes no memory.
     pub fn take<R: Wait>(&self, rt: &R, pass: &mut TakePass) -> Option<Recall>
         requires queue { pass.old.queue ≡ self.now }
         ensures some { IfSome result (λ r. pass.new ≡ with_recall r pass.old) }
         ensures none { IfNone result (pass.new ≡ pass.old) }
-        ensures empty { IfNone result (WasEmpty pass.old.recalls) }
     {
         self.line.pop_as::<Takes, R>(rt, &mut pass.token)
     }
 
-    /// What was taken begins what was put. Both rights end.
-    pub fn settle(&self, put: PutPass, take: TakePass)
-        requires put { put.queue ≡ self.now }
-        requires take { take.queue ≡ self.now }
-        ensures { IsPrefix take.recalls put.recalls }
+    /// What was taken begins what was put.
+    pub fn meet(&self, put: &mut PutPass, take: &mut TakePass)
+        requires put { put.old.queue ≡ self.now }
+        requires take { take.old.queue ≡ self.now }
+        ensures put { put.new ≡ put.old }
+        ensures take { take.new ≡ take.old }
+        ensures begins { IsPrefix take.old.recalls put.old.recalls }
     {
-        let mut whole = put.token;
-        self.line.absorb::<Roles>(&mut whole, take.token);
-        self.line.learn_as::<Total>(&mut whole);
+        let taker = self.line.another::<HandedOn>(&mut take.token);
+        self.line.absorb::<Roles>(&mut put.token, taker);
+        self.line.learn_as::<Total>(&mut put.token);
+        take.token = self.line.another::<Roles>(&mut put.token);
     }
 }

@@ -1,20 +1,21 @@
 //! The state that threads share, behind one lock.
 ghost use Rattle.std.specs.Prelude.{◌≡◌, ◌+◌, ◌<◌, ◌≤◌, ◌↔◌, ◌++◌, [], IfOk, IfErr, IfSome, IfNone, IsNone, IsTrue, List, None, Ok, OnErr, OnOk, Some, length, map};
 ghost use Rattle.nfs_core.specs.Callbacks.{callback_of, has_delegation};
-ghost use Rattle.nfs_core.specs.PathMarking.{IsNotMarkedFor, path_of};
+ghost use Rattle.nfs_core.specs.Events.{IsNotEntered, path_of};
 ghost use Rattle.nfs_core.specs.Recalls.{AreRecallsOf};
 ghost use Rattle.nfs_core.specs.Safe.{IsSafe};
 ghost use Rattle.nfs_core.specs.Server.{Enters, IsLawful, Server};
+ghost use Rattle.nfs_core.specs.declared.event.Event.TheVariants as events;
 ghost use Rattle.nfs_forms.specs.ClientId.{number_in};
 ghost use Rattle.nfs_shared.specs.Ends.{AreFresh, AreKept, AllStand, AllApart, AllBegin, receipts_in, given_in};
-ghost use Rattle.nfs_shared.specs.Held.{CanBeHeld, HeldView, MayBeHeld};
+ghost use Rattle.nfs_shared.specs.Held.{HeldView, MayBeHeld, SenderMayFind, SweeperMayFind};
 ghost use Rattle.nfs_shared.specs.Naming.{CanBegin, start_of};
-ghost use Rattle.nfs_shared.specs.RecallOrder.{WasEmpty};
-ghost use Rattle.nfs_leases.specs.PlainBook.{has_open_lease};
+ghost use Rattle.nfs_leases.specs.PlainBook.{Happens, has_open_lease};
 ghost use Rattle.nfs_shared.specs.Receipts.{calls_in, others_in};
 ghost use Rattle.nfs_shared.specs.Roll.{IsOf, IsWriter, list_of, writer_of};
 ghost use Rattle.nfs_shared.specs.Sender.{with_mark, with_taken};
 ghost use Rattle.nfs_shared.specs.Seats.{Gives, KnowsTheSame, fresh};
+ghost use Rattle.nfs_leases.specs.Sweeps.{Sweeps, leased_server};
 ghost use Rattle.nfs_owners.specs.LiveClients.{IsNextUnknown};
 ghost use Rattle.nfs_rpc.specs.declared.recall.Recall.{Recall};
 ghost use Rattle.nfs_state.specs.Entries.{IsFilehandle, request_of, resource};
@@ -24,7 +25,9 @@ ghost use Rattle.nfs_xdr.specs.Op.{has_entry, opnum_of};
 ghost use Rattle.nfs_xdr.specs.OpResult.{op_result};
 ghost use Rattle.nfs_xdr.specs.Opnum.{answer_limit};
 
-use crate::held::{Held, recalls_are_left};
+use crate::held::{
+    Held, call_held, enter_held, meet_sender, recalls_are_left, renew_held, renew_named, sweep_held,
+};
 use crate::hold::Hold;
 use crate::naming::{Naming, OtherLedger, ReceiptLedger};
 use crate::opened::Opened;
@@ -35,10 +38,10 @@ use crate::roll::{Copied, Roll, Token, meet};
 use crate::seat::Seat;
 use crate::sender::Sender;
 use crate::sweeper::Sweeper;
-use nfs_core::{Core, CoreError, Moment, Recall};
+use nfs_core::{Core, CoreError, Event, Moment, Recall};
 use nfs_leases::{LeasedCore, PlainLeases, Swept};
 use nfs_owners::ClientState;
-use nfs_state::Request;
+use nfs_state::{Path, Request};
 use nfs_xdr::{Callback, ClientId, Op, OpResult, Principal, Refusal, Stateid};
 use std::alloc::{AllocError, Global};
 use std::marker::Model;
@@ -134,12 +137,22 @@ impl<N: Naming> Shared<N> {
     }
 
     /// Takes the lock, for as long as the value lives that is returned.
-    pub fn hold<'a, R: Wait>(&'a self, rt: &'a R) -> Hold<'a, N, R> {
+    pub fn hold<'a, 'b, R: Wait>(&'a self, rt: &'b R) -> Hold<'a, 'b, N, R> {
         Hold {
             rt,
             queue: &self.queue,
             guard: self.held.lock(rt),
         }
+    }
+
+    // Takes the lock for the sender: what it took begins what was put, and its entries are among those that are no calls.
+    fn hold_for<'a, 'b, R: Wait>(&'a self, rt: &'b R, sender: &mut Sender<N>) -> Hold<'a, 'b, N, R>
+        ensures known { SenderMayFind N.start sender.old result }
+        ensures sender { sender.new ≡ sender.old }
+    {
+        let mut hold = self.hold(rt);
+        meet_sender(&self.queue, &mut *hold.guard, sender);
+        hold
     }
 
     /// Answers an operation that has an entry in the journal, in one hold of the lock, with a receipt for its entry. The
@@ -167,10 +180,10 @@ impl<N: Naming> Shared<N> {
         ensures form { op_result.Fits result.0 }
     {
         let Ok(request) = Request::of_copy(moment, principal, op, filehandle) else {
-            self.hold(rt).renew_named(op, moment);
+            renew_named(&mut *self.hold(rt).guard, op, moment);
             return (op.opnum().refusal(Refusal::Resource), None);
         };
-        self.hold(rt).call(seat, request)
+        call_held(&mut *self.hold(rt).guard, seat, request)
     }
 
     /// Renews the lease of this client in a hold of the lock, if it is open, and returns whether it is. No clause says
@@ -186,15 +199,19 @@ impl<N: Naming> Shared<N> {
             × (result ≡ has_open_lease held.leases (number_in N.start.epoch client)) }
         ensures same { KnowsTheSame seat.old seat.new }
     {
-        self.hold(rt).renew(seat, moment, client)
+        renew_held(&mut *self.hold(rt).guard, seat, moment, client)
     }
 
     /// Removes each client whose lease is over at this moment, with all that it has. Then it revokes the delegations that
-    /// are due, until none is, or there is no room for an entry. All is done in one hold of the lock.
+    /// are due, until none is, or there is no room for an entry. All is done in one hold of the lock. No clause says that
+    /// the lock guarded the value that is swept, but that it may have.
     pub fn sweep<R: Wait>(&self, rt: &R, sweeper: &mut Sweeper<N>, now: Moment) -> Swept
-        ensures { sweeper.new.count ≡ sweeper.old.count + result.expired + result.revoked }
+        ensures sweeps { (old : HeldView) × (new : HeldView) × SweeperMayFind N.start sweeper.old old
+            × Sweeps Happens now (leased_server old.server old.leases) result
+            (leased_server new.server new.leases) }
+        ensures count { sweeper.new.count ≡ sweeper.old.count + result.expired + result.revoked }
     {
-        self.hold(rt).sweep(sweeper, now)
+        sweep_held(&mut *self.hold(rt).guard, sweeper, now)
     }
 
     /// Marks whether callbacks reach this client, in one hold of the lock, and returns the number of the entry. It fails,
@@ -209,12 +226,14 @@ impl<N: Naming> Shared<N> {
     ) -> Result<u32, CoreError>
         ensures count { OnOk result (sender.new ≡ with_mark sender.old) }
         ensures uncounted { OnErr result (sender.new ≡ sender.old) }
-        ensures marks { IfOk result (λ number. (held : HeldView) × CanBeHeld N.start held
+        ensures marks { IfOk result (λ number. (held : HeldView)
+            × SenderMayFind N.start sender.old held
             × ((new : Server) × Enters held.server new (entries.Path (path_of client up)) number)) }
-        ensures error { IfErr result (λ e. (held : HeldView) × CanBeHeld N.start held
-            × IsNotMarkedFor held.server (path_of client up) e) }
+        ensures error { IfErr result (λ e. (held : HeldView) × SenderMayFind N.start sender.old held
+            × IsNotEntered held.server (events.Path (path_of client up)) e) }
     {
-        self.hold(rt).mark_path(sender, client, up)
+        let mut hold = self.hold_for(rt, sender);
+        enter_held(&mut *hold.guard, sender, Event::Path(Path { client, up }))
     }
 
     /// Marks whether callbacks reach this client, as `mark_path` does, in the hold of the lock in which it finds the client
@@ -231,55 +250,97 @@ impl<N: Naming> Shared<N> {
             (λ number. sender.new ≡ with_mark sender.old)) }
         ensures uncounted { OnErr result (sender.new ≡ sender.old) }
         ensures other { result ≡ Ok None → (sender.new ≡ sender.old) × ((held : HeldView)
-            × CanBeHeld N.start held × (callback_of client held.server ≡ Some callback.now → ⊥)) }
+            × SenderMayFind N.start sender.old held
+            × (callback_of client held.server ≡ Some callback.now → ⊥)) }
         ensures marks { IfOk result (λ marked. IfSome marked (λ number. (held : HeldView)
-            × CanBeHeld N.start held × (callback_of client held.server ≡ Some callback.now)
+            × SenderMayFind N.start sender.old held
+            × (callback_of client held.server ≡ Some callback.now)
             × ((new : Server) × Enters held.server new (entries.Path (path_of client up)) number))) }
-        ensures error { IfErr result (λ e. (held : HeldView) × CanBeHeld N.start held
-            × IsNotMarkedFor held.server (path_of client up) e) }
+        ensures error { IfErr result (λ e. (held : HeldView) × SenderMayFind N.start sender.old held
+            × IsNotEntered held.server (events.Path (path_of client up)) e) }
     {
-        self.hold(rt).mark_called(sender, client, callback, up)
+        let mut hold = self.hold_for(rt, sender);
+        if !is_called_by(hold.guard.core(), client, callback) {
+            return Ok(None);
+        }
+        match enter_held(&mut *hold.guard, sender, Event::Path(Path { client, up })) {
+            Ok(number) => Ok(Some(number)),
+            Err(error) => Err(error),
+        }
     }
 
-    /// Takes the first recall out of the queue, without the lock. None only if the queue was empty at a moment of the
-    /// call. It takes no memory.
+    /// Takes the first recall out of the queue, or none, without the lock. No clause tells when it takes none. It takes no
+    /// memory.
     pub fn take<R: Wait>(&self, rt: &R, sender: &mut Sender<N>) -> Option<Recall>
         ensures some { IfSome result (λ r. sender.new ≡ with_taken r sender.old) }
         ensures none { IfNone result (sender.new ≡ sender.old) }
-        ensures empty { IfNone result (WasEmpty sender.old.taken) }
     {
         self.queue.take(rt, &mut sender.pass)
     }
 
     /// How a live client is called back, as a copy, if there is such a client. It fails only where memory is refused for
     /// the copy. No clause says that the lock guarded the value that answers, but that it may have.
-    pub fn callback<R: Wait>(&self, rt: &R, client: u32) -> Result<Option<Callback>, AllocError>
-        ensures { IfOk result (λ found. (held : HeldView) × CanBeHeld N.start held
-            × (found ≡ callback_of client held.server)) }
+    pub fn callback<R: Wait>(
+        &self,
+        rt: &R,
+        sender: &mut Sender<N>,
+        client: u32,
+    ) -> Result<Option<Callback>, AllocError>
+        ensures found { IfOk result (λ found. (held : HeldView)
+            × SenderMayFind N.start sender.old held × (found ≡ callback_of client held.server)) }
+        ensures sender { sender.new ≡ sender.old }
     {
-        match self.hold(rt).callback(client) {
+        let hold = self.hold_for(rt, sender);
+        match hold.guard.core().callback(client) {
             Some(callback) => Ok(Some(callback.clone()?)),
             None => Ok(None),
         }
     }
 
+    /// Whether a live client is called back so. No clause says that the lock guarded the value that answers, but that it
+    /// may have.
+    pub fn is_called_by<R: Wait>(
+        &self,
+        rt: &R,
+        sender: &mut Sender<N>,
+        client: u32,
+        callback: &Callback,
+    ) -> bool
+        ensures called { (held : HeldView) × SenderMayFind N.start sender.old held
+            × (IsTrue result ↔ (callback_of client held.server ≡ Some callback.now)) }
+        ensures sender { sender.new ≡ sender.old }
+    {
+        let hold = self.hold_for(rt, sender);
+        is_called_by(hold.guard.core(), client, callback)
+    }
+
     /// Whether a client has the delegation that the stateid names, no matter its seqid. No clause says that the lock
     /// guarded the value that answers, but that it may have.
-    pub fn has_delegation<R: Wait>(&self, rt: &R, stateid: Stateid) -> bool
-        ensures { (held : HeldView) × CanBeHeld N.start held
+    pub fn has_delegation<R: Wait>(&self, rt: &R, sender: &mut Sender<N>, stateid: Stateid) -> bool
+        ensures has { (held : HeldView) × SenderMayFind N.start sender.old held
             × (result ≡ has_delegation stateid held.server) }
+        ensures sender { sender.new ≡ sender.old }
     {
-        self.hold(rt).has_delegation(stateid)
+        let hold = self.hold_for(rt, sender);
+        hold.guard.core().has_delegation(stateid)
     }
 
     /// A copy of what the record of a live client has of whose path to its callbacks nothing is known: of the client with
     /// the least number above this one, if there is one. It fails only where memory is refused for the copy. No clause
     /// says that the lock guarded the value that answers, but that it may have.
-    pub fn probe<R: Wait>(&self, rt: &R, after: u32) -> Result<Option<ClientState>, AllocError>
-        ensures { IfOk result (λ found. (held : HeldView) × CanBeHeld N.start held
+    pub fn probe<R: Wait>(
+        &self,
+        rt: &R,
+        sender: &mut Sender<N>,
+        after: u32,
+    ) -> Result<Option<ClientState>, AllocError>
+        ensures found { IfOk result (λ found. (held : HeldView)
+            × SenderMayFind N.start sender.old held
             × IsNextUnknown after held.server.stored.clients found) }
+        ensures sender { sender.new ≡ sender.old }
     {
-        match self.hold(rt).probe(after) {
+        let hold = self.hold_for(rt, sender);
+        match hold.guard.core().probe(after) {
             Some(client) => Ok(Some(client.clone()?)),
             None => Ok(None),
         }
@@ -314,12 +375,15 @@ impl<N: Naming> Shared<N> {
             leased,
             register,
             mut other_count,
-            put,
+            mut put,
             hand: _,
         } = held;
         let Sweeper { mut share } = sweeper;
-        let Sender { pass, share: marks } = sender;
-        queue.settle(put, pass);
+        let Sender {
+            mut pass,
+            share: marks,
+        } = sender;
+        queue.meet(&mut put, &mut pass);
         let Register {
             places: _,
             roll,
@@ -332,6 +396,16 @@ impl<N: Naming> Shared<N> {
         share.merge(marks);
         other_count.audit(&mut share);
         leased.into_core()
+    }
+}
+
+// Whether the live client with this number is called back so.
+fn is_called_by(core: &Core, client: u32, callback: &Callback) -> bool
+    ensures { IsTrue result ↔ (callback_of client core.now ≡ Some callback.now) }
+{
+    match core.callback(client) {
+        Some(found) => *found == *callback,
+        None => false,
     }
 }
 

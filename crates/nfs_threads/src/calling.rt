@@ -43,7 +43,7 @@ impl<N: Naming, R: Wait> CallbackSource for SharedSource<'_, N, R> {
     }
 
     fn probe(&mut self, after: u32) -> Result<Option<Probe>, AllocError> {
-        let Some(client) = self.shared.probe(self.rt, after)? else {
+        let Some(client) = self.shared.probe(self.rt, &mut self.sender, after)? else {
             return Ok(None);
         };
         Ok(Some(Probe {
@@ -53,20 +53,17 @@ impl<N: Naming, R: Wait> CallbackSource for SharedSource<'_, N, R> {
     }
 
     fn is_live(&mut self, client: u32) -> bool {
-        self.shared.hold(self.rt).core().live(client)
+        self.shared.hold(self.rt).guard.core().live(client)
     }
 
-    // Where memory is refused for the copy, the client may be as it was.
     fn has_callback(&mut self, client: u32, callback: &Callback) -> bool {
-        match self.shared.callback(self.rt, client) {
-            Ok(Some(found)) => found == *callback,
-            Ok(None) => false,
-            Err(_) => true,
-        }
+        let sender = &mut self.sender;
+        self.shared.is_called_by(self.rt, sender, client, callback)
     }
 
     fn has_delegation(&mut self, recall: &Recall) -> bool {
-        self.shared.has_delegation(self.rt, recall.stateid)
+        let sender = &mut self.sender;
+        self.shared.has_delegation(self.rt, sender, recall.stateid)
     }
 
     fn mark(&mut self, client: u32, callback: &Callback, up: bool) -> Result<(), MarkError> {

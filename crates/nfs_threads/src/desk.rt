@@ -14,7 +14,7 @@ ghost use Rattle.nfs_xdr.specs.Opnum.{answer_limit};
 use nfs_core::Moment;
 use nfs_leases::renewal_answer;
 use nfs_server::Service;
-use nfs_shared::{Hold, Naming, Receipt, Seat, Shared};
+use nfs_shared::{Hold, Naming, Receipt, Seat, Shared, call_held, renew_held};
 use nfs_state::Request;
 use nfs_xdr::{ClientId, OpResult};
 use std::alloc::{AllocError, Global};
@@ -135,7 +135,7 @@ impl<'a, N: Naming, R: Wait> Service for Desk<'a, N, R> {
 enum BatchHold<'a, N: Naming, R: Wait> {
     NoBatch,
     NotAsked,
-    Taken(Hold<'a, N, R>),
+    Taken(Hold<'a, 'a, N, R>),
 }
 
 impl<'a, N: Naming, R: Wait> BatchHold<'a, N, R> {
@@ -170,8 +170,8 @@ fn call_in<'a, N: Naming, R: Wait>(
 {
     hold.ask(rt, shared);
     match hold {
-        BatchHold::Taken(hold) => hold.call(seat, request),
-        BatchHold::NoBatch => shared.hold(rt).call(seat, request),
+        BatchHold::Taken(hold) => call_held(&mut *hold.guard, seat, request),
+        BatchHold::NoBatch => call_held(&mut *shared.hold(rt).guard, seat, request),
         BatchHold::NotAsked => unreachable!(),
     }
 }
@@ -191,7 +191,7 @@ fn renew_in<'a, N: Naming, R: Wait>(
 {
     hold.ask(rt, shared);
     match hold {
-        BatchHold::Taken(hold) => hold.renew(seat, moment, client),
+        BatchHold::Taken(hold) => renew_held(&mut *hold.guard, seat, moment, client),
         BatchHold::NoBatch => shared.renew(rt, seat, moment, client),
         BatchHold::NotAsked => unreachable!(),
     }

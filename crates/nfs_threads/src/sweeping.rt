@@ -34,7 +34,7 @@ pub(crate) fn sweep_until<N: Naming, R: Wait + Timer, W: Watcher>(
 fn show<N: Naming, R: Wait, W: Watcher>(rt: &R, shared: &Shared<N>, watcher: &W) {
     for _ in 0..MOST_LOOKS {
         let hold = shared.hold(rt);
-        let sees_more = watcher.look(hold.core());
+        let sees_more = watcher.look(hold.guard.core());
         drop(hold);
         if !sees_more {
             return;

@@ -24,6 +24,7 @@ use crate::workers::Workers;
 use crate::yielding::Yielding;
 use nfs_core::{Core, CoreError, Moment, Recall};
 use nfs_leases::Swept;
+use nfs_owners::ClientState;
 use nfs_server::ServeError;
 use nfs_shared::{Naming, Opened, Receipt, Seat, Sender, Shared, SharedParts, Sweeper};
 use nfs_threads::{Links, Shift, WorkerEnd};
@@ -236,7 +237,7 @@ impl<'a, N: Naming + Send + Sync, R: Threads + Wait + Sync> Together<'a, N, R> {
             Order::Mark(mark) => answer.put_marked(self.mark(mark))?,
             Order::Take(xid) => answer.put_recall(xid, self.take())?,
             Order::Probe(after) => {
-                let found = self.workers.shared.probe(self.workers.rt, after)?;
+                let found = self.probe(after)?;
                 answer.put_client(found.as_ref())?;
             }
             Order::Pending => answer.put_count(self.waiting())?,
@@ -300,10 +301,16 @@ impl<'a, N: Naming + Send + Sync, R: Threads + Wait + Sync> Together<'a, N, R> {
             .mark_path(self.workers.rt, &mut self.sender, client, is_up)
     }
 
+    fn probe(&mut self, after: u32) -> Result<Option<ClientState>, AllocError> {
+        self.workers
+            .shared
+            .probe(self.workers.rt, &mut self.sender, after)
+    }
+
     // How many recalls wait.
     fn waiting(&self) -> usize {
         let hold = self.workers.shared.hold(self.workers.rt);
-        let count = hold.waiting();
+        let count = hold.guard.waiting();
         drop(hold);
         count
     }

@@ -129,6 +129,16 @@ returns-in-Some-clause-applies g c =
     subst (λ (n : ℕ). Enters c.args.held.now.server called.new.leased.core entry n) (sym (ap (λ (r : Receipt). r.number) c.give-receipt.ensures.receipt))
     (subst (λ (s : Server). Enters s called.new.leased.core entry c.in-Some.entered.number) (ap (λ (h : HeldView). h.server) c.held.view_is) entered.0)
 
+-- what is in the journal isn't answered NFS4ERR_RESOURCE
+pub returns-in-Some-clause-refused : goal.returns-in-Some-clause-refused
+returns-in-Some-clause-refused g c =
+    let called = c.answer_with_room-answer in
+    let request = c.args.request in
+    let core = c.held.inside.leased.core in
+    let entered : IsEntered core called.new.leased.core (entry_of request called.result.0) c.in-Some.entered =
+    subst (λ (o : Option Entered). Answers core called.new.leased.core request called.result.0 o) c.in-Some.is called.ensures.answers in
+    (λ none. absurd none, λ is. absurd (entered.0.2.allowed.other is))
+
 pub returns-in-Some-clause-entry : goal.returns-in-Some-clause-entry
 returns-in-Some-clause-entry g c =
     let called = c.answer_with_room-answer in

@@ -58,6 +58,7 @@ invariant_of-held g c =
       omega (
         arith,
         c.add.ensures.total,
+        c.audit.ensures.total,
         c.held.invariant.5,
         ap (λ (j : History). others_in j.entries) gains.journal,
         others_in_more old.server.journal.entries more none,

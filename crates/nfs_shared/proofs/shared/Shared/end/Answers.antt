@@ -41,7 +41,7 @@ pub returns-clause-taken : goal.returns-clause-taken
 returns-clause-taken g c =
     let held = c.held.inside in
     let taken = c.sender.inside.pass.recalls in
-    let begins = c.settle.ensures in
+    let begins = c.meet.ensures.begins in
     let left : List Recall = waiting held.hand held.leased.core.recalls in
     let same : taken ++ (begins.0 ++ left) ≡ held.put.recalls ++ left = cc (append_assoc taken begins.0 left, begins.1) in
     let all : AreRecallsOf held.leased.core.journal (taken ++ (begins.0 ++ left)) =

@@ -1,24 +1,23 @@
--- A mark of a path enters no call.
+-- An event enters no call.
 use Rattle.std.proofs.Common.{◌∙◌, ◌∷◌, [], List, ap, refl, subst, arith}
-use Rattle.nfs_core.specs.PathMarking.{path_of}
+use Rattle.nfs_core.specs.Events.{entry_by}
 use Rattle.nfs_core.specs.Server.{Enters}
 use Rattle.nfs_core.specs.Recalls.{RecallsLeft}
 use Rattle.nfs_shared.proofs.Holding.{KeepsRules, gains_one, held_more}
 use Rattle.nfs_shared.proofs.RecallsOut.{queued_kept}
-use Rattle.nfs_shared.proofs.Receipts.{others_in_more}
-use Rattle.nfs_shared.proofs.held.mark_path_held.Goals as goal
+use Rattle.nfs_shared.proofs.Receipts.{event_no_call, others_in_more}
+use Rattle.nfs_shared.proofs.held.enter_held.Goals as goal
 use Rattle.nfs_shared.specs.Held.{HeldView}
 use Rattle.nfs_shared.specs.Naming.{start_of}
 use Rattle.nfs_shared.specs.Receipts.{others_in}
 use Rattle.nfs_shared.specs.Roll.{list_of}
 use Rattle.nfs_state.specs.State.{History}
 use Rattle.nfs_state.specs.declared.entry.Entry.{Entry}
-use Rattle.nfs_state.specs.declared.entry.Entry.TheVariants as entries
 
 pub invariant_of-held : goal.invariant_of-held
 invariant_of-held g c =
     let held = c.held.inside in
-    let marked = c.mark_path-marked in
+    let entered = c.enter-entered in
     let old : HeldView = record {
       server = held.leased.core;
       leases = held.leased.book;
@@ -28,26 +27,27 @@ invariant_of-held g c =
       hand = held.hand;
     } in
     let new : HeldView = record {
-      server = marked.new.self.core;
-      leases = marked.new.self.book;
+      server = entered.new.self.core;
+      leases = entered.new.self.book;
       places = held.register.places.items;
       receipts = list_of held.register.writer;
       put = held.put.recalls;
       hand = held.hand;
     } in
-    let more : List Entry = entries.Path (path_of c.args.client c.args.up) ∷ [] in
-    let gains = gains_one old.server new.server (entries.Path (path_of c.args.client c.args.up)) c.in-Ok.number c.in-Ok.ensures.marks in
+    let more : List Entry = entry_by c.args.event ∷ [] in
+    let none = event_no_call c.args.event in
+    let gains = gains_one old.server new.server (entry_by c.args.event) c.in-Ok.number c.in-Ok.ensures.enters in
     let keeps : KeepsRules new = record {
-      lawful = marked.ensures.lawful;
-      safe = c.lawful_is_safe.ensures.safe _ _ marked.ensures.lawful;
-      agrees = marked.new.self.agrees;
+      lawful = entered.ensures.lawful;
+      safe = c.lawful_is_safe.ensures.safe _ _ entered.ensures.lawful;
+      agrees = entered.new.self.agrees;
       recalls = c.recalls_are_left.ensures;
       queued =
           queued_kept c.recalls_stay.ensures.one c.recalls_stay.ensures.begin old new more c.held.invariant.0.recalls
           c.held.invariant.0.queued gains.journal c.recalls_are_left.ensures
-          (ap (λ (left : RecallsLeft). left.taken) marked.ensures.recalls) (refl, refl);
+          (ap (λ (left : RecallsLeft). left.taken) entered.ensures.recalls) (refl, refl);
     } in (
-      held_more old new more c.held.invariant.0 gains refl keeps refl refl,
+      held_more old new more c.held.invariant.0 gains none keeps refl refl,
       c.held.invariant.1,
       ap start_of gains.journal ∙ c.held.invariant.2,
       c.held.invariant.3,
@@ -57,12 +57,12 @@ invariant_of-held g c =
         c.add.ensures.total,
         c.held.invariant.5,
         ap (λ (j : History). others_in j.entries) gains.journal,
-        others_in_more old.server.journal.entries more refl,
+        others_in_more old.server.journal.entries more none,
       ),
       c.held.invariant.6,
     )
 
-pub returns-in-Ok-clause-marks : goal.returns-in-Ok-clause-marks
-returns-in-Ok-clause-marks g c =
-    subst (λ (h : HeldView). Enters h.server c.mark_path-marked.new.self.core (entries.Path (path_of c.args.client c.args.up)) c.in-Ok.number)
-    c.held.view_is c.in-Ok.ensures.marks
+pub returns-in-Ok-clause-enters : goal.returns-in-Ok-clause-enters
+returns-in-Ok-clause-enters g c =
+    subst (λ (h : HeldView). Enters h.server c.enter-entered.new.self.core (entry_by c.args.event) c.in-Ok.number)
+    c.held.view_is c.in-Ok.ensures.enters
