@@ -257,6 +257,7 @@ impl<N: Naming> Shared<N> {
             × (callback_of client held.server ≡ Some callback.now)
             × ((new : Server) × Enters held.server new (entries.Path (path_of client up)) number))) }
         ensures error { IfErr result (λ e. (held : HeldView) × SenderMayFind N.start sender.old held
+            × (callback_of client held.server ≡ Some callback.now)
             × IsNotEntered held.server (events.Path (path_of client up)) e) }
     {
         let mut hold = self.hold_for(rt, sender);

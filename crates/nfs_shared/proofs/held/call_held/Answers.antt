@@ -137,7 +137,7 @@ returns-in-Some-clause-refused g c =
     let core = c.held.inside.leased.core in
     let entered : IsEntered core called.new.leased.core (entry_of request called.result.0) c.in-Some.entered =
     subst (λ (o : Option Entered). Answers core called.new.leased.core request called.result.0 o) c.in-Some.is called.ensures.answers in
-    (λ none. absurd none, λ is. absurd (entered.0.2.allowed.other is))
+    (λ none. absurd cc, λ is. absurd (entered.0.2.allowed.other is))
 
 pub returns-in-Some-clause-entry : goal.returns-in-Some-clause-entry
 returns-in-Some-clause-entry g c =
