@@ -1,15 +1,13 @@
-ghost use Rattle.std.specs.Prelude.{◌≡◌, ◌+◌, ◌-◌, ◌^◌, ◌<◌, ◌≤◌, true, false, max, List, [], map, length, vec_capacity, IsFalse, IsOk, OnOk};
+ghost use Rattle.std.specs.Prelude.{◌≡◌, ◌+◌, ◌-◌, ◌^◌, ◌<◌, ◌≤◌, true, false, max, List, [], map, length, vec_capacity, IsOk, OnOk};
 ghost use Rattle.std.specs.List.{All, flat_map};
-ghost use Rattle.nfs_server.specs.Answering.{compound_outcome, compound_reply, handles_after_answer, head_size, is_ok, last_status, operations_of, question_for, request_status};
+ghost use Rattle.nfs_server.specs.Answering.{compound_outcome, compound_reply, head_size, is_ok, last_status, operations_of, request_status};
 ghost use Rattle.nfs_server.specs.Asking.{Asks, question_of};
 ghost use Rattle.nfs_rpc.specs.RpcCall.{HasFewOperations, IsWithinLimits};
 ghost use Rattle.nfs_tree.specs.Filehandles.{AreNodes};
 ghost use Rattle.nfs_server.specs.Folding.{IsAnswered, IsDetermined, asker_of, start};
 ghost use Rattle.nfs_xdr.specs.Compound.{compound_result};
 ghost use Rattle.nfs_xdr.specs.declared.op_result.OpResult.{OpResult};
-ghost use Rattle.nfs_xdr.specs.Op.{is_on_tree, opnum_of};
 ghost use Rattle.nfs_xdr.specs.OpResult.{op_result, status_of};
-ghost use Rattle.nfs_xdr.specs.Opnum.{answer_limit};
 
 use crate::Service;
 use nfs_core::Moment;
@@ -180,7 +178,8 @@ fn is_ok(answer: &OpResult) -> bool
 }
 
 // Answers an entry of the list, whose result follows the first `size` bytes of the reply's record. An entry that ends
-// the list isn't run, nor is an operation for whose answer the reply may not have enough room.
+// the list isn't run, nor is an operation for whose answer the reply may not have enough room. The service is asked for
+// one that needs more than the tree; after an OPEN that it answers NFS4_OK its file is the current one.
 fn answer_one<S: Service>(
     service: &mut S,
     context: &Context<'_>,
@@ -220,32 +219,6 @@ fn answer_one<S: Service>(
         drop(op);
         return answer;
     }
-    ask(service, context, handles, op)
-}
-
-// Asks the service for an operation that needs more than the tree. After an OPEN that is answered NFS4_OK its file is the
-// current one.
-fn ask<S: Service>(
-    service: &mut S,
-    context: &Context<'_>,
-    handles: &mut Filehandles,
-    op: Op,
-) -> OpResult
-    requires more { IsFalse (is_on_tree op) }
-    requires ready { 0 < S.room service.old }
-    requires serves { S.serves service.old ≡ context.now.tree.now.nodes }
-    requires nodes { AreNodes context.now.tree.now handles.old }
-    ensures given { S.gives service.old
-        (question_of context.now.moment context.now.principal
-        (question_for op handles.old.current)) result service.new }
-    ensures handles { handles.new ≡ handles_after_answer context.now.tree.now handles.old
-        (question_for op handles.old.current) result }
-    ensures ready { S.room service.old ≤ S.room service.new + 1 }
-    ensures serves { S.serves service.new ≡ context.now.tree.now.nodes }
-    ensures nodes { AreNodes context.now.tree.now handles.new }
-    ensures form { op_result.Fits result }
-    ensures fits { length (op_result.encoding result) ≤ answer_limit (opnum_of op) }
-{
     if let Op::Renew(args) = &op {
         return service.renew(context.moment, args.client);
     }

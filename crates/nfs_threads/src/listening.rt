@@ -33,7 +33,7 @@ use std::marker::Brand;
 use std::net::{Net, TcpListener, TcpStream};
 use std::sync::Wait;
 use std::thread;
-use std::thread::{Scope, Threads};
+use std::thread::Threads;
 use std::time::{Clock as Timer, Duration};
 
 /// Serves the next connections that come to the listener, as many as `connections` says, each in a thread of its own,
@@ -190,8 +190,9 @@ fn link_all<'a, N: Naming, R, W>(
     }
 }
 
-// Serves the links, while one more thread sweeps and another one calls clients back, and says whether both did. What the
-// workers give back is put into `spare` if they can't begin.
+// Serves the links, while one more thread sweeps and another one calls clients back; tells these two the end, and says
+// whether both were made. What one was to do that can't be made is asked for once the end is told, so it comes back with
+// nothing done. What the workers give back is put into `spare` if they can't begin.
 fn serve_helped<
     N: Naming + Send + Sync,
     R: Threads + Wait + Timer + Net<Listener = TcpListener, Stream = TcpStream> + Sync,
@@ -216,50 +217,27 @@ fn serve_helped<
             requires { (N.start.nodes ≡ setting.now.tree.now.nodes) × AreUnused (seats_of links.items)
                 × (spare.items ≡ []) × (length links.items ≤ vec_capacity spare) }
             ensures { AreEndsOf tcp setting.entry.now.tree.now links.entry.items result.0.items }
-        { serve_beside_helpers(scope, setting, shared, helpers, links, spare) },
+        {
+            let Helpers { sweeper, sender } = helpers;
+            let sweeping = scope.spawn(move || sweep(setting, shared, sweeper));
+            let calling = scope.spawn(move || call_back(setting, shared, sender));
+            let all = match serve_all(setting.alloc, setting.rt, shared, setting.tree, links) {
+                Ok(all) => all,
+                Err(links) => refuse_all(setting.alloc, setting.tree, links, spare),
+            };
+            setting.bell.ring(setting.rt);
+            let has_helpers = sweeping.is_ok() && calling.is_ok();
+            let sweeper = match sweeping {
+                Ok(handle) => handle.join(setting.rt),
+                Err(back) => (back.value)(),
+            };
+            let sender = match calling {
+                Ok(handle) => handle.join(setting.rt),
+                Err(back) => (back.value)(),
+            };
+            (all, Helpers { sweeper, sender }, has_helpers)
+        },
     )
-}
-
-// Serves the links, while threads of this scope sweep and call clients back, and tells them their end. Where one can't be
-// made, what it was to do is asked for once the links are served: it finds the end told, and comes back with nothing done.
-fn serve_beside_helpers<
-    's,
-    E,
-    N: Naming + Send + Sync + 's,
-    R: Threads + Wait + Timer + Net<Listener = TcpListener, Stream = TcpStream> + Sync,
-    W: Watcher + Sync,
->(
-    scope: &Scope<'s, E>,
-    setting: &'s Setting<'s, R, W>,
-    shared: &'s Shared<N>,
-    helpers: Helpers<N>,
-    links: Vec<(TcpLinks<'_, R, W>, Seat<N>)>,
-    spare: Vec<WorkerEnd<N>>,
-) -> (Vec<WorkerEnd<N>>, Helpers<N>, bool)
-    requires nodes { N.start.nodes ≡ setting.now.tree.now.nodes }
-    requires unused { AreUnused (seats_of links.items) }
-    requires empty { spare.items ≡ [] }
-    requires room { length links.items ≤ vec_capacity spare }
-    ensures { AreEndsOf tcp setting.now.tree.now links.entry.items result.0.items }
-{
-    let Helpers { sweeper, sender } = helpers;
-    let sweeping = scope.spawn(move || sweep(setting, shared, sweeper));
-    let calling = scope.spawn(move || call_back(setting, shared, sender));
-    let all = match serve_all(setting.alloc, setting.rt, shared, setting.tree, links) {
-        Ok(all) => all,
-        Err(links) => refuse_all(setting.alloc, setting.tree, links, spare),
-    };
-    setting.bell.ring(setting.rt);
-    let has_helpers = sweeping.is_ok() && calling.is_ok();
-    let sweeper = match sweeping {
-        Ok(handle) => handle.join(setting.rt),
-        Err(back) => (back.value)(),
-    };
-    let sender = match calling {
-        Ok(handle) => handle.join(setting.rt),
-        Err(back) => (back.value)(),
-    };
-    (all, Helpers { sweeper, sender }, has_helpers)
 }
 
 // Sweeps until the end of the connections is told, and gives the sweeper back.

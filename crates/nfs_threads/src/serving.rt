@@ -57,8 +57,9 @@ pub fn serve_all<N: Naming + Send + Sync, L: Links + Drop + Send, R: Threads + W
     )
 }
 
-// Serves these links, each in a thread of this scope. The lists stand in here and not in the closure above, since a closure that
-// is passed on may not hold a type with a promise of a type parameter.
+// Serves these links, each in a thread of this scope: begins a worker for each, in order, and then waits for them. The
+// lists stand in here and not in the closure above, since a closure that is passed on may not hold a type with a promise
+// of a type parameter.
 fn serve_in<
     's,
     E,
@@ -68,7 +69,7 @@ fn serve_in<
 >(
     scope: &Scope<'s, E>,
     common: &'s Common<'s, N, R>,
-    flags: &'s [AtomicBool],
+    mut flags: &'s [AtomicBool],
     links: Vec<(L, Seat<N>)>,
 ) -> Result<Vec<WorkerEnd<N>>, Vec<(L, Seat<N>)>>
     requires flags { length flags.now ≡ vec_len links }
@@ -85,7 +86,13 @@ fn serve_in<
     let Ok(mut ends) = Vec::with_capacity(common.alloc, links.len()) else {
         return Err(links);
     };
-    begin_all(scope, common, flags, links, &mut workers);
+    for (link, seat) in links {
+        let Some((refused, others)) = flags.split_first() else {
+            unreachable!()
+        };
+        flags = others;
+        workers.push_reserved(begin(scope, common, refused, link, seat));
+    }
     finish_all(common.rt, workers, &mut ends);
     Ok(ends)
 }
@@ -99,33 +106,6 @@ fn clear_flags(alloc: Global, count: usize) -> Result<Vec<AtomicBool>, AllocErro
         flags.push(AtomicBool::new(false))?;
     }
     Ok(flags)
-}
-
-// Begins a worker for each of the links, in order.
-fn begin_all<'s, E, N: Naming + Send + Sync + 's, L: Links + Drop + Send + 's, R: Wait + Sync>(
-    scope: &Scope<'s, E>,
-    common: &'s Common<'s, N, R>,
-    mut flags: &'s [AtomicBool],
-    links: Vec<(L, Seat<N>)>,
-    workers: &mut Vec<Worker<N, L>>,
-)
-    requires flags { length flags.now ≡ vec_len links }
-    requires tree { N.start.nodes ≡ common.now.tree.now.nodes }
-    requires unused { AreUnused (seats_of links.items) }
-    requires empty { workers.old.items ≡ [] }
-    requires room { vec_len links ≤ vec_capacity workers.old }
-    ensures count { vec_len workers.new ≡ vec_len links }
-    ensures each { AreWorkers
-        (linking L.opens L.stops L.Device.device L.Device.read_failures L.Device.write_failures L.Clock.tells)
-        common.now.tree.now links.items workers.new.items }
-{
-    for (link, seat) in links {
-        let Some((refused, others)) = flags.split_first() else {
-            unreachable!()
-        };
-        flags = others;
-        workers.push_reserved(begin(scope, common, refused, link, seat));
-    }
 }
 
 // Waits for the end of each worker, in order.

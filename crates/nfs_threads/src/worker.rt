@@ -52,7 +52,7 @@ pub(crate) fn work<N: Naming, L: Links + Drop, R: Wait>(
     let mut desk = Desk::new(common.alloc, common.rt, common.shared, seat);
     let mut connections = Vec::new(common.alloc);
     let refused = refused.load(Ordering::SeqCst);
-    let end = serve_unless(refused, common, &mut links, &mut desk, &mut connections);
+    let end = serve_each(refused, common, &mut links, &mut desk, &mut connections);
     let (seat, receipts) = desk.into_parts();
     WorkerEnd {
         shift: Shift { connections, end },
@@ -61,8 +61,9 @@ pub(crate) fn work<N: Naming, L: Links + Drop, R: Wait>(
     }
 }
 
-// Serves the connections, unless no thread could be made for them.
-fn serve_unless<N: Naming, L: Links, R: Wait>(
+// Serves the connections one after the other, until none is left, or memory is refused for the next one and the links don't
+// wait for it; none if no thread could be made for them. The room for a connection is made before it is taken.
+fn serve_each<N: Naming, L: Links, R: Wait>(
     refused: bool,
     common: &Common<'_, N, R>,
     links: &mut L,
@@ -80,24 +81,6 @@ fn serve_unless<N: Naming, L: Links, R: Wait>(
     if refused {
         return Err(AllocError);
     }
-    serve_each(common, links, desk, connections)
-}
-
-// Serves the connections one after the other, until none is left, or memory is refused for the next one and the links don't
-// wait for it. The room for a connection is made before it is taken.
-fn serve_each<N: Naming, L: Links, R: Wait>(
-    common: &Common<'_, N, R>,
-    links: &mut L,
-    desk: &mut Desk<'_, N, R>,
-    connections: &mut Vec<ConnectionEnd>,
-) -> Result<(), AllocError>
-    requires tree { N.start.nodes ≡ common.now.tree.now.nodes }
-    requires empty { connections.old.items ≡ [] }
-    ensures { HasServed
-        (linking L.opens L.stops L.Device.device L.Device.read_failures L.Device.write_failures L.Clock.tells)
-        common.now.tree.now (stand links.old desk.old) connections.new.items result
-        (stand links.new desk.new) }
-{
     let mut buffers = None;
     for _ in common.rt.forever() {
         if !make_room(common, links, connections, &mut buffers)? {

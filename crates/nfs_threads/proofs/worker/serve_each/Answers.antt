@@ -1,6 +1,6 @@
-use Rattle.std.proofs.Common.{rules}
+use Rattle.std.proofs.Common.{refl, rules}
 use Rattle.nfs_threads.specs.Worker.{linking, stand}
-use Rattle.nfs_threads.proofs.Each.{all_served, one_more_served}
+use Rattle.nfs_threads.proofs.Each.{all_served, none_served, one_more_served}
 use Rattle.nfs_threads.proofs.worker.serve_each.Goals as goal
 
 pub loop-preserved : goal.loop-preserved
@@ -19,26 +19,34 @@ loop-preserved g c = rw c.push_reserved.ensures.items (rw c.make_room.ensures.li
       write_failed = c.serve-result.ensures.write_failed;
     })))
 
-pub returns-in_err-make_room : goal.returns-in_err-make_room
-returns-in_err-make_room g c = (
+pub returns-in_err-make_room-clause-connections : goal.returns-in_err-make_room-clause-connections
+returns-in_err-make_room-clause-connections g c = (
   stand c.loop.links c.loop.desk,
   rw c.make_room.ensures.list (all_served (linking g.L.Links.opens g.L.Links.stops g.L.Device.Duplex.device g.L.Device.Duplex.read_failures g.L.Device.Duplex.write_failures g.L.Clock.Clock.tells) c.args.common.now.tree.now (stand c.args.links.now c.args.desk.now) c.loop.connections.items (stand c.loop.links c.loop.desk) c.loop.invariant),
   search rules,
   search rules,
 )
 
-pub returns-then-not-branch : goal.returns-then-not-branch
-returns-then-not-branch g c = (
+pub returns-then-not-branch-clause-connections : goal.returns-then-not-branch-clause-connections
+returns-then-not-branch-clause-connections g c = (
   stand c.loop.links c.loop.desk,
   rw c.make_room.ensures.list (all_served (linking g.L.Links.opens g.L.Links.stops g.L.Device.Duplex.device g.L.Device.Duplex.read_failures g.L.Device.Duplex.write_failures g.L.Clock.Clock.tells) c.args.common.now.tree.now (stand c.args.links.now c.args.desk.now) c.loop.connections.items (stand c.loop.links c.loop.desk) c.loop.invariant),
   search rules,
   search rules,
 )
 
-pub returns-in_default-next : goal.returns-in_default-next
-returns-in_default-next g c = (
+pub returns-in_default-next-clause-connections : goal.returns-in_default-next-clause-connections
+returns-in_default-next-clause-connections g c = (
   stand c.loop.links c.loop.desk,
   rw c.make_room.ensures.list (all_served (linking g.L.Links.opens g.L.Links.stops g.L.Device.Duplex.device g.L.Device.Duplex.read_failures g.L.Device.Duplex.write_failures g.L.Clock.Clock.tells) c.args.common.now.tree.now (stand c.args.links.now c.args.desk.now) c.loop.connections.items (stand c.loop.links c.loop.desk) c.loop.invariant),
   search rules,
   search rules,
+)
+
+pub returns-then-refused-clause-connections : goal.returns-then-refused-clause-connections
+returns-then-refused-clause-connections g c = (
+  stand c.args.links.now c.args.desk.now,
+  none_served (linking g.L.Links.opens g.L.Links.stops g.L.Device.Duplex.device g.L.Device.Duplex.read_failures g.L.Device.Duplex.write_failures g.L.Clock.Clock.tells) c.args.common.now.tree.now (stand c.args.links.now c.args.desk.now) c.args.connections.now.items c.requires.empty,
+  refl,
+  refl,
 )

@@ -5,9 +5,9 @@ returns g c = (
   record {
     desk = c.new-desk.result;
     begun = (c.new-desk.ensures.seat, c.new-desk.ensures.receipts);
-    links' = c.serve_unless-end.new.links;
-    desk' = c.serve_unless-end.new.desk;
-    served = c.serve_unless-end.ensures.connections;
+    links' = c.serve_each-end.new.links;
+    desk' = c.serve_each-end.new.desk;
+    served = c.serve_each-end.ensures.connections;
     ended = (c.into_parts-seat.ensures.seat, c.into_parts-seat.ensures.receipts);
   },
   c.into_parts-seat.ensures.kept,

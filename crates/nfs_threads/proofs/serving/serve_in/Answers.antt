@@ -2,7 +2,7 @@ use Rattle.std.proofs.Common.{List, length, rules, ap, arith}
 use Rattle.std.specs.Vec.Iter.{into_iter_items}
 use Rattle.nfs_threads.specs.Worker.{linking}
 use Rattle.nfs_threads.proofs.Workers.{all_begun, one_more_begun, unused_rest}
-use Rattle.nfs_threads.proofs.serving.begin_all.Goals as goal
+use Rattle.nfs_threads.proofs.serving.serve_in.Goals as goal
 
 pub begin-requires-clause-unused : goal.begin-requires-clause-unused
 begin-requires-clause-unused g c κs lives =
@@ -24,7 +24,8 @@ loop-link-preserved g c =
           steps.0 c.loop-link.invariant.completes c.begin.ensures);
     }
 
-pub returns-clause-each : goal.returns-clause-each
-returns-clause-each g c =
-    all_begun (linking g.L.Links.opens g.L.Links.stops g.L.Device.Duplex.device g.L.Device.Duplex.read_failures g.L.Device.Duplex.write_failures g.L.Clock.Clock.tells) c.args.common.now.tree.now
-    c.args.links.items (into_iter_items c.loop-link.link-iterator) c.loop-link.workers.items c.loop-link.invariant.completes (omega (arith, c.loop-link.invariant.count, c.in-None.ensures.steps.0))
+pub returns-clause-ends : goal.returns-clause-ends
+returns-clause-ends g c =
+    c.finish_all.ensures c.args.common.now.tree.now c.args.links.items
+    (all_begun (linking g.L.Links.opens g.L.Links.stops g.L.Device.Duplex.device g.L.Device.Duplex.read_failures g.L.Device.Duplex.write_failures g.L.Clock.Clock.tells) c.args.common.now.tree.now
+    c.args.links.items (into_iter_items c.loop-link.link-iterator) c.loop-link.workers.items c.loop-link.invariant.completes (omega (arith, c.loop-link.invariant.count, c.in-None.ensures.steps.0)))

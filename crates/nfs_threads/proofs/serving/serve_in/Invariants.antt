@@ -2,7 +2,7 @@ use Rattle.std.proofs.Common.{◌≡◌, ◌+◌, ◌≤◌, List, ◌++◌, len
 use Rattle.std.specs.Vec.Iter.{into_iter_items, into_iter_len}
 use Rattle.nfs_threads.specs.WorkerThread.{AreWorkers}
 use Rattle.nfs_threads.specs.Worker.{AreUnused, linking, seats_of}
-use Rattle.nfs_threads.proofs.serving.begin_all.Given as goal
+use Rattle.nfs_threads.proofs.serving.serve_in.Given as goal
 
 -- whatever are workers of the links that are left are, after those so far, workers of all links
 abbrev pub invariant-loop-link : goal.invariant-loop-link
