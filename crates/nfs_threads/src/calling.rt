@@ -1,6 +1,7 @@
 //! The thread that calls clients back.
 
 use crate::bell::Bell;
+use crate::listening::Setting;
 use nfs_callbacks::{CallbackSource, Caller, MarkError, Probe};
 use nfs_core::{CoreError, Recall};
 use nfs_shared::{Naming, Sender, Shared};
@@ -13,28 +14,13 @@ use std::time::{Clock as Timer, Duration};
 // For how many milliseconds a look waits at most.
 const LOOK_MILLIS: u64 = 100;
 
-/// The state that threads share, as whoever calls clients back asks it. The handle by which it may wait for the lock is
-/// part of it, as it is asked without one.
+// The state that threads share, as whoever calls clients back asks it. The handle by which it may wait for the lock is
+// part of it, as it is asked without one.
 #[derive(Drop)]
-pub(crate) struct SharedSource<'a, N: Naming, R: Wait> {
+struct SharedSource<'a, N: Naming, R: Wait> {
     rt: &'a R,
     shared: &'a Shared<N>,
     sender: Sender<N>,
-}
-
-impl<'a, N: Naming, R: Wait> SharedSource<'a, N, R> {
-    pub(crate) fn new(
-        rt: &'a R,
-        shared: &'a Shared<N>,
-        sender: Sender<N>,
-    ) -> SharedSource<'a, N, R> {
-        SharedSource { rt, shared, sender }
-    }
-
-    /// Who took the recalls, and marked the paths.
-    pub(crate) fn into_sender(self) -> Sender<N> {
-        self.sender
-    }
 }
 
 impl<N: Naming, R: Wait> CallbackSource for SharedSource<'_, N, R> {
@@ -79,20 +65,22 @@ impl<N: Naming, R: Wait> CallbackSource for SharedSource<'_, N, R> {
     }
 }
 
-/// Calls clients back until the end of the run is told. What waits then is left.
-pub(crate) fn call_back_until<N: Naming, R: Net + Wait + Timer>(
-    alloc: Global,
-    rt: &R,
-    source: &mut SharedSource<'_, N, R>,
-    bell: &Bell,
-) {
+/// Calls clients back until the end of the connections is told, and gives the sender back. What waits then is left.
+pub(crate) fn call_back_until<N: Naming, R: Net + Wait + Timer, W>(
+    setting: &Setting<'_, R, W>,
+    shared: &Shared<N>,
+    sender: Sender<N>,
+) -> Sender<N> {
+    let rt = setting.rt;
+    let mut source = SharedSource { rt, shared, sender };
     let mut caller = None;
     for _ in rt.forever() {
-        if bell.is_rung() {
-            return;
+        if setting.bell.is_rung() {
+            break;
         }
-        caller = look_once(alloc, rt, caller, source, bell);
+        caller = look_once(setting.alloc, rt, caller, &mut source, setting.bell);
     }
+    source.sender
 }
 
 // One look of the caller. Where the system refused one, another is asked for.

@@ -1,15 +1,6 @@
-ghost use Rattle.std.specs.Prelude.{◌≡◌, ◌≢◌, ◌≤◌, ◌↔◌, [], IfNone, IfSome, IsNone, IsTrue, length, refl};
-ghost use Rattle.nfs_forms.specs.ClientId.{number_in};
+ghost use Rattle.std.specs.Prelude.{◌≡◌, [], length, refl};
 ghost use Rattle.nfs_threads.specs.Holding.{AreAlikeButRoom, GivenBySeat};
-ghost use Rattle.nfs_threads.specs.declared.desk.BatchHold.{BatchHold};
 ghost use Rattle.nfs_shared.specs.Ends.{IsKept};
-ghost use Rattle.nfs_shared.specs.Held.{HeldView, MayBeHeld};
-ghost use Rattle.nfs_leases.specs.PlainBook.{has_open_lease};
-ghost use Rattle.nfs_shared.specs.Seats.{Gives, KnowsTheSame};
-ghost use Rattle.nfs_state.specs.Entries.{IsFilehandle, resource};
-ghost use Rattle.nfs_xdr.specs.Op.{has_entry, opnum_of};
-ghost use Rattle.nfs_xdr.specs.OpResult.{op_result};
-ghost use Rattle.nfs_xdr.specs.Opnum.{answer_limit};
 
 use nfs_core::Moment;
 use nfs_leases::renewal_answer;
@@ -28,7 +19,9 @@ use std::sync::Wait;
 pub struct Desk<'a, N: Naming, R: Wait> {
     rt: &'a R,
     shared: &'a Shared<N>,
-    hold: BatchHold<'a, N, R>,
+    // Whether a batch is under way, and the hold of the lock in which it is answered. What asks nothing takes none.
+    is_batch: bool,
+    hold: Option<Hold<'a, 'a, N, R>>,
     seat: Seat<N>,
     receipts: Vec<Receipt>,
 }
@@ -59,7 +52,8 @@ impl<'a, N: Naming, R: Wait> Desk<'a, N, R> {
         Desk {
             rt,
             shared,
-            hold: BatchHold::NoBatch,
+            is_batch: false,
+            hold: None,
             seat,
             receipts: Vec::new(alloc),
         }
@@ -81,6 +75,7 @@ impl<'a, N: Naming, R: Wait> Desk<'a, N, R> {
         let Desk {
             rt: _,
             shared: _,
+            is_batch: _,
             hold: _,
             seat,
             receipts,
@@ -105,16 +100,18 @@ impl<'a, N: Naming, R: Wait> Service for Desk<'a, N, R> {
     }
 
     fn begin_batch(&mut self) {
-        self.hold = BatchHold::NotAsked;
+        self.is_batch = true;
     }
 
     fn end_batch(&mut self) {
-        self.hold = BatchHold::NoBatch;
+        self.is_batch = false;
+        self.hold = None;
     }
 
     fn call(&mut self, request: Request) -> OpResult {
-        let (hold, seat) = (&mut self.hold, &mut self.seat);
-        let (answer, receipt) = call_in(self.rt, self.shared, hold, seat, request);
+        let hold = hold_in(&mut self.hold, self.rt, self.shared);
+        let (answer, receipt) = call_held(&mut *hold.guard, &mut self.seat, request);
+        let_go(&mut self.hold, self.is_batch);
         if let Some(receipt) = receipt {
             self.receipts.push_reserved(receipt);
         }
@@ -122,77 +119,33 @@ impl<'a, N: Naming, R: Wait> Service for Desk<'a, N, R> {
     }
 
     fn renew(&mut self, moment: Moment, client: ClientId) -> OpResult {
-        let (hold, seat) = (&mut self.hold, &mut self.seat);
-        let is_open = renew_in(self.rt, self.shared, hold, seat, moment, client);
+        let hold = hold_in(&mut self.hold, self.rt, self.shared);
+        let is_open = renew_held(&mut *hold.guard, &mut self.seat, moment, client);
+        let_go(&mut self.hold, self.is_batch);
         let answer = OpResult::Renew(renewal_answer(is_open));
         answer.fits();
         answer
     }
 }
 
-// The hold of the lock in which a batch is answered, if one is under way. What asks nothing takes none.
-#[derive(Drop)]
-enum BatchHold<'a, N: Naming, R: Wait> {
-    NoBatch,
-    NotAsked,
-    Taken(Hold<'a, 'a, N, R>),
-}
-
-impl<'a, N: Naming, R: Wait> BatchHold<'a, N, R> {
-    // Takes the lock for a batch that now asks for the first time.
-    fn ask(&mut self, rt: &'a R, shared: &'a Shared<N>)
-        ensures asked { self.new ≢ BatchHold.NotAsked }
-        ensures none { self.old ≡ BatchHold.NoBatch → self.new ≡ BatchHold.NoBatch }
-    {
-        if matches!(self, BatchHold::NotAsked) {
-            *self = BatchHold::Taken(shared.hold(rt));
-        }
+// The hold in which a question is answered: that of the batch, which takes the lock at its first question.
+fn hold_in<'h, 'a, N: Naming, R: Wait>(
+    hold: &'h mut Option<Hold<'a, 'a, N, R>>,
+    rt: &'a R,
+    shared: &'a Shared<N>,
+) -> &'h mut Hold<'a, 'a, N, R> {
+    if hold.is_none() {
+        *hold = Some(shared.hold(rt));
+    }
+    match hold {
+        Some(hold) => hold,
+        None => unreachable!(),
     }
 }
 
-// Has the shared state answer a request, in the hold of the batch if there is one, and else in one of its own.
-fn call_in<'a, N: Naming, R: Wait>(
-    rt: &'a R,
-    shared: &'a Shared<N>,
-    hold: &mut BatchHold<'a, N, R>,
-    seat: &mut Seat<N>,
-    request: Request,
-) -> (OpResult, Option<Receipt>)
-    requires entry { IsTrue (has_entry request.op) }
-    requires node { IsFilehandle N.start request.filehandle }
-    ensures refused { IsNone result.1 ↔ (result.0 ≡ resource request.op) }
-    ensures same { IfNone result.1 (KnowsTheSame seat.old seat.new) }
-    ensures entry { IfSome result.1
-        (λ r. r.call ≡ record { request = request; answer = result.0 }) }
-    ensures given { IfSome result.1 (λ r. Gives seat.old r seat.new) }
-    ensures short { length (op_result.encoding result.0) ≤ answer_limit (opnum_of request.op) }
-    ensures form { op_result.Fits result.0 }
-{
-    hold.ask(rt, shared);
-    match hold {
-        BatchHold::Taken(hold) => call_held(&mut *hold.guard, seat, request),
-        BatchHold::NoBatch => call_held(&mut *shared.hold(rt).guard, seat, request),
-        BatchHold::NotAsked => unreachable!(),
-    }
-}
-
-// Renews the lease of this client, in the hold of the batch if there is one, and else in one of its own.
-fn renew_in<'a, N: Naming, R: Wait>(
-    rt: &'a R,
-    shared: &'a Shared<N>,
-    hold: &mut BatchHold<'a, N, R>,
-    seat: &mut Seat<N>,
-    moment: Moment,
-    client: ClientId,
-) -> bool
-    ensures open { (held : HeldView) × MayBeHeld N.start seat.old held
-        × (result ≡ has_open_lease held.leases (number_in N.start.epoch client)) }
-    ensures same { KnowsTheSame seat.old seat.new }
-{
-    hold.ask(rt, shared);
-    match hold {
-        BatchHold::Taken(hold) => renew_held(&mut *hold.guard, seat, moment, client),
-        BatchHold::NoBatch => shared.renew(rt, seat, moment, client),
-        BatchHold::NotAsked => unreachable!(),
+// Gives the lock back, unless a batch is under way.
+fn let_go<N: Naming, R: Wait>(hold: &mut Option<Hold<'_, '_, N, R>>, is_batch: bool) {
+    if !is_batch {
+        *hold = None;
     }
 }

@@ -16,13 +16,13 @@ ghost use Rattle.nfs_shared.specs.Receipts.{calls_in};
 ghost use Rattle.nfs_state.specs.Stored.{meaning};
 
 use crate::bell::Bell;
-use crate::calling::{SharedSource, call_back_until};
+use crate::calling::call_back_until;
 use crate::lists::{Lists, Parts};
 use crate::sweeping::sweep_until;
 use crate::tcp_links::Entrance;
 use crate::watcher::Nobody;
 use crate::{
-    Door, RunEnd, Shift, TcpLinks, Uptime, Watcher, WorkerAccount, WorkerEnd, serve_all,
+    Door, RunEnd, Shift, TcpLinks, Watcher, WorkerAccount, WorkerEnd, serve_all,
     workers_keep_receipts,
 };
 use nfs_core::Core;
@@ -106,15 +106,15 @@ pub fn serve_through<
     run::<Brand, R, W>(&setting, &links, workers, opened, core)
 }
 
-// What all connections have in common, the bell that tells their end, and who watches.
+/// What all connections have in common, the bell that tells their end, and who watches.
 #[derive(Drop)]
-struct Setting<'a, R, W> {
-    alloc: Global,
-    rt: &'a R,
-    tree: &'a Tree,
-    start: Duration,
-    bell: &'a Bell,
-    watcher: &'a W,
+pub(crate) struct Setting<'a, R, W> {
+    pub(crate) alloc: Global,
+    pub(crate) rt: &'a R,
+    pub(crate) tree: &'a Tree,
+    pub(crate) start: Duration,
+    pub(crate) bell: &'a Bell,
+    pub(crate) watcher: &'a W,
 }
 
 // What the threads beside the workers need of the shared state.
@@ -219,8 +219,8 @@ fn serve_helped<
             ensures { AreEndsOf tcp setting.entry.now.tree.now links.entry.items result.0.items }
         {
             let Helpers { sweeper, sender } = helpers;
-            let sweeping = scope.spawn(move || sweep(setting, shared, sweeper));
-            let calling = scope.spawn(move || call_back(setting, shared, sender));
+            let sweeping = scope.spawn(move || sweep_until(setting, shared, sweeper));
+            let calling = scope.spawn(move || call_back_until(setting, shared, sender));
             let all = match serve_all(setting.alloc, setting.rt, shared, setting.tree, links) {
                 Ok(all) => all,
                 Err(links) => refuse_all(setting.alloc, setting.tree, links, spare),
@@ -238,29 +238,6 @@ fn serve_helped<
             (all, Helpers { sweeper, sender }, has_helpers)
         },
     )
-}
-
-// Sweeps until the end of the connections is told, and gives the sweeper back.
-fn sweep<N: Naming, R: Wait + Timer, W: Watcher>(
-    setting: &Setting<'_, R, W>,
-    shared: &Shared<N>,
-    mut sweeper: Sweeper<N>,
-) -> Sweeper<N> {
-    let mut uptime = Uptime::since(setting.rt, setting.start);
-    let (bell, watcher) = (setting.bell, setting.watcher);
-    sweep_until(setting.rt, shared, &mut sweeper, &mut uptime, bell, watcher);
-    sweeper
-}
-
-// Calls clients back until the end of the connections is told, and gives the sender back.
-fn call_back<N: Naming, R: Net + Wait + Timer, W>(
-    setting: &Setting<'_, R, W>,
-    shared: &Shared<N>,
-    sender: Sender<N>,
-) -> Sender<N> {
-    let mut source = SharedSource::new(setting.rt, shared, sender);
-    call_back_until(setting.alloc, setting.rt, &mut source, setting.bell);
-    source.into_sender()
 }
 
 // The links get no worker, as memory is refused: none is served, and the seats come back.

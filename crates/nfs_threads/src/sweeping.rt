@@ -1,4 +1,4 @@
-use crate::bell::Bell;
+use crate::listening::Setting;
 use crate::{Uptime, Watcher};
 use nfs_server::Clock;
 use nfs_shared::{Naming, Shared, Sweeper};
@@ -11,23 +11,22 @@ const PERIOD: u64 = 1;
 // How many looks the watcher has after a sweep at most.
 const MOST_LOOKS: u32 = 4_096;
 
-/// Removes the clients whose leases are over, and revokes the delegations that are due, once a second, until the end of
-/// the run is told. Then the watcher looks.
+/// Removes the clients whose leases are over, and revokes the delegations that are due, once a second, and then has the
+/// watcher look, until the end of the connections is told. Gives the sweeper back.
 pub(crate) fn sweep_until<N: Naming, R: Wait + Timer, W: Watcher>(
-    rt: &R,
+    setting: &Setting<'_, R, W>,
     shared: &Shared<N>,
-    sweeper: &mut Sweeper<N>,
-    uptime: &mut Uptime<'_, R>,
-    bell: &Bell,
-    watcher: &W,
-) {
-    for _ in rt.forever() {
-        if bell.wait(rt, Duration::from_secs(PERIOD)) {
-            return;
+    mut sweeper: Sweeper<N>,
+) -> Sweeper<N> {
+    let mut uptime = Uptime::since(setting.rt, setting.start);
+    for _ in setting.rt.forever() {
+        if setting.bell.wait(setting.rt, Duration::from_secs(PERIOD)) {
+            break;
         }
-        shared.sweep(rt, sweeper, uptime.now());
-        show(rt, shared, watcher);
+        shared.sweep(setting.rt, &mut sweeper, uptime.now());
+        show(setting.rt, shared, setting.watcher);
     }
+    sweeper
 }
 
 // Has the watcher look at the core, and write down what it sees, as often as it wants to, each time in a hold of its own.
