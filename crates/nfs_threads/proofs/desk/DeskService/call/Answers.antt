@@ -28,7 +28,15 @@ returns-in-Some-clause-gives g c =
       ),
     )
 
+-- the last of three
+third : {A B C : Type 0} → A × B × C → C
+third h = h.2
+
 pub invariant_of-self-in_default : goal.invariant_of-self-in_default
 invariant_of-self-in_default g c =
-    let same = subst (λ (o : Option Receipt). IfNone o (KnowsTheSame c.self.inside.seat c.call_held-answer.new.seat)) c.in_default.is c.call_held-answer.ensures.same in
-    kept_same c.self.inside.seat c.self.inside.receipts.items c.call_held-answer.new.seat c.self.invariant same
+    let held = c.call_held-answer.new.held in
+    let lent = c.deref_mut.result.now in
+    let same =
+    subst (λ (o : Option Receipt). IfNone o ((held.places ≡ lent.places) × (held.receipts ≡ lent.receipts) × KnowsTheSame c.self.inside.seat c.call_held-answer.new.seat))
+    c.in_default.is c.call_held-answer.ensures.same in
+    kept_same c.self.inside.seat c.self.inside.receipts.items c.call_held-answer.new.seat c.self.invariant (third same)
