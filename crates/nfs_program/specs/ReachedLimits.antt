@@ -1,5 +1,5 @@
 -- The limits of a run that its journal shows.
-use Rattle.std.specs.Prelude.{Bool, ℕ, false, if◌then◌else◌, nat_eq}
+use Rattle.std.specs.Prelude.{Bool, false, if◌then◌else◌, nat_eq}
 use Rattle.nfs_forms.specs.declared.answer.Answer.TheVariants as answers
 use Rattle.nfs_owners.specs.declared.client_record.TheConstants.{CLIENT_LIMIT}
 use Rattle.nfs_program.specs.declared.reached_limits.Reach.{Reach}
