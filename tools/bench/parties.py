@@ -14,7 +14,7 @@ from messages import CLOSE, LOCK, LOCKT, LOCKU, NFS4_OK, READ, opaque, words
 from told import Wrong
 
 # Made known by `messages`.
-from wire import READ_LT, WRITE_LT, u64
+from wire import WRITE_LT, u64
 
 # The file that is measured, by its node, its name and its bytes; and the others.
 FILE, NAME, BLOCK = 1, b"a", b"x" * 4096
