@@ -26,7 +26,7 @@ stays : (range : Range) (mode : Option Mode) (modes : ℕ → Option Mode) (byte
 stays range mode modes byte out = ap (λ t. if t then mode else modes byte) out
 
 -- whether a run begins depends on a byte and the one before
-same_starts : (old new : ℕ → Option Mode) (byte : ℕ) → new byte ≡ old byte → new (byte - 1) ≡ old (byte - 1)
+pub same_starts : (old new : ℕ → Option Mode) (byte : ℕ) → new byte ≡ old byte → new (byte - 1) ≡ old (byte - 1)
     → begins new byte ≡ begins old byte
 same_starts old new byte here before =
     ap (λ m. is_some m && (byte == 0 || not (is_same m (new (byte - 1))))) here

@@ -1,0 +1,75 @@
+-- What holds of each element of a list, and the element at a place.
+use Rattle.std.proofs.Common.{◌≡◌, ℕ, zero, suc, ◌+◌, ◌-◌, ◌<◌, ◌≤◌, true, List, [], ◌∷◌, ◌++◌, length, get_or, reverse, drop, Option, Some, None, inl, inr, refl, sym, ◌∙◌, ap, subst, arith}
+use Rattle.std.specs.Prelude.{find, slice_get, ⊤, Bool}
+use Rattle.std.specs.List.{AllByRecursion}
+use Rattle.std.proofs.lemmas.Bool.{cases_Bool}
+use Rattle.std.proofs.lemmas.Option.{same_Some, slice_get-get_or}
+use Rattle.std.proofs.lemmas.List.{get_or-reverse, length-reverse}
+
+module _ {X : Type 0} where
+  pub all_weaken : (P Q : X → Type 0) → ((x : X) → P x → Q x) → (xs : List X) → AllByRecursion P xs → AllByRecursion Q xs
+  all_weaken P Q weaken [] h = tt
+  all_weaken P Q weaken (x ∷ xs) h = (weaken x h.0, all_weaken P Q weaken xs h.1)
+
+  pub all_both : (P Q R : X → Type 0) → ((x : X) → P x → Q x → R x) → (xs : List X) → AllByRecursion P xs
+      → AllByRecursion Q xs → AllByRecursion R xs
+  all_both P Q R both [] h k = tt
+  all_both P Q R both (x ∷ xs) h k = (both x h.0 k.0, all_both P Q R both xs h.1 k.1)
+
+  pub all_append : (P : X → Type 0) (xs ys : List X) → AllByRecursion P xs → AllByRecursion P ys → AllByRecursion P (xs ++ ys)
+  all_append P [] ys h k = k
+  all_append P (x ∷ xs) ys h k = (h.0, all_append P xs ys h.1 k)
+
+  pub all_drop : (P : X → Type 0) (n : ℕ) (xs : List X) → AllByRecursion P xs → AllByRecursion P (drop n xs)
+  all_drop P zero xs h = h
+  all_drop P (suc n) [] h = tt
+  all_drop P (suc n) (x ∷ xs) h = all_drop P n xs h.1
+
+  -- what holds of each holds of the one at a place, and of one that is found
+  pub all_get : (P : X → Type 0) (xs : List X) (i : ℕ) (x : X) → AllByRecursion P xs → slice_get xs i ≡ Some x → P x
+  all_get P [] i x h is = absurd cc
+  all_get P (y ∷ ys) zero x h is = subst P (same_Some y x is) h.0
+  all_get P (y ∷ ys) (suc i) x h is = all_get P ys i x h.1 is
+
+  pub all_find : (P : X → Type 0) (test : X → Bool) (xs : List X) (x : X) → AllByRecursion P xs → find test xs ≡ Some x
+      → P x
+  all_find P test [] x h is = absurd cc
+  all_find P test (y ∷ ys) x h is =
+      elim (cases_Bool (test y)) [
+        | inl passes ↦ subst P (same_Some y x (rw passes at is)) h.0
+        | inr fails ↦ all_find P test ys x h.1 (rw fails at is)
+      ]
+
+  -- the element at a place of two lists in a row
+  pub get_front : (xs ys : List X) (i : ℕ) → i < length xs → slice_get (xs ++ ys) i ≡ slice_get xs i
+  get_front [] ys i less = absurd (omega (arith, less))
+  get_front (x ∷ xs) ys zero less = refl
+  get_front (x ∷ xs) ys (suc i) less = get_front xs ys i (omega (arith, less))
+
+  pub get_back : (xs ys : List X) (i : ℕ) → length xs ≤ i → slice_get (xs ++ ys) i ≡ slice_get ys (i - length xs)
+  get_back [] ys i most = ap (slice_get ys) (omega arith)
+  get_back (x ∷ xs) ys zero most = absurd (omega (arith, most))
+  get_back (x ∷ xs) ys (suc i) most = get_back xs ys i (omega (arith, most)) ∙ ap (slice_get ys) (omega arith)
+
+  -- beyond the last element there is none
+  pub get_beyond : (xs : List X) (i : ℕ) → length xs ≤ i → slice_get xs i ≡ None
+  get_beyond [] i most = refl
+  get_beyond (x ∷ xs) zero most = absurd (omega (arith, most))
+  get_beyond (x ∷ xs) (suc i) most = get_beyond xs i (omega (arith, most))
+
+  pub get_none : (xs : List X) (i : ℕ) → slice_get xs i ≡ None → length xs ≤ i
+  get_none [] i is = omega arith
+  get_none (x ∷ xs) zero is = absurd cc
+  get_none (x ∷ xs) (suc i) is = omega (arith, get_none xs i is)
+
+  pub get_some : (xs : List X) (i : ℕ) (x : X) → slice_get xs i ≡ Some x → i < length xs
+  get_some [] i x is = absurd cc
+  get_some (y ∷ ys) zero x is = omega arith
+  get_some (y ∷ ys) (suc i) x is = omega (arith, get_some ys i x is)
+
+  -- the list in the other order
+  pub get_reverse : (xs : List X) (i : ℕ) (d : X) → i < length xs
+      → slice_get (reverse xs) i ≡ Some (get_or xs (length xs - 1 - i) d)
+  get_reverse xs i d less =
+      slice_get-get_or (reverse xs) i d (omega (arith, less, length-reverse xs))
+      ∙ ap Some (get_or-reverse xs i d less)
