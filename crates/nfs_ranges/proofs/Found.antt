@@ -7,6 +7,7 @@ use Rattle.std.proofs.lemmas.Option.{same_Some}
 use Rattle.nfs_ranges.specs.Bytes.{has}
 use Rattle.nfs_ranges.specs.Merged.{IsBehind, IsMerged}
 use Rattle.nfs_ranges.specs.Modes.{is_same, modes_of}
+use Rattle.nfs_ranges.specs.Questions.{IsRunAt}
 use Rattle.nfs_ranges.specs.Splices.{IsFirstWith, IsLastWith}
 use Rattle.nfs_ranges.specs.declared.mode.Mode.{Mode}
 use Rattle.nfs_ranges.specs.declared.piece.Piece.{Piece}
@@ -239,4 +240,23 @@ last_end change ps h end =
       (λ p. is_same p.mode change.mode ≡ true → change.range.last < p.range.last
       → change.range.last + 1 < p.range.first)
       (λ p bound. λ alike. λ less. absurd (omega (arith, bound, less, end))) ps (bounded ps h),
+    )
+
+-- it is the whole run at the byte
+pub run_is : (byte : ℕ) (ps : List Piece) (p : Piece) (mode : Mode) → IsMerged ps → found_at byte ps ≡ Some p
+    → p.mode ≡ Some mode → p.range.last ≤ 2 ^ 64 - 1 → IsRunAt (modes_of ps) byte (Some (p.range, mode))
+run_is byte ps p mode h is held bound =
+    let inside = found_has byte ps p is in
+    let gives = found_mode byte ps p h is in
+    let here : modes_of ps byte ≡ p.mode = gives byte inside.0 inside.1 in
+    let edges = edged byte ps p h is in
+    (
+      here ∙ held,
+      (inside.0, (λ b low high. gives b low (omega (arith, high, inside.1)) ∙ sym here),
+      elim (cases_lt 0 p.range.first) [
+        | inl above ↦ inr (ap (is_same (modes_of ps (p.range.first - 1))) here ∙ edges.0 above)
+        | inr least ↦ inl (omega (arith, least))
+      ]),
+      (inside.1, bound, (λ b low high. gives b (omega (arith, low, inside.0)) high ∙ sym here),
+      inr (ap (is_same (modes_of ps (p.range.last + 1))) here ∙ edges.1)),
     )

@@ -8,3 +8,4 @@ pub mod Ended
 pub mod Found
 pub mod Cuts
 pub mod Spliced
+pub mod Conflicts

@@ -143,17 +143,7 @@ impl Ranges {
     pub fn first_conflict(&self, range: Range, mode: Mode) -> Option<u64>
         ensures { IsFirstConflict (modes_in self.now) range mode result }
     {
-        let mut place = self.runs.count_ended(range.first);
-        'walk: loop {
-            let run = self.runs.get(place)?;
-            if range.last < run.range.first {
-                return None;
-            }
-            if mode.conflicts_with(run.mode) {
-                return Some(run.range.first.max(range.first));
-            }
-            place += 1;
-        }
+        self.runs.first_conflict(range, mode)
     }
 
     /// The run that has the byte, with its mode, if the byte is held.

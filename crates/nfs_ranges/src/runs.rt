@@ -1,13 +1,15 @@
 ghost use Rattle.std.specs.Prelude.{◌≡◌, ◌≤◌, ◌+◌, ℕ, [], OnOk, find, length, slice_get, vec_len};
 ghost use Rattle.nfs_ranges.specs.Bytes.{has};
 ghost use Rattle.nfs_ranges.specs.Merged.{IsMerged, ended, in_order};
+ghost use Rattle.nfs_ranges.specs.Modes.{modes_of};
+ghost use Rattle.nfs_ranges.specs.Questions.{IsFirstConflict};
 ghost use Rattle.nfs_ranges.specs.Room.{HaveCapacityOf, IsRoomy};
 ghost use Rattle.nfs_ranges.specs.Splices.{spliced};
 ghost use Rattle.nfs_ranges.specs.declared.limits.TheConstants.{RUN_LIMIT};
 
-use crate::Piece;
 use crate::shifts::{push_some, shift};
 use crate::splice::Splice;
+use crate::{Mode, Piece, Range};
 use std::alloc::{AllocError, Global};
 
 /// Runs in order, as two lists with the place of the last change between them, so that a change at that place moves no
@@ -21,7 +23,8 @@ pub(crate) struct Runs {
 impl Runs {
     /// None, taking no memory.
     pub fn new(alloc: Global) -> Runs
-        ensures { in_order result ≡ [] }
+        ensures runs { in_order result ≡ [] }
+        ensures room { IsRoomy 0 result }
     {
         Runs {
             before: Vec::new(alloc),
@@ -81,6 +84,27 @@ impl Runs {
         if run.range.first <= byte { Some(run) } else { None }
     }
 
+    /// The first byte of the range that is held in a mode that refuses the one asked, if there is one.
+    pub fn first_conflict(&self, range: Range, asked: Mode) -> Option<u64>
+        requires few { length (in_order self.now) ≤ RUN_LIMIT }
+        requires merged { IsMerged (in_order self.now) }
+        ensures { IsFirstConflict (modes_of (in_order self.now)) range asked result }
+    {
+        let mut place = self.count_ended(range.first);
+        'walk: loop {
+            let Some(run) = self.get(place) else {
+                return None;
+            };
+            if range.last < run.range.first {
+                return None;
+            }
+            if asked.conflicts_with(run.mode) {
+                return Some(run.range.first.max(range.first));
+            }
+            place += 1;
+        }
+    }
+
     /// Makes room in both lists for three more than there are, so that a splice takes no memory.
     pub fn reserve(&mut self) -> Result<(), AllocError>
         requires few { length (in_order self.old) ≤ RUN_LIMIT }
@@ -100,7 +124,7 @@ impl Runs {
         requires end { splice.stop ≤ length (in_order self.old) }
         requires room { IsRoomy 3 self.old }
         ensures runs { in_order self.new ≡ spliced splice (in_order self.old) }
-        ensures room { HaveCapacityOf self.old self.new }
+        ensures room { (more : ℕ) → IsRoomy (3 + more) self.old → IsRoomy more self.new }
     {
         let count = self.len() - splice.stop;
         self.divide(splice.start);
