@@ -1,10 +1,11 @@
 -- What holds of each element of a list, and the element at a place.
-use Rattle.std.proofs.Common.{◌≡◌, ℕ, zero, suc, ◌+◌, ◌-◌, ◌<◌, ◌≤◌, true, List, [], ◌∷◌, ◌++◌, length, get_or, reverse, drop, Option, Some, None, inl, inr, refl, sym, ◌∙◌, ap, subst, arith}
+use Rattle.std.proofs.Common.{◌≡◌, ℕ, zero, suc, ◌+◌, ◌-◌, ◌<◌, ◌≤◌, true, List, [], ◌∷◌, ◌++◌, length, get_or, reverse, drop, take, Option, Some, None, inl, inr, refl, sym, ◌∙◌, ap, subst, arith}
 use Rattle.std.specs.Prelude.{find, slice_get, ⊤, Bool}
 use Rattle.std.specs.List.{AllByRecursion}
 use Rattle.std.proofs.lemmas.Bool.{cases_Bool}
 use Rattle.std.proofs.lemmas.Option.{same_Some, slice_get-get_or}
-use Rattle.std.proofs.lemmas.List.{get_or-reverse, length-reverse}
+use mathlib.Core.List.{reverse-cons}
+use Rattle.std.proofs.lemmas.List.{at_drop_more, get_or-reverse, length-reverse, same_from_push, take_more}
 
 module _ {X : Type 0} where
   pub all_weaken : (P Q : X → Type 0) → ((x : X) → P x → Q x) → (xs : List X) → AllByRecursion P xs → AllByRecursion Q xs
@@ -73,3 +74,15 @@ module _ {X : Type 0} where
   get_reverse xs i d less =
       slice_get-get_or (reverse xs) i d (omega (arith, less, length-reverse xs))
       ∙ ap Some (get_or-reverse xs i d less)
+
+  -- the last of the first elements goes over to the others, which stand in the other order
+  pub shifted : (xs ys : List X) (n : ℕ) (x : X) → n < length xs → take (n + 1) xs ≡ ys ++ x ∷ []
+      → (ys ≡ take n xs) × (reverse (drop n xs) ≡ reverse (drop (n + 1) xs) ++ x ∷ [])
+  shifted xs ys n x less is =
+      let same = same_from_push (take n xs) ys (get_or xs n x) x (sym (take_more xs n x less) ∙ is) in
+      (
+        sym same.0,
+        at_drop_more (λ zs. reverse zs) xs n x less
+        ∙ reverse-cons (get_or xs n x) (drop (n + 1) xs)
+        ∙ ap (λ y. reverse (drop (n + 1) xs) ++ y ∷ []) same.1,
+      )

@@ -9,3 +9,4 @@ pub mod Found
 pub mod Cuts
 pub mod Spliced
 pub mod Conflicts
+pub mod InOrder
