@@ -1,5 +1,5 @@
 -- The walk over merged runs from the first that may have bytes of a range.
-use Rattle.std.proofs.Common.{◌≡◌, ℕ, zero, suc, ◌+◌, ◌-◌, ◌<◌, ◌≤◌, true, false, if◌then◌else◌, List, [], ◌∷◌, ◌++◌, length, max, take, Option, Some, None, inl, inr, refl, sym, ◌∙◌, ap, subst, arith}
+use Rattle.std.proofs.Common.{◌≡◌, ℕ, zero, suc, ◌+◌, ◌<◌, ◌≤◌, true, false, if◌then◌else◌, List, [], ◌∷◌, ◌++◌, length, max, take, Option, Some, None, inl, inr, refl, sym, ◌∙◌, ap, subst, arith}
 use Rattle.std.specs.Prelude.{slice_get}
 use Rattle.std.specs.List.{AllByRecursion}
 use Rattle.std.proofs.lemmas.Bool.{cases_Bool, cases_lt}
@@ -71,8 +71,10 @@ take_before : (mode : Option Mode) (ps : List Piece) (i : ℕ) (p : Piece) (b : 
 take_before mode [] i p b h is below = absurd cc
 take_before mode (q ∷ qs) zero p b h is below =
     let one = ap (λ (r : Piece). r.range.first) (same_Some q p is) in
-    sym (mode_beyond mode (q ∷ qs) b (omega (arith, below, one),
-    all_weaken (IsBehind q) (λ r. b < r.range.first) (λ r k. omega (arith, k.0, below, one, q.range.ordered)) qs h.1))
+    sym (mode_beyond mode (q ∷ qs) b (
+      omega (arith, below, one),
+      all_weaken (IsBehind q) (λ r. b < r.range.first) (λ r k. omega (arith, k.0, below, one, q.range.ordered)) qs h.1,
+    ))
 take_before mode (q ∷ qs) (suc i) p b h is below =
     take_before (if has q.range b then q.mode else mode) qs i p b h.2 is below
 
@@ -91,8 +93,7 @@ pub first_at : (ps : List Piece) (range : Range) (asked : Mode) (place : ℕ) (p
     → IsFirstConflict (modes_of ps) range asked (Some first)
 first_at ps range asked place p first h is low within refused clear most =
     let ends = next_not_ended range.first ps place p h is low in
-    let gives = all_get (Gives ps) ps place p (gives_each ps h) is in
-    (
+    let gives = all_get (Gives ps) ps place p (gives_each ps h) is in (
       (omega (arith, most), omega (arith, most, within, range.ordered)),
       ap (conflicts asked) (gives first (omega (arith, most)) (omega (arith, most, ends, p.range.ordered))) ∙ refused,
       (λ b above below. elim (cases_lt b p.range.first) [

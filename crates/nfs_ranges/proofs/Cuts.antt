@@ -1,18 +1,18 @@
 -- What is left of merged runs before and behind a change.
-use Rattle.std.proofs.Common.{◌≡◌, ℕ, zero, suc, ◌+◌, ◌-◌, ◌^◌, ◌<◌, ◌≤◌, true, false, Bool, if◌then◌else◌, is_some, List, [], ◌∷◌, ◌++◌, length, take, drop, Option, Some, None, inl, inr, refl, sym, ◌∙◌, ap, subst, arith}
+use Rattle.std.proofs.Common.{◌≡◌, ℕ, suc, ◌+◌, ◌-◌, ◌^◌, ◌<◌, ◌≤◌, true, false, Bool, if◌then◌else◌, is_some, List, [], ◌∷◌, ◌++◌, take, drop, Option, Some, None, inl, inr, refl, sym, ◌∙◌, ap, subst, arith}
 use Rattle.std.specs.Prelude.{slice_get}
 use Rattle.std.specs.List.{AllByRecursion, cons_option}
-use Rattle.std.proofs.lemmas.Bool.{cases_Bool, cases_lt}
+use Rattle.std.proofs.lemmas.Bool.{cases_lt}
 use Rattle.nfs_ranges.specs.Bytes.{has}
 use Rattle.nfs_ranges.specs.Merged.{IsBehind, IsMerged, ended}
-use Rattle.nfs_ranges.specs.Modes.{is_same, mode_from, modes_of}
+use Rattle.nfs_ranges.specs.Modes.{is_same, mode_from}
 use Rattle.nfs_ranges.specs.Splices.{IsPartOf, IsRestBefore, IsRestBehind}
 use Rattle.nfs_ranges.specs.declared.mode.Mode.{Mode}
 use Rattle.nfs_ranges.specs.declared.piece.Piece.{Piece}
 use Rattle.nfs_ranges.proofs.Changes.{has_in, hasnt_before, hasnt_beyond}
 use Rattle.nfs_ranges.proofs.Elements.{all_weaken}
 use Rattle.nfs_ranges.proofs.Ended.{ended_first, ended_more}
-use Rattle.nfs_ranges.proofs.Merged.{mode_beyond, mode_passed}
+use Rattle.nfs_ranges.proofs.Merged.{mode_beyond}
 
 -- the runs before a byte, and what the run that has it has before it
 abbrev pub front : ℕ → List Piece → Option Piece → List Piece
@@ -148,10 +148,16 @@ front_merged e bound =
     ((λ q k. tt), tt)
     (λ p ps fs h less all. ((λ q k. (k.0, all.0 q k.1)), (h.0, all.0 p h.1, all.1)))
     (λ p ps h above. ((λ q k. tt), tt))
-    (λ p ps x h low above is. ((λ q k.
-    ((omega (arith, k.0.0, is.0),
-    (λ touch. ap (is_same q.mode) is.2 ∙ k.0.1 (omega (arith, touch, is.0)))), tt)),
-    ((ap is_some is.2 ∙ h.0.0, omega (arith, is.1, bound, low)), tt, tt)))
+    (λ p ps x h low above is. (
+      (λ q k. (
+        (
+          omega (arith, k.0.0, is.0),
+          (λ touch. ap (is_same q.mode) is.2 ∙ k.0.1 (omega (arith, touch, is.0))),
+        ),
+        tt,
+      )),
+      ((ap is_some is.2 ∙ h.0.0, omega (arith, is.1, bound, low)), tt, tt),
+    ))
     ps left h is).1
 
 -- a test that can't be passed isn't
@@ -169,11 +175,17 @@ front_apart e mode =
     (λ ps fs. AllByRecursion (λ p. is_same p.mode mode ≡ true → p.range.first < e → p.range.last + 1 < e) ps
     → AllByRecursion (λ x. x.range.last + 1 ≡ e → is_same x.mode mode ≡ false) fs)
     (λ k. tt)
-    (λ p ps fs h less all. λ k. ((λ touch. differs (is_same p.mode mode)
-    (λ same. omega (arith, touch, k.0 same (omega (arith, less, p.range.ordered))))), all k.1))
+    (λ p ps fs h less all. λ k. (
+      (λ touch. differs (is_same p.mode mode)
+          (λ same. omega (arith, touch, k.0 same (omega (arith, less, p.range.ordered))))),
+      all k.1,
+    ))
     (λ p ps h above. λ k. tt)
-    (λ p ps x h low above is. λ k. ((λ touch. ap (λ m. is_same m mode) is.2 ∙ differs (is_same p.mode mode)
-    (λ same. omega (arith, above, k.0 same low))), tt))
+    (λ p ps x h low above is. λ k. (
+      (λ touch. ap (λ m. is_same m mode) is.2 ∙ differs (is_same p.mode mode)
+          (λ same. omega (arith, above, k.0 same low))),
+      tt,
+    ))
 
 -- Behind the byte, what is behind it means what the runs mean.
 pub back_mode : (byte b : ℕ) → byte < b → (ps : List Piece) (right : Option Piece) → IsMerged ps
@@ -203,12 +215,15 @@ pub back_merged : (byte : ℕ) → (ps : List Piece) (right : Option Piece) → 
     → IsRestBehind byte (slice_get ps (ended (byte + 1) ps)) right → IsMerged (back byte ps right)
 back_merged byte =
     of_back byte (λ ps bs. IsMerged bs) tt (λ p ps bs h low all. all) (λ p ps h low. h)
-    (λ p ps x h low past is.
-    ((ap is_some is.2 ∙ h.0.0, omega (arith, is.1, h.0.1)),
-    all_weaken (IsBehind p) (IsBehind x)
-    (λ q k. (omega (arith, k.0, is.1),
-    (λ touch. ap (λ m. is_same m q.mode) is.2 ∙ k.1 (omega (arith, touch, is.1))))) ps h.1,
-    h.2))
+    (λ p ps x h low past is. (
+      (ap is_some is.2 ∙ h.0.0, omega (arith, is.1, h.0.1)),
+      all_weaken (IsBehind p) (IsBehind x)
+          (λ q k. (
+            omega (arith, k.0, is.1),
+            (λ touch. ap (λ m. is_same m q.mode) is.2 ∙ k.1 (omega (arith, touch, is.1))),
+          )) ps h.1,
+      h.2,
+    ))
 
 -- where no run of a mode goes on from the byte, none of it does
 pub back_apart : (byte : ℕ) (mode : Option Mode) → (ps : List Piece) (right : Option Piece) → IsMerged ps
@@ -221,11 +236,16 @@ back_apart byte mode =
     → AllByRecursion (λ x. byte + 1 ≡ x.range.first → is_same x.mode mode ≡ false) bs)
     (λ k. tt)
     (λ p ps bs h low all. λ k. all k.1)
-    (λ p ps h low. λ k. ((λ touch. differs (is_same p.mode mode)
-    (λ same. omega (arith, touch, k.0 same (omega (arith, low, p.range.ordered))))),
-    beyond p ps (omega (arith, low, p.range.ordered)) h.1))
-    (λ p ps x h low past is. λ k. ((λ touch. ap (λ m. is_same m mode) is.2 ∙ differs (is_same p.mode mode)
-    (λ same. omega (arith, low, k.0 same past))), beyond p ps past h.1))
+    (λ p ps h low. λ k. (
+      (λ touch. differs (is_same p.mode mode)
+          (λ same. omega (arith, touch, k.0 same (omega (arith, low, p.range.ordered))))),
+      beyond p ps (omega (arith, low, p.range.ordered)) h.1,
+    ))
+    (λ p ps x h low past is. λ k. (
+      (λ touch. ap (λ m. is_same m mode) is.2 ∙ differs (is_same p.mode mode)
+          (λ same. omega (arith, low, k.0 same past))),
+      beyond p ps past h.1,
+    ))
   where
     beyond : (p : Piece) (ps : List Piece) → byte < p.range.last → AllByRecursion (IsBehind p) ps
         → AllByRecursion (λ x. byte + 1 ≡ x.range.first → is_same x.mode mode ≡ false) ps

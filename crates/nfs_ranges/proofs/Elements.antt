@@ -1,11 +1,11 @@
 -- What holds of each element of a list, and the element at a place.
-use Rattle.std.proofs.Common.{◌≡◌, ℕ, zero, suc, ◌+◌, ◌-◌, ◌<◌, ◌≤◌, true, List, [], ◌∷◌, ◌++◌, length, get_or, reverse, drop, take, Option, Some, None, inl, inr, refl, sym, ◌∙◌, ap, subst, arith}
-use Rattle.std.specs.Prelude.{find, slice_get, ⊤, Bool}
+use Rattle.std.proofs.Common.{◌≡◌, ℕ, zero, suc, ◌+◌, ◌<◌, ◌≤◌, List, [], ◌∷◌, ◌++◌, length, get_or, reverse, drop, take, Some, None, inl, inr, sym, ◌∙◌, ap, subst, arith}
+use Rattle.std.specs.Prelude.{find, slice_get, Bool}
 use Rattle.std.specs.List.{AllByRecursion}
 use Rattle.std.proofs.lemmas.Bool.{cases_Bool}
-use Rattle.std.proofs.lemmas.Option.{same_Some, slice_get-get_or}
+use Rattle.std.proofs.lemmas.Option.{same_Some}
 use mathlib.Core.List.{reverse-cons}
-use Rattle.std.proofs.lemmas.List.{at_drop_more, get_or-reverse, length-reverse, same_from_push, take_more}
+use Rattle.std.proofs.lemmas.List.{at_drop_more, same_from_push, take_more}
 
 module _ {X : Type 0} where
   pub all_weaken : (P Q : X → Type 0) → ((x : X) → P x → Q x) → (xs : List X) → AllByRecursion P xs → AllByRecursion Q xs
@@ -20,11 +20,6 @@ module _ {X : Type 0} where
   pub all_append : (P : X → Type 0) (xs ys : List X) → AllByRecursion P xs → AllByRecursion P ys → AllByRecursion P (xs ++ ys)
   all_append P [] ys h k = k
   all_append P (x ∷ xs) ys h k = (h.0, all_append P xs ys h.1 k)
-
-  pub all_drop : (P : X → Type 0) (n : ℕ) (xs : List X) → AllByRecursion P xs → AllByRecursion P (drop n xs)
-  all_drop P zero xs h = h
-  all_drop P (suc n) [] h = tt
-  all_drop P (suc n) (x ∷ xs) h = all_drop P n xs h.1
 
   -- what holds of each holds of the one at a place, and of one that is found
   pub all_get : (P : X → Type 0) (xs : List X) (i : ℕ) (x : X) → AllByRecursion P xs → slice_get xs i ≡ Some x → P x
@@ -41,23 +36,7 @@ module _ {X : Type 0} where
         | inr fails ↦ all_find P test ys x h.1 (rw fails at is)
       ]
 
-  -- the element at a place of two lists in a row
-  pub get_front : (xs ys : List X) (i : ℕ) → i < length xs → slice_get (xs ++ ys) i ≡ slice_get xs i
-  get_front [] ys i less = absurd (omega (arith, less))
-  get_front (x ∷ xs) ys zero less = refl
-  get_front (x ∷ xs) ys (suc i) less = get_front xs ys i (omega (arith, less))
-
-  pub get_back : (xs ys : List X) (i : ℕ) → length xs ≤ i → slice_get (xs ++ ys) i ≡ slice_get ys (i - length xs)
-  get_back [] ys i most = ap (slice_get ys) (omega arith)
-  get_back (x ∷ xs) ys zero most = absurd (omega (arith, most))
-  get_back (x ∷ xs) ys (suc i) most = get_back xs ys i (omega (arith, most)) ∙ ap (slice_get ys) (omega arith)
-
-  -- beyond the last element there is none
-  pub get_beyond : (xs : List X) (i : ℕ) → length xs ≤ i → slice_get xs i ≡ None
-  get_beyond [] i most = refl
-  get_beyond (x ∷ xs) zero most = absurd (omega (arith, most))
-  get_beyond (x ∷ xs) (suc i) most = get_beyond xs i (omega (arith, most))
-
+  -- beyond the last element there is none, and before it there is one
   pub get_none : (xs : List X) (i : ℕ) → slice_get xs i ≡ None → length xs ≤ i
   get_none [] i is = omega arith
   get_none (x ∷ xs) zero is = absurd cc
@@ -68,21 +47,13 @@ module _ {X : Type 0} where
   get_some (y ∷ ys) zero x is = omega arith
   get_some (y ∷ ys) (suc i) x is = omega (arith, get_some ys i x is)
 
-  -- the list in the other order
-  pub get_reverse : (xs : List X) (i : ℕ) (d : X) → i < length xs
-      → slice_get (reverse xs) i ≡ Some (get_or xs (length xs - 1 - i) d)
-  get_reverse xs i d less =
-      slice_get-get_or (reverse xs) i d (omega (arith, less, length-reverse xs))
-      ∙ ap Some (get_or-reverse xs i d less)
-
   -- the last of the first elements goes over to the others, which stand in the other order
   pub shifted : (xs ys : List X) (n : ℕ) (x : X) → n < length xs → take (n + 1) xs ≡ ys ++ x ∷ []
       → (ys ≡ take n xs) × (reverse (drop n xs) ≡ reverse (drop (n + 1) xs) ++ x ∷ [])
   shifted xs ys n x less is =
-      let same = same_from_push (take n xs) ys (get_or xs n x) x (sym (take_more xs n x less) ∙ is) in
-      (
+      let same = same_from_push (take n xs) ys (get_or xs n x) x (sym (take_more xs n x less) ∙ is) in (
         sym same.0,
         at_drop_more (λ zs. reverse zs) xs n x less
-        ∙ reverse-cons (get_or xs n x) (drop (n + 1) xs)
-        ∙ ap (λ y. reverse (drop (n + 1) xs) ++ y ∷ []) same.1,
+            ∙ reverse-cons (get_or xs n x) (drop (n + 1) xs)
+            ∙ ap (λ y. reverse (drop (n + 1) xs) ++ y ∷ []) same.1,
       )

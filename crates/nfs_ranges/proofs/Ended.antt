@@ -1,17 +1,14 @@
 -- How many merged runs end before a byte: those are the first, and the next one is where the byte may be.
-use Rattle.std.proofs.Common.{◌≡◌, ℕ, zero, suc, ◌+◌, ◌-◌, ◌^◌, ◌<◌, ◌≤◌, true, false, nat_le, if◌then◌else◌, List, [], ◌∷◌, length, take, Option, Some, None, inl, inr, refl, sym, ◌∙◌, ap, subst, arith}
-use Rattle.std.specs.Prelude.{filter, find, slice_get}
+use Rattle.std.proofs.Common.{◌≡◌, ℕ, zero, suc, ◌<◌, ◌≤◌, nat_le, if◌then◌else◌, List, [], ◌∷◌, length, Option, Some, None, inl, inr, refl, sym, ◌∙◌, ap, arith}
+use Rattle.std.specs.Prelude.{find, slice_get}
 use Rattle.std.specs.List.{AllByRecursion}
 use Rattle.std.proofs.lemmas.Bool.{cases_lt, le-leb, le-ltb, lt-leb, lt-ltb}
 use Rattle.std.proofs.lemmas.Option.{same_Some}
 use Rattle.nfs_ranges.specs.Bytes.{has}
 use Rattle.nfs_ranges.specs.Merged.{IsBehind, IsMerged, ended}
-use Rattle.nfs_ranges.specs.Modes.{mode_from, modes_of}
-use Rattle.nfs_ranges.specs.declared.mode.Mode.{Mode}
 use Rattle.nfs_ranges.specs.declared.piece.Piece.{Piece}
 use Rattle.nfs_ranges.proofs.Changes.{has_in, hasnt_before, hasnt_beyond}
 use Rattle.nfs_ranges.proofs.Elements.{all_get, all_weaken}
-use Rattle.nfs_ranges.proofs.Merged.{mode_beyond}
 
 -- one run more
 pub ended_more : (e : ℕ) (p : Piece) (ps : List Piece) → p.range.last < e → ended e (p ∷ ps) ≡ suc (ended e ps)

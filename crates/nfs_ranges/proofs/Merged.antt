@@ -1,10 +1,10 @@
 -- What merged runs mean: each byte of a run has its mode, others have none, and a run begins with each of them.
-use Rattle.std.proofs.Common.{◌≡◌, ℕ, zero, suc, ◌+◌, ◌-◌, ◌^◌, ◌<◌, ◌≤◌, ◌⊎◌, Bool, true, false, ◌&&◌, ◌||◌, not, ◌==◌, is_some, if◌then◌else◌, List, [], ◌∷◌, ◌++◌, length, Option, Some, None, inl, inr, refl, sym, ◌∙◌, ap, subst, arith}
+use Rattle.std.proofs.Common.{◌≡◌, ℕ, zero, suc, ◌+◌, ◌-◌, ◌^◌, ◌<◌, ◌≤◌, ◌⊎◌, Bool, true, false, ◌&&◌, ◌||◌, not, ◌==◌, is_some, if◌then◌else◌, List, [], ◌∷◌, ◌++◌, length, Option, Some, None, inl, inr, refl, sym, ◌∙◌, ap, arith}
 use Rattle.std.specs.Prelude.{IsTrue}
 use Rattle.std.specs.List.{AllByRecursion}
 use Rattle.std.proofs.lemmas.Bool.{cases_lt, eq-eqb, or_right}
 use Rattle.nfs_ranges.specs.Bytes.{has}
-use Rattle.nfs_ranges.specs.Merged.{IsBehind, IsHeld, IsMerged}
+use Rattle.nfs_ranges.specs.Merged.{IsBehind, IsMerged}
 use Rattle.nfs_ranges.specs.Modes.{is_same, mode_from, modes_of}
 use Rattle.nfs_ranges.specs.Runs.{begins, count_below, runs}
 use Rattle.nfs_ranges.specs.declared.mode.Mode.{Mode}
@@ -63,9 +63,10 @@ Gives ps p = (b : ℕ) → p.range.first ≤ b → b ≤ p.range.last → modes_
 gives_more : (p : Piece) (ps qs : List Piece) → AllByRecursion (IsBehind p) qs → AllByRecursion (Gives ps) qs
     → AllByRecursion (Gives (p ∷ ps)) qs
 gives_more p ps [] behind h = tt
-gives_more p ps (q ∷ qs) behind h =
-    ((λ b low high. mode_past p ps b (omega (arith, behind.0.0, low)) ∙ h.0 b low high),
-    gives_more p ps qs behind.1 h.1)
+gives_more p ps (q ∷ qs) behind h = (
+  (λ b low high. mode_past p ps b (omega (arith, behind.0.0, low)) ∙ h.0 b low high),
+  gives_more p ps qs behind.1 h.1,
+)
 
 pub gives_each : (ps : List Piece) → IsMerged ps → AllByRecursion (Gives ps) ps
 gives_each [] h = tt
@@ -198,8 +199,14 @@ count_other more test only (suc n) less here there other =
           let is : only ≡ n = omega (arith, last, less) in
           let one = ap {B = ℕ} (λ t. if t then 1 else 0) (sym (ap more is) ∙ here) in
           let none = ap {B = ℕ} (λ t. if t then 1 else 0) (sym (ap test is) ∙ there) in
-          omega (arith, one, none, count_next more n, count_next test n,
-          count_agree test more n (λ b below. other b (λ e. omega (arith, e, below, is))))
+          omega (
+            arith,
+            one,
+            none,
+            count_next more n,
+            count_next test n,
+            count_agree test more n (λ b below. other b (λ e. omega (arith, e, below, is))),
+          )
     ]
 
 -- There are as many runs as merged pieces.

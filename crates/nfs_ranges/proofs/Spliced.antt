@@ -1,15 +1,13 @@
 -- What stands after a splice of merged runs is what the change makes of them, and merged.
-use Rattle.std.proofs.Common.{◌≡◌, ℕ, ◌+◌, ◌-◌, ◌^◌, ◌<◌, ◌≤◌, true, false, if◌then◌else◌, List, [], ◌∷◌, ◌++◌, length, take, drop, Option, Some, None, inl, inr, refl, sym, ◌∙◌, ap, subst, append_assoc, append-nil, arith}
+use Rattle.std.proofs.Common.{◌≡◌, ℕ, ◌+◌, ◌-◌, ◌^◌, ◌<◌, ◌≤◌, false, if◌then◌else◌, List, [], ◌∷◌, ◌++◌, length, take, drop, Option, Some, None, inl, inr, refl, sym, ◌∙◌, ap, subst, append_assoc, append-nil, arith}
 use Rattle.std.specs.Prelude.{slice_get, is_some, IfSome}
 use Rattle.std.specs.List.{AllByRecursion, cons_option}
 use Rattle.std.proofs.lemmas.Bool.{cases_lt}
-use Rattle.nfs_ranges.specs.Bytes.{has}
 use Rattle.nfs_ranges.specs.Merged.{IsBehind, IsMerged, ended}
 use Rattle.nfs_ranges.specs.Modes.{is_same, mode_from, modes_of, with_change}
-use Rattle.nfs_ranges.specs.Splices.{IsFirstWith, IsLastWith, IsRestBefore, IsRestBehind, IsRunOver, IsSpliceOf, spliced}
+use Rattle.nfs_ranges.specs.Splices.{IsFirstWith, IsLastWith, IsRestBefore, IsRestBehind, IsRunOver, IsSpliceOf}
 use Rattle.nfs_ranges.specs.declared.mode.Mode.{Mode}
 use Rattle.nfs_ranges.specs.declared.piece.Piece.{Piece}
-use Rattle.nfs_ranges.specs.declared.splice.Splice.{Splice}
 use Rattle.nfs_ranges.proofs.Changes.{has_in, hasnt_before, hasnt_beyond}
 use Rattle.nfs_ranges.proofs.Cuts.{back, back_apart, back_begins, back_merged, back_mode, front, front_apart, front_ends, front_merged, front_mode, stop_of}
 use Rattle.nfs_ranges.proofs.Elements.{all_both, all_weaken}
@@ -126,25 +124,31 @@ module _ (change : Piece) (ps : List Piece) (first last : ℕ) (left run right :
   run_merged (Some r) is = (
     (ap is_some is.1.2 ∙ is.0, omega (arith, is.1.1, bound)),
     all_both (λ x. last < x.range.first) (λ x. last + 1 ≡ x.range.first → is_same x.mode change.mode ≡ false)
-    (IsBehind r)
-    (λ x k apart. (omega (arith, k, is.1.1),
-    (λ touch. same_sym r.mode x.mode ∙ ap (is_same x.mode) is.1.2 ∙ apart (omega (arith, touch, is.1.1)))))
-    behind begins (back_apart last change.mode ps right h is_right high.2),
+        (IsBehind r)
+        (λ x k apart. (
+          omega (arith, k, is.1.1),
+          (λ touch. same_sym r.mode x.mode ∙ ap (is_same x.mode) is.1.2 ∙ apart (omega (arith, touch, is.1.1))),
+        ))
+        behind begins (back_apart last change.mode ps right h is_right high.2),
     back_merged last ps right h is_right,
   )
 
   ahead_of : (x : Piece) → x.range.last < first → AllByRecursion (IsBehind x) behind
   ahead_of x ends =
       all_weaken (λ y. last < y.range.first) (IsBehind x)
-      (λ y k. (omega (arith, ends, k, low.0, high.0, change.range.ordered),
-      (λ touch. absurd (omega (arith, touch, ends, k, low.0, high.0, change.range.ordered))))) behind begins
+      (λ y k. (
+        omega (arith, ends, k, low.0, high.0, change.range.ordered),
+        (λ touch. absurd (omega (arith, touch, ends, k, low.0, high.0, change.range.ordered))),
+      )) behind begins
 
   before_run : (r : Option Piece) → IsRunOver change first last r → (x : Piece) → x.range.last < first
       → (x.range.last + 1 ≡ first → is_same x.mode change.mode ≡ false) → AllByRecursion (IsBehind x) (cons_option r behind)
   before_run None is x ends apart = ahead_of x ends
   before_run (Some r) is x ends apart = (
-    (omega (arith, ends, is.1.0),
-    (λ touch. ap (is_same x.mode) is.1.2 ∙ apart (omega (arith, touch, is.1.0)))),
+    (
+      omega (arith, ends, is.1.0),
+      (λ touch. ap (is_same x.mode) is.1.2 ∙ apart (omega (arith, touch, is.1.0))),
+    ),
     ahead_of x ends,
   )
 
@@ -169,14 +173,13 @@ module _ (change : Piece) (ps : List Piece) (first last : ℕ) (left run right :
       some_stops (Some p) at is = omega (arith, get_some ps (ended (last + 1) ps) p at)
 
   pub is_splice : (start stop : ℕ) → start ≡ ended first ps → stop ≡ stop_of (ended (last + 1) ps) right
-      → IsSpliceOf change ps (record { start = start; left = left; run = run; right = right; stop = stop; })
+      → IsSpliceOf change ps (record { start = start; left = left; run = run; right = right; stop = stop })
   is_splice start stop is_start is_stop =
       let list : take start ps ++ cons_option left (cons_option run (cons_option right (drop stop ps))) ≡ after =
       joined (take start ps) left (cons_option run (cons_option right (drop stop ps)))
       ∙ ap (λ n. (take n ps ++ cons_option left []) ++ cons_option run (cons_option right (drop stop ps))) is_start
       ∙ ap (λ n. before ++ cons_option run (cons_option right (drop n ps))) is_stop in
-      let up = ended_up first (last + 1) ps (omega (arith, low.0, high.0, change.range.ordered)) in
-      (
+      let up = ended_up first (last + 1) ps (omega (arith, low.0, high.0, change.range.ordered)) in (
         omega (arith, is_start, is_stop, up),
         omega (arith, is_stop, stops right is_right),
         ap modes_of list ∙ (λ i. λ b. after_mode b i),

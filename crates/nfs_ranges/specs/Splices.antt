@@ -3,7 +3,6 @@ use Rattle.std.specs.Prelude.{◌≡◌, ℕ, ◌+◌, ◌-◌, ◌<◌, ◌≤�
 use Rattle.std.specs.List.{AllByRecursion, cons_option}
 use Rattle.nfs_ranges.specs.Merged.{IsMerged}
 use Rattle.nfs_ranges.specs.Modes.{is_same, modes_of, with_change}
-use Rattle.nfs_ranges.specs.declared.mode.Mode.{Mode}
 use Rattle.nfs_ranges.specs.declared.piece.Piece.{Piece}
 use Rattle.nfs_ranges.specs.declared.splice.Splice.{Splice}
 

@@ -81,7 +81,11 @@ impl Runs {
         ensures { result ≡ find (λ p. has p.range byte) (in_order self.now) }
     {
         let run = self.get(self.count_ended(byte))?;
-        if run.range.first <= byte { Some(run) } else { None }
+        if run.range.first <= byte {
+            Some(run)
+        } else {
+            None
+        }
     }
 
     /// The first byte of the range that is held in a mode that refuses the one asked, if there is one.

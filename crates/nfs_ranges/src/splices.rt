@@ -22,7 +22,13 @@ pub(crate) fn splice_of(runs: &Runs, change: Piece) -> Splice
     let run = run_over(change, first, last);
     let right = rest_behind(runs.get(next), last);
     let stop = next + one_if(right.is_some());
-    Splice { start, left, run, right, stop }
+    Splice {
+        start,
+        left,
+        run,
+        right,
+        stop,
+    }
 }
 
 // Where the run of the change begins: with one of its mode that touches it, or has its first byte, or where it does.
@@ -76,7 +82,10 @@ fn run_over(change: Piece, first: u64, last: u64) -> Option<Piece>
     ensures { IsRunOver change first last result }
 {
     let mode = change.mode?;
-    Some(Piece { range: Range { first, last }, mode: Some(mode) })
+    Some(Piece {
+        range: Range { first, last },
+        mode: Some(mode),
+    })
 }
 
 // What the run has before the end.
@@ -87,8 +96,14 @@ fn rest_before(run: Option<Piece>, end: u64) -> Option<Piece>
     if end <= run.range.first {
         return None;
     }
-    let range = Range { first: run.range.first, last: end - 1 };
-    Some(Piece { range, mode: run.mode })
+    let range = Range {
+        first: run.range.first,
+        last: end - 1,
+    };
+    Some(Piece {
+        range,
+        mode: run.mode,
+    })
 }
 
 // What the run, which ends behind the byte, has there.
@@ -100,6 +115,12 @@ fn rest_behind(run: Option<Piece>, byte: u64) -> Option<Piece>
     if byte < run.range.first {
         return None;
     }
-    let range = Range { first: byte + 1, last: run.range.last };
-    Some(Piece { range, mode: run.mode })
+    let range = Range {
+        first: byte + 1,
+        last: run.range.last,
+    };
+    Some(Piece {
+        range,
+        mode: run.mode,
+    })
 }

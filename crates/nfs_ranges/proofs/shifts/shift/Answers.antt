@@ -1,5 +1,4 @@
-use Rattle.std.proofs.Common.{◌≡◌, ◌+◌, ◌-◌, ◌<◌, ◌++◌, [], ◌∷◌, List, length, reverse, take, drop, ap, sym, ◌∙◌, append_assoc, vec_len, arith}
-use Rattle.nfs_ranges.specs.declared.piece.Piece.{Piece}
+use Rattle.std.proofs.Common.{◌≡◌, ◌+◌, ◌-◌, ◌++◌, [], ◌∷◌, reverse, take, drop, ap, sym, ◌∙◌, append_assoc, vec_len, arith}
 use Rattle.nfs_ranges.proofs.Elements.{shifted}
 use Rattle.nfs_ranges.proofs.shifts.shift.Goals as goal
 
@@ -21,8 +20,12 @@ loop-preserved c =
           ∙ append_assoc c.args.to.now.items (reverse (drop (vec_len c.args.from.now - c.loop.counter) xs)) (c.in-Some.run' ∷ [])
           ∙ ap (λ k. c.args.to.now.items ++ (reverse (drop k xs) ++ c.in-Some.run' ∷ [])) (sym up)
           ∙ ap (λ zs. c.args.to.now.items ++ zs) (sym moved.1);
-      capacity = (c.pop.ensures.capacity ∙ c.loop.invariant.capacity.0,
-          c.push_reserved.ensures.capacity ∙ c.loop.invariant.capacity.1);
-      lengths = (omega (arith, c.in-Some.ensures.len, c.loop.invariant.lengths.0),
-          omega (arith, c.push_reserved.ensures.len, c.loop.invariant.lengths.1));
+      capacity = (
+        c.pop.ensures.capacity ∙ c.loop.invariant.capacity.0,
+        c.push_reserved.ensures.capacity ∙ c.loop.invariant.capacity.1,
+      );
+      lengths = (
+        omega (arith, c.in-Some.ensures.len, c.loop.invariant.lengths.0),
+        omega (arith, c.push_reserved.ensures.len, c.loop.invariant.lengths.1),
+      );
     }

@@ -1,4 +1,4 @@
-use Rattle.std.proofs.Common.{◌≡◌, true, false, Some, None, sym, ◌∙◌, ap, arith}
+use Rattle.std.proofs.Common.{◌≡◌, Some, None, sym, ◌∙◌, ap}
 use Rattle.std.proofs.lemmas.Option.{same_Some}
 use Rattle.nfs_ranges.specs.Merged.{in_order}
 use Rattle.nfs_ranges.specs.Modes.{is_same}
@@ -8,7 +8,7 @@ use Rattle.nfs_ranges.proofs.splices.last_with.Goals as goal
 
 pub returns-in-Some : goal.returns-in-Some
 returns-in-Some c =
-    last_alike c.args.change (in_order c.args.runs.now) c.in-Some.run' c.requires.merged 
+    last_alike c.args.change (in_order c.args.runs.now) c.in-Some.run' c.requires.merged
     (sym c.find.ensures ∙ c.in-Some.is) (sym c.are_alike.ensures ∙ c.if-are_alike.true)
 
 pub returns-in_default : goal.returns-in_default

@@ -1,4 +1,4 @@
-use Rattle.std.proofs.Common.{◌≡◌, ◌+◌, ◌∙◌, ap, sym, subst, if◌then◌else◌, ℕ, Option, arith}
+use Rattle.std.proofs.Common.{◌+◌, ◌∙◌, ap, subst, if◌then◌else◌, Option, arith}
 use Rattle.std.specs.Prelude.{slice_get}
 use Rattle.nfs_ranges.specs.Merged.{ended, in_order}
 use Rattle.nfs_ranges.specs.Splices.{IsRestBefore, IsRestBehind, IsSpliceOf}

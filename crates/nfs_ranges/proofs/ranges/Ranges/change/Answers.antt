@@ -17,12 +17,11 @@ merged c = subst IsMerged (sym c.splice.ensures.runs) c.splice_of-splice.ensures
 pub invariant_of-self : goal.invariant_of-self
 invariant_of-self c =
     let count = sym (ap runs (changed c)) ∙ runs_are (in_order c.splice.new.self) (merged c) in
-    let some = ap (λ (held : RoomyRanges). held.room) c.self.view_is in
-    (
+    let some = ap (λ (held : RoomyRanges). held.room) c.self.view_is in (
       merged c,
       omega (arith, count, c.requires.place),
       c.splice.ensures.room (3 * (c.self.inside.room - 1))
-      (omega (arith, c.self.invariant.2.0, some, c.requires.room), omega (arith, c.self.invariant.2.1, some, c.requires.room)),
+          (omega (arith, c.self.invariant.2.0, some, c.requires.room), omega (arith, c.self.invariant.2.1, some, c.requires.room)),
     )
 
 pub returns : goal.returns

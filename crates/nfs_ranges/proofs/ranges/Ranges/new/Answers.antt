@@ -1,4 +1,4 @@
-use Rattle.std.proofs.Common.{◌≡◌, sym, ap, subst, length, arith}
+use Rattle.std.proofs.Common.{sym, ap, subst, length, arith}
 use Rattle.nfs_ranges.specs.Merged.{IsMerged}
 use Rattle.nfs_ranges.proofs.ranges.Ranges.new.Goals as goal
 

@@ -1,4 +1,4 @@
-use Rattle.std.proofs.Common.{◌≡◌, Option, Some, None, sym, ◌∙◌, ap, subst, arith}
+use Rattle.std.proofs.Common.{Option, Some, sym, ◌∙◌, ap, subst, arith}
 use Rattle.nfs_ranges.specs.Merged.{in_order}
 use Rattle.nfs_ranges.specs.Questions.{IsRunAt}
 use Rattle.nfs_ranges.specs.RoomyRanges.{RoomyRanges, modes_in}

@@ -1,4 +1,4 @@
-use Rattle.std.proofs.Common.{◌≡◌, ◌+◌, ◌-◌, ◌/◌, sym, ◌∙◌, arith}
+use Rattle.std.proofs.Common.{◌+◌, ◌-◌, ◌/◌, sym, ◌∙◌, arith}
 use Rattle.nfs_ranges.specs.Merged.{in_order}
 use Rattle.nfs_ranges.proofs.Elements.{get_none}
 use Rattle.nfs_ranges.proofs.Ended.{ended_length, get_ended, get_not_ended}

@@ -1,4 +1,4 @@
-use Rattle.std.proofs.Common.{◌≡◌, ◌-◌, ◌++◌, ◌∙◌, ap, ap₂, reverse, vec_len, List}
+use Rattle.std.proofs.Common.{◌-◌, ◌++◌, ◌∙◌, ap₂, reverse, vec_len, List}
 use Rattle.nfs_ranges.specs.declared.piece.Piece.{Piece}
 use Rattle.nfs_ranges.proofs.InOrder.{moved_back, moved_on}
 use Rattle.nfs_ranges.proofs.runs.Runs.divide.Goals as goal

@@ -1,4 +1,4 @@
-use Rattle.std.proofs.Common.{◌≡◌, ◌∙◌, sym, arith}
+use Rattle.std.proofs.Common.{◌∙◌, sym, arith}
 use Rattle.nfs_ranges.specs.Merged.{in_order}
 use Rattle.nfs_ranges.proofs.Conflicts.{clear_all, clear_before, clear_beyond, clear_more, first_at}
 use Rattle.nfs_ranges.proofs.Elements.{get_none, get_some}

@@ -1,4 +1,4 @@
-use Rattle.std.proofs.Common.{◌≡◌, ℕ, ◌-◌, ◌+◌, ◌≤◌, false, take, length}
+use Rattle.std.proofs.Common.{◌≡◌, ℕ, ◌-◌, ◌≤◌, false, take, length}
 use Rattle.nfs_ranges.specs.Merged.{ended, in_order}
 use Rattle.nfs_ranges.specs.Modes.{conflicts, modes_of}
 use Rattle.nfs_ranges.proofs.runs.Runs.first_conflict.Given as goal

@@ -1,4 +1,4 @@
-use Rattle.std.proofs.Common.{◌≡◌, ◌-◌, ◌++◌, ◌∙◌, sym, ap, ap₂, reverse, take, drop, length, vec_len, List, arith}
+use Rattle.std.proofs.Common.{◌-◌, ◌++◌, ◌∙◌, sym, ap, reverse, drop, List, arith}
 use Rattle.std.specs.List.{cons_option}
 use Rattle.nfs_ranges.specs.Merged.{in_order}
 use Rattle.nfs_ranges.specs.declared.piece.Piece.{Piece}
