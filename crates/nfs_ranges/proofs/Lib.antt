@@ -1,5 +1,12 @@
 pub mod Pieces
-pub mod Covered
 pub mod Counting
 pub mod Changes
 pub mod Unique
+pub mod Elements
+pub mod Merged
+pub mod Ended
+pub mod Found
+pub mod Cuts
+pub mod Spliced
+pub mod Conflicts
+pub mod InOrder

@@ -22,10 +22,6 @@ IsIn range byte = (range.first ≤ byte) × (byte ≤ range.last)
 abbrev pub has : Range → ℕ → Bool
 has range byte = nat_le range.first byte && nat_le byte range.last
 
--- the range has all bytes of another
-abbrev pub covers : Range → Range → Bool
-covers range other = nat_le range.first other.first && nat_le other.last range.last
-
 -- The range has the bytes that the two name; there is none where they name none.
 abbrev pub IsRangeOf : ℕ → ℕ → Option Range → Type 0
 IsRangeOf offset length None = HasBytes offset length → ⊥

@@ -4,3 +4,6 @@ pub mod Runs
 pub mod RoomyRanges
 pub mod Questions
 pub mod RangesError
+pub mod Merged
+pub mod Room
+pub mod Splices

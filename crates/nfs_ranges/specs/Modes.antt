@@ -1,7 +1,7 @@
 -- In which mode each byte is held (RFC 7530, sections 9.2 and 9.3): a function from bytes to modes, and None for a byte
 -- that isn't held. So a change is an equation of functions, however the pieces are kept that they come from.
-use Rattle.std.specs.Prelude.{ℕ, Bool, true, false, not, List, [], ◌∷◌, filter, Option, Some, None, if◌then◌else◌}
-use Rattle.nfs_ranges.specs.Bytes.{covers, has}
+use Rattle.std.specs.Prelude.{ℕ, Bool, true, false, List, [], ◌∷◌, Option, Some, None, if◌then◌else◌}
+use Rattle.nfs_ranges.specs.Bytes.{has}
 use Rattle.nfs_ranges.specs.declared.mode.Mode.{Mode}
 use Rattle.nfs_ranges.specs.declared.mode.Mode.TheVariants.{Read, Write}
 use Rattle.nfs_ranges.specs.declared.piece.Piece.{Piece}
@@ -24,10 +24,6 @@ mode_from mode (piece ∷ pieces) byte =
 -- What the pieces mean: the mode of a byte is that of the last piece that has it, and it isn't held where none has it.
 abbrev pub modes_of : List Piece → ℕ → Option Mode
 modes_of pieces = λ byte. mode_from None pieces byte
-
--- the pieces but those all of whose bytes the range has
-abbrev pub uncovered : Range → List Piece → List Piece
-uncovered range = filter (λ piece. not (covers range piece.range))
 
 -- the two are the same
 abbrev pub is_same : Option Mode → Option Mode → Bool

@@ -1,9 +1,8 @@
 -- Runs: the longest stretches of bytes that are held in one mode. The limit counts them; a refused lock is answered with one
 -- (RFC 7530, sections 16.10 and 16.11).
-use Rattle.std.specs.Prelude.{◌≡◌, ℕ, zero, suc, ◌+◌, ◌-◌, ◌^◌, ◌==◌, Bool, ◌&&◌, ◌||◌, not, Option, is_some, min, if◌then◌else◌}
+use Rattle.std.specs.Prelude.{ℕ, zero, suc, ◌+◌, ◌-◌, ◌^◌, ◌==◌, Bool, ◌&&◌, ◌||◌, not, Option, is_some, if◌then◌else◌}
 use Rattle.nfs_ranges.specs.Modes.{is_same}
 use Rattle.nfs_ranges.specs.declared.mode.Mode.{Mode}
-use Rattle.nfs_ranges.specs.declared.range.Range.{Range}
 
 -- A run begins at a byte that is held, if it is byte 0 or the byte before has another mode.
 abbrev pub begins : (ℕ → Option Mode) → ℕ → Bool
@@ -18,12 +17,3 @@ count_below test (suc n) = (if test n then 1 else 0) + count_below test n
 -- how many runs there are
 abbrev pub runs : (ℕ → Option Mode) → ℕ
 runs modes = count_below (begins modes) (2 ^ 64)
-
--- so many runs begin at the bytes from the first on, before the end
-abbrev pub BeginIn : (ℕ → Option Mode) → ℕ → ℕ → ℕ → Type 0
-BeginIn modes first end many =
-    count_below (begins modes) first + many ≡ count_below (begins modes) end
-
--- Where runs begin depends on the mode of a range only at its bytes and the next one. From here on it no longer does.
-abbrev pub reach : Range → ℕ
-reach range = min (range.last + 2) (2 ^ 64)

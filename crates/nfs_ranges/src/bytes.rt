@@ -1,5 +1,5 @@
 ghost use Rattle.std.specs.Prelude.{◌≡◌};
-ghost use Rattle.nfs_ranges.specs.Bytes.{IsRangeOf, covers, has, length_of};
+ghost use Rattle.nfs_ranges.specs.Bytes.{IsRangeOf, has, length_of};
 
 use crate::Range;
 
@@ -32,13 +32,6 @@ impl Range {
         ensures { result ≡ has self byte }
     {
         self.first <= byte && byte <= self.last
-    }
-
-    /// Whether it has all bytes of the other.
-    pub(crate) fn covers(self, other: Range) -> bool
-        ensures { result ≡ covers self other }
-    {
-        self.first <= other.first && other.last <= self.last
     }
 
     /// The length by which a report names it: all ones where it has byte 2^64 - 1, else how many bytes it has.

@@ -2,7 +2,6 @@
 #![tactic(auto)]
 
 mod bytes;
-mod counts;
 mod laws;
 mod limits;
 mod mode;
@@ -10,8 +9,10 @@ mod piece;
 mod range;
 mod ranges;
 mod ranges_error;
-mod stretches;
-mod walks;
+mod runs;
+mod shifts;
+mod splice;
+mod splices;
 
 pub use bytes::range_of;
 pub use laws::{

@@ -1,53 +1,54 @@
-ghost use Rattle.std.specs.Prelude.{◌≡◌, ◌-◌, ◌≤◌, ◌<◌, ◌↔◌, [], nat_le, vec_capacity, vec_len, Some, None};
+ghost use Rattle.std.specs.Prelude.{◌≡◌, ◌≤◌, ◌<◌, ◌+◌, ◌↔◌, [], length, nat_le, Some, None};
 ghost use Rattle.std.specs.Prelude.{IfErr, IsErrOf, IsOk, IsTrue, OnErr, OnOk};
-ghost use Rattle.nfs_ranges.specs.RoomyRanges.{IsFree, modes_after, modes_in};
-ghost use Rattle.nfs_ranges.specs.Modes.{uncovered, with_mode};
+ghost use Rattle.nfs_ranges.specs.Merged.{in_order};
+ghost use Rattle.nfs_ranges.specs.Modes.{with_mode};
 ghost use Rattle.nfs_ranges.specs.Questions.{IsFirstConflict, IsRunAt};
+ghost use Rattle.nfs_ranges.specs.RoomyRanges.{IsFree, modes_after, modes_in};
 ghost use Rattle.nfs_ranges.specs.Runs.{runs};
+ghost use Rattle.nfs_ranges.specs.Splices.{IsSpliceOf, spliced};
 ghost use Rattle.nfs_ranges.specs.declared.limits.TheConstants.{RUN_LIMIT};
 
-use crate::counts::runs_after;
-use crate::walks::{conflict_in, run_in};
+use crate::runs::Runs;
+use crate::splice::Splice;
+use crate::splices::splice_of;
 use crate::{Mode, Piece, RUN_LIMIT, Range, RangesError};
 use std::alloc::Global;
 use std::marker::Model;
 
-/// The bytes of a file that one lock owner holds, each in the mode of the last change that had it.
+/// The bytes of a file that one lock owner holds, each in the mode of the last change that had it, as runs in order.
 #[derive(Drop)]
 pub struct Ranges {
-    pieces: Vec<Piece>,
-    // how many runs the pieces make
-    count: usize,
+    runs: Runs,
+    // how many changes have room
+    room: usize,
 }
 
 impl Model for Ranges {
-    ghost use Rattle.std.specs.Prelude.{◌≡◌, ◌≤◌, ◌-◌};
-    ghost use Rattle.std.specs.Vec.{vec_capacity, vec_len};
+    ghost use Rattle.std.specs.Prelude.{◌≤◌, ◌*◌, length};
+    ghost use Rattle.nfs_ranges.specs.Merged.{IsMerged, in_order};
+    ghost use Rattle.nfs_ranges.specs.Room.{IsRoomy};
     ghost use Rattle.nfs_ranges.specs.RoomyRanges.{RoomyRanges};
-    ghost use Rattle.nfs_ranges.specs.Modes.{modes_of};
-    ghost use Rattle.nfs_ranges.specs.Runs.{runs};
     ghost use Rattle.nfs_ranges.specs.declared.limits.TheConstants.{RUN_LIMIT};
 
     ghost Value = { RoomyRanges };
 
     ghost view = { λ r. record {
-      pieces = r.pieces.items;
-      room = vec_capacity r.pieces - vec_len r.pieces;
+      pieces = in_order r.runs;
+      room = r.room;
     } };
 
-    ghost invariant = { λ r.
-        (r.count ≡ runs (modes_of r.pieces.items)) × (r.count ≤ RUN_LIMIT) };
+    ghost invariant = { λ r. IsMerged (in_order r.runs)
+        × (length (in_order r.runs) ≤ RUN_LIMIT) × IsRoomy (3 * r.room) r.runs };
 }
 
 impl Ranges {
     /// No bytes, taking no memory.
-    #[tactic(auto, using(crate::proofs::Counting::no_runs))]
     pub fn new(alloc: Global) -> Ranges
         ensures { result.pieces ≡ [] }
     {
         Ranges {
-            pieces: Vec::new(alloc),
-            count: 0,
+            runs: Runs::new(alloc),
+            room: 0,
         }
     }
 
@@ -59,7 +60,7 @@ impl Ranges {
         ensures ready { 0 < self.old.room → IsOk result }
         ensures memory { IfErr result (λ e. e ≡ RangesError.Memory) }
     {
-        Ok(self.pieces.reserve(1)?)
+        self.make_room()
     }
 
     /// LOCK (RFC 7530, section 16.10): the owner holds the bytes in this mode, also those that it held in another.
@@ -96,12 +97,27 @@ impl Ranges {
         ensures memory { IsErrOf result RangesError.Memory → self.old.room ≡ 0 }
         ensures err { OnErr result (self.new ≡ self.old) }
     {
-        let count = self.count_after(change);
-        if count > RUN_LIMIT {
+        if !self.has_place_for(change) {
             return Err(RangesError::Full);
         }
-        self.pieces.reserve(1)?;
-        self.put(change, count);
+        self.make_room()?;
+        self.change(change);
+        Ok(())
+    }
+
+    // Makes room for a change, where there is none. After an error nothing has changed.
+    fn make_room(&mut self) -> Result<(), RangesError>
+        ensures pieces { self.new.pieces ≡ self.old.pieces }
+        ensures room { OnOk result (0 < self.new.room) }
+        ensures grows { self.old.room ≤ self.new.room }
+        ensures ready { 0 < self.old.room → IsOk result }
+        ensures memory { IfErr result (λ e. e ≡ RangesError.Memory) }
+        ensures err { OnErr result (self.new ≡ self.old) }
+    {
+        if self.room == 0 {
+            self.runs.reserve()?;
+            self.room = 1;
+        }
         Ok(())
     }
 
@@ -109,7 +125,7 @@ impl Ranges {
     pub fn has_place_for(&self, change: Piece) -> bool
         ensures { result ≡ nat_le (runs (modes_after change self.now)) RUN_LIMIT }
     {
-        self.count_after(change) <= RUN_LIMIT
+        splice_of(&self.runs, change).count_of(self.runs.len()) <= RUN_LIMIT
     }
 
     /// LOCK or LOCKU, as `lock` and `unlock`, where there is room and the runs aren't too many. It takes no memory.
@@ -118,41 +134,24 @@ impl Ranges {
         requires place { runs (modes_after change self.old) ≤ RUN_LIMIT }
         ensures { modes_in self.new ≡ modes_after change self.old }
     {
-        let count = self.count_after(change);
-        self.put(change, count);
-    }
-
-    // How many runs there are after the change.
-    fn count_after(&self, change: Piece) -> usize
-        ensures { result ≡ runs (modes_after change self.now) }
-    {
-        runs_after(&self.pieces, self.count, change)
-    }
-
-    // Adds the piece, with which there are so many runs. Pieces all of whose bytes it has go: they mean nothing any more.
-    fn put(&mut self, piece: Piece, count: usize)
-        requires room { 0 < self.old.room }
-        requires count { count ≡ runs (modes_after piece self.old) }
-        requires few { count ≤ RUN_LIMIT }
-        ensures { modes_in self.new ≡ modes_after piece self.old }
-    {
-        drop_covered(&mut self.pieces, piece.range);
-        self.pieces.push_reserved(piece);
-        self.count = count;
+        let splice = splice_of(&self.runs, change);
+        self.runs.splice(splice);
+        self.room -= 1;
     }
 
     /// The first byte of the range that is held in a mode that refuses this one to another owner, if there is one.
     pub fn first_conflict(&self, range: Range, mode: Mode) -> Option<u64>
         ensures { IsFirstConflict (modes_in self.now) range mode result }
     {
-        conflict_in(&self.pieces, range, mode)
+        self.runs.first_conflict(range, mode)
     }
 
     /// The run that has the byte, with its mode, if the byte is held.
     pub fn run_at(&self, byte: u64) -> Option<(Range, Mode)>
         ensures { IsRunAt (modes_in self.now) byte result }
     {
-        run_in(&self.pieces, byte)
+        let run = self.runs.find(byte)?;
+        Some((run.range, run.mode?))
     }
 
     /// Whether no byte is held.
@@ -160,15 +159,6 @@ impl Ranges {
         ensures free { IsTrue result ↔ IsFree self.now }
         ensures count { IsTrue result ↔ (runs (modes_in self.now) ≡ 0) }
     {
-        self.count == 0
+        self.runs.len() == 0
     }
-}
-
-// Removes the pieces all of whose bytes the range has.
-fn drop_covered(pieces: &mut Vec<Piece>, range: Range)
-    ensures pieces { pieces.new.items ≡ uncovered range pieces.old.items }
-    ensures room { vec_capacity pieces.old - vec_len pieces.old
-        ≤ vec_capacity pieces.new - vec_len pieces.new }
-{
-    pieces.retain(|piece| !range.covers(piece.range));
 }

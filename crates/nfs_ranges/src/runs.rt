@@ -1,0 +1,156 @@
+ghost use Rattle.std.specs.Prelude.{◌≡◌, ◌≤◌, ◌+◌, ℕ, [], OnOk, find, length, slice_get, vec_len};
+ghost use Rattle.nfs_ranges.specs.Bytes.{has};
+ghost use Rattle.nfs_ranges.specs.Merged.{IsMerged, ended, in_order};
+ghost use Rattle.nfs_ranges.specs.Modes.{modes_of};
+ghost use Rattle.nfs_ranges.specs.Questions.{IsFirstConflict};
+ghost use Rattle.nfs_ranges.specs.Room.{HaveCapacityOf, IsRoomy};
+ghost use Rattle.nfs_ranges.specs.Splices.{spliced};
+ghost use Rattle.nfs_ranges.specs.declared.limits.TheConstants.{RUN_LIMIT};
+
+use crate::shifts::{push_some, shift};
+use crate::splice::Splice;
+use crate::{Mode, Piece, Range};
+use std::alloc::{AllocError, Global};
+
+/// Runs in order, as two lists with the place of the last change between them, so that a change at that place moves no
+/// others: the runs before it, and those behind it, the first of which is the last of its list.
+#[derive(Drop)]
+pub(crate) struct Runs {
+    pub before: Vec<Piece>,
+    pub behind: Vec<Piece>,
+}
+
+impl Runs {
+    /// None, taking no memory.
+    pub fn new(alloc: Global) -> Runs
+        ensures runs { in_order result ≡ [] }
+        ensures room { IsRoomy 0 result }
+    {
+        Runs {
+            before: Vec::new(alloc),
+            behind: Vec::new(alloc),
+        }
+    }
+
+    /// How many there are.
+    pub fn len(&self) -> usize
+        requires few { length (in_order self.now) ≤ RUN_LIMIT }
+        ensures { result ≡ length (in_order self.now) }
+    {
+        self.before.len() + self.behind.len()
+    }
+
+    /// The run at this place of the order, if there are so many.
+    pub fn get(&self, place: usize) -> Option<Piece>
+        ensures { result ≡ slice_get (in_order self.now) place }
+    {
+        let count = self.before.len();
+        if place < count {
+            return Some(self.before[place]);
+        }
+        if place - count < self.behind.len() {
+            return Some(self.behind[self.behind.len() - 1 - (place - count)]);
+        }
+        None
+    }
+
+    /// How many end before the byte, found by halving.
+    pub fn count_ended(&self, byte: u64) -> usize
+        requires few { length (in_order self.now) ≤ RUN_LIMIT }
+        requires merged { IsMerged (in_order self.now) }
+        ensures { result ≡ ended byte (in_order self.now) }
+    {
+        let mut low = 0;
+        let mut high = self.len();
+        'halving: loop {
+            if low >= high {
+                return low;
+            }
+            let middle = low + (high - low) / 2;
+            match self.get(middle) {
+                Some(run) if run.range.last < byte => low = middle + 1,
+                _ => high = middle,
+            }
+        }
+    }
+
+    /// The run that has the byte, if the byte is held.
+    pub fn find(&self, byte: u64) -> Option<Piece>
+        requires few { length (in_order self.now) ≤ RUN_LIMIT }
+        requires merged { IsMerged (in_order self.now) }
+        ensures { result ≡ find (λ p. has p.range byte) (in_order self.now) }
+    {
+        let run = self.get(self.count_ended(byte))?;
+        if run.range.first <= byte {
+            Some(run)
+        } else {
+            None
+        }
+    }
+
+    /// The first byte of the range that is held in a mode that refuses the one asked, if there is one.
+    pub fn first_conflict(&self, range: Range, asked: Mode) -> Option<u64>
+        requires few { length (in_order self.now) ≤ RUN_LIMIT }
+        requires merged { IsMerged (in_order self.now) }
+        ensures { IsFirstConflict (modes_of (in_order self.now)) range asked result }
+    {
+        let mut place = self.count_ended(range.first);
+        'walk: loop {
+            let Some(run) = self.get(place) else {
+                return None;
+            };
+            if range.last < run.range.first {
+                return None;
+            }
+            if asked.conflicts_with(run.mode) {
+                return Some(run.range.first.max(range.first));
+            }
+            place += 1;
+        }
+    }
+
+    /// Makes room in both lists for three more than there are, so that a splice takes no memory.
+    pub fn reserve(&mut self) -> Result<(), AllocError>
+        requires few { length (in_order self.old) ≤ RUN_LIMIT }
+        ensures runs { in_order self.new ≡ in_order self.old }
+        ensures room { OnOk result (IsRoomy 3 self.new) }
+        ensures grows { (room : ℕ) → IsRoomy room self.old → IsRoomy room self.new }
+    {
+        let count = self.len() + 3;
+        self.before.reserve(count - self.before.len())?;
+        self.behind.reserve(count - self.behind.len())
+    }
+
+    /// The runs after the splice, for which there is room.
+    pub fn splice(&mut self, splice: Splice)
+        requires few { length (in_order self.old) ≤ RUN_LIMIT }
+        requires order { splice.start ≤ splice.stop }
+        requires end { splice.stop ≤ length (in_order self.old) }
+        requires room { IsRoomy 3 self.old }
+        ensures runs { in_order self.new ≡ spliced splice (in_order self.old) }
+        ensures room { (more : ℕ) → IsRoomy (3 + more) self.old → IsRoomy more self.new }
+    {
+        let count = self.len() - splice.stop;
+        self.divide(splice.start);
+        self.behind.truncate(count);
+        push_some(&mut self.behind, splice.right);
+        push_some(&mut self.behind, splice.run);
+        push_some(&mut self.behind, splice.left);
+    }
+
+    // Moves runs from one list to the other, until so many stand before the place of a change.
+    fn divide(&mut self, start: usize)
+        requires start { start ≤ length (in_order self.old) }
+        requires room { IsRoomy 0 self.old }
+        ensures runs { in_order self.new ≡ in_order self.old }
+        ensures start { vec_len self.new.before ≡ start }
+        ensures room { HaveCapacityOf self.old self.new }
+    {
+        let count = self.before.len();
+        if start < count {
+            shift(&mut self.before, &mut self.behind, count - start);
+        } else {
+            shift(&mut self.behind, &mut self.before, start - count);
+        }
+    }
+}
