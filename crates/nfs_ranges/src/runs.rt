@@ -1,4 +1,4 @@
-ghost use Rattle.std.specs.Prelude.{◌≡◌, ◌≤◌, ◌+◌, ℕ, [], OnOk, find, length, slice_get, vec_len};
+ghost use Rattle.std.specs.Prelude.{◌≡◌, ◌≤◌, ◌<◌, ◌+◌, ℕ, [], IsFalse, IsTrue, OnOk, find, length, slice_get, vec_len};
 ghost use Rattle.nfs_ranges.specs.Bytes.{has};
 ghost use Rattle.nfs_ranges.specs.Merged.{IsMerged, ended, in_order};
 ghost use Rattle.nfs_ranges.specs.Modes.{modes_of};
@@ -54,23 +54,57 @@ impl Runs {
         None
     }
 
-    /// How many end before the byte, found by halving.
+    /// How many end before the byte, found beside the place of the last change or by halving.
     pub fn count_ended(&self, byte: u64) -> usize
         requires few { length (in_order self.now) ≤ RUN_LIMIT }
         requires merged { IsMerged (in_order self.now) }
         ensures { result ≡ ended byte (in_order self.now) }
     {
-        let mut low = 0;
-        let mut high = self.len();
+        let (mut low, mut high) = self.between(byte);
         'halving: loop {
             if low >= high {
                 return low;
             }
             let middle = low + (high - low) / 2;
-            match self.get(middle) {
-                Some(run) if run.range.last < byte => low = middle + 1,
-                _ => high = middle,
+            if self.is_ended(middle, byte) {
+                low = middle + 1;
+            } else {
+                high = middle;
             }
+        }
+    }
+
+    // Two numbers between which that of the runs that end before the byte is: one number, where it is that of the runs
+    // before the place of the last change, or one more.
+    fn between(&self, byte: u64) -> (usize, usize)
+        requires few { length (in_order self.now) ≤ RUN_LIMIT }
+        requires merged { IsMerged (in_order self.now) }
+        ensures low { result.0 ≤ ended byte (in_order self.now) }
+        ensures high { ended byte (in_order self.now) ≤ result.1 }
+        ensures bound { result.1 ≤ length (in_order self.now) }
+    {
+        let place = self.before.len();
+        if place > 0 && !self.is_ended(place - 1, byte) {
+            return (0, place - 1);
+        }
+        if !self.is_ended(place, byte) {
+            return (place, place);
+        }
+        if !self.is_ended(place + 1, byte) {
+            return (place + 1, place + 1);
+        }
+        (place + 2, self.len())
+    }
+
+    // Whether there is a run at this place of the order, and it ends before the byte.
+    fn is_ended(&self, place: usize, byte: u64) -> bool
+        requires merged { IsMerged (in_order self.now) }
+        ensures some { IsTrue result → place < ended byte (in_order self.now) }
+        ensures none { IsFalse result → ended byte (in_order self.now) ≤ place }
+    {
+        match self.get(place) {
+            Some(run) => run.range.last < byte,
+            None => false,
         }
     }
 
