@@ -1,14 +1,15 @@
-ghost use Rattle.std.specs.Prelude.{◌≡◌, ◌≤◌, ◌<◌, ◌+◌, ℕ, [], IsFalse, IsTrue, OnOk, find, length, slice_get, vec_len};
+ghost use Rattle.std.specs.Prelude.{◌≡◌, ◌≤◌, ◌<◌, ◌+◌, ℕ, [], IsFalse, IsTrue, OnOk, drop, find, length, slice_get, vec_len};
 ghost use Rattle.nfs_ranges.specs.Bytes.{has};
 ghost use Rattle.nfs_ranges.specs.Merged.{IsMerged, ended, in_order};
 ghost use Rattle.nfs_ranges.specs.Modes.{modes_of};
-ghost use Rattle.nfs_ranges.specs.Questions.{IsFirstConflict};
+ghost use Rattle.nfs_ranges.specs.Questions.{IsFirstConflict, stops};
 ghost use Rattle.nfs_ranges.specs.Room.{HaveCapacityOf, IsRoomy};
 ghost use Rattle.nfs_ranges.specs.Splices.{spliced};
 ghost use Rattle.nfs_ranges.specs.declared.limits.TheConstants.{RUN_LIMIT};
 
 use crate::shifts::{push_some, shift};
 use crate::splice::Splice;
+use crate::stops::{first_stop, last_stop};
 use crate::{Mode, Piece, Range};
 use std::alloc::{AllocError, Global};
 
@@ -128,18 +129,31 @@ impl Runs {
         requires merged { IsMerged (in_order self.now) }
         ensures { IsFirstConflict (modes_of (in_order self.now)) range asked result }
     {
-        let mut place = self.count_ended(range.first);
-        'walk: loop {
-            let Some(run) = self.get(place) else {
-                return None;
-            };
-            if range.last < run.range.first {
-                return None;
-            }
-            if asked.conflicts_with(run.mode) {
-                return Some(run.range.first.max(range.first));
-            }
-            place += 1;
+        let run = self.first_stop(self.count_ended(range.first), range.last, asked)?;
+        if range.last < run.range.first {
+            None
+        } else {
+            Some(run.range.first.max(range.first))
+        }
+    }
+
+    // The first run from this place of the order on that begins behind the byte, or refuses the mode.
+    fn first_stop(&self, place: usize, last: u64, asked: Mode) -> Option<Piece>
+        requires { place ≤ length (in_order self.now) }
+        ensures { result ≡ find (stops last asked) (drop place (in_order self.now)) }
+    {
+        let count = self.before.len();
+        if place >= count {
+            return last_stop(
+                &self.behind,
+                self.behind.len() - (place - count),
+                last,
+                asked,
+            );
+        }
+        match first_stop(&self.before[place..], last, asked) {
+            Some(run) => Some(run),
+            None => last_stop(&self.behind, self.behind.len(), last, asked),
         }
     }
 
