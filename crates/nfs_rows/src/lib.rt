@@ -1,0 +1,11 @@
+//! Rows in the order in which they came, found by their numbers, and by a hash of their names.
+#![tactic(auto)]
+
+mod iter;
+mod place;
+mod rows;
+#[cfg(test)]
+mod tests;
+
+pub use iter::Iter;
+pub use rows::Rows;
