@@ -1,0 +1,4 @@
+pub mod Each
+pub mod Marks
+pub mod Shown
+pub mod Leading

@@ -1,0 +1,175 @@
+-- Rows that a slab has, by places that lead to them.
+use Rattle.std.proofs.Common.{◌≡◌, ◌≢◌, ℕ, suc, ◌+◌, ◌<◌, Bool, true, false, not, cond, List, [], ◌∷◌, ◌++◌, length, get_or, set, filter, filter_map, find, map, option_map, Option, Some, None, is_some, IsSome, refl, sym, ap, ◌∙◌, subst, arith}
+use Rattle.std.specs.List.{AllByRecursion, cons_option}
+use Rattle.std.proofs.lemmas.Bool.{eqb-true, eqb-false, false_from_ne_true, true_from_ne_false}
+use Rattle.std.proofs.lemmas.List.{map-append}
+use Rattle.std.proofs.lemmas.List.Elements.{filter-append, filter_map-append}
+use Rattle.std.proofs.lemmas.List.Sums.{sum_by-set}
+use Rattle.slab.specs.Slab.{Slab, get, slab_len, with_value, Updates}
+use Rattle.slab.specs.Slab as slabs
+use Rattle.slab.proofs.SlabLemmas.{ContainsKey-within, Updates-with_value}
+use Rattle.nfs_rows.specs.declared.place.Place.{Place}
+use Rattle.nfs_rows.specs.Rows.{IsAbove, Row, StandInOrder, is_numbered, newest_of, value_in, with_value as with_row, without}
+use Rattle.nfs_rows.specs.Places.{HasRow, IsPlaceOf, KeysDiffer, NumbersRise, kept, row_with, rows_at, rows_of}
+use Rattle.nfs_rows.proofs.Marks.{Cut, cut, rise_kept}
+use Rattle.nfs_rows.proofs.Each.{all_back, all_weaken, change_none, drop_none, find_none, find_past, so_before, so_behind}
+
+-- the keys before and behind a place are others
+pub keys_before : (front : List Place) (p : Place) (back : List Place) → KeysDiffer (front ++ p ∷ back) → AllByRecursion (λ q. q.key ≢ p.key) front
+keys_before front p back apart = so_before (λ p q. p.key ≢ q.key) front p back apart
+
+pub keys_behind : (front : List Place) (p : Place) (back : List Place) → KeysDiffer (front ++ p ∷ back) → AllByRecursion (λ q. q.key ≢ p.key) back
+keys_behind front p back apart =
+    all_weaken (λ q. p.key ≢ q.key) (λ q. q.key ≢ p.key) (λ q differs same. differs (sym same)) back (so_behind (λ p q. p.key ≢ q.key) front p back apart)
+
+module _ {V : Type 0} where
+  pub value_at : (slab : Slab V) (p : Place) → HasRow slab p → (v : V) × (get slab p.key ≡ Some v)
+  value_at slab p has = by (get slab p.key) refl has
+    where
+      by : (found : Option V) → get slab p.key ≡ found → IsSome found → (v : V) × (get slab p.key ≡ Some v)
+      by None is h = absurd (cc)
+      by (Some v) is h = (v, is)
+
+  pub same_value : (v w : V) → Some v ≡ Some w → v ≡ w
+  same_value v w is = cc
+
+  pub rows_first : (slab : Slab V) (p : Place) (ps : List Place) (v : V) → get slab p.key ≡ Some v → rows_of slab (p ∷ ps) ≡ row_with p v ∷ rows_of slab ps
+  rows_first slab p ps v is = rw is refl
+
+  pub rows_append : (slab : Slab V) (ps qs : List Place) → rows_of slab (ps ++ qs) ≡ rows_of slab ps ++ rows_of slab qs
+  rows_append slab ps qs = filter_map-append (λ (p : Place). option_map (row_with p) (get slab p.key)) ps qs
+
+  pub rows_cut : (slab : Slab V) (front : List Place) (p : Place) (back : List Place) (v : V) → get slab p.key ≡ Some v
+      → rows_of slab (front ++ p ∷ back) ≡ rows_of slab front ++ row_with p v ∷ rows_of slab back
+  rows_cut slab front p back v is = rows_append slab front (p ∷ back) ∙ ap (λ rows. rows_of slab front ++ rows) (rows_first slab p back v is)
+
+  pub length_rows : (slab : Slab V) (ps : List Place) → AllByRecursion (HasRow slab) ps → length (rows_of slab ps) ≡ length ps
+  length_rows slab [] h = refl
+  length_rows slab (p ∷ ps) h =
+      let v = value_at slab p h.0 in
+      ap length (rows_first slab p ps v.0 v.1) ∙ ap suc (length_rows slab ps h.1)
+
+  -- what is true of the places is true of the rows
+  pub rows_all : (slab : Slab V) (P : Place → Type 0) (Q : Row V → Type 0) → ((p : Place) (v : V) → P p → Q (row_with p v)) → (ps : List Place)
+      → AllByRecursion P ps → AllByRecursion Q (rows_of slab ps)
+  rows_all slab P Q leads [] h = tt
+  rows_all slab P Q leads (p ∷ ps) h = by (get slab p.key) (rows_all slab P Q leads ps h.1)
+    where
+      by : (found : Option V) → AllByRecursion Q (rows_of slab ps) → AllByRecursion Q (cons_option (option_map (row_with p) found) (rows_of slab ps))
+      by None rest = rest
+      by (Some v) rest = (leads p v h.0, rest)
+
+  -- and the other way round
+  pub places_all : (slab : Slab V) (P : Place → Type 0) (Q : Row V → Type 0) → ((p : Place) (v : V) → Q (row_with p v) → P p) → (ps : List Place)
+      → AllByRecursion (HasRow slab) ps → AllByRecursion Q (rows_of slab ps) → AllByRecursion P ps
+  places_all slab P Q leads [] has h = tt
+  places_all slab P Q leads (p ∷ ps) has h =
+      let v = value_at slab p has.0 in
+      let both : AllByRecursion Q (row_with p v.0 ∷ rows_of slab ps) = subst (AllByRecursion Q) (rows_first slab p ps v.0 v.1) h in
+      (leads p v.0 both.0, places_all slab P Q leads ps has.1 both.1)
+
+  pub order_rows : (slab : Slab V) (ps : List Place) → NumbersRise ps → StandInOrder (rows_of slab ps)
+  order_rows slab [] rise = tt
+  order_rows slab (p ∷ ps) rise = by (get slab p.key) (order_rows slab ps rise.1)
+    where
+      by : (found : Option V) → StandInOrder (rows_of slab ps) → StandInOrder (cons_option (option_map (row_with p) found) (rows_of slab ps))
+      by None rest = rest
+      by (Some v) rest = (rows_all slab (λ q. p.number < q.number) (λ r. p.number < r.number) (λ q w below. below) ps rise.0, rest)
+
+  -- rows with other numbers
+
+  pub rows_others : (slab : Slab V) (number : ℕ) (ps : List Place) → AllByRecursion (λ p. p.number ≢ number) ps → AllByRecursion (λ r. is_numbered number r ≡ false) (rows_of slab ps)
+  rows_others slab number ps h =
+      rows_all slab (λ p. p.number ≢ number) (λ r. is_numbered number r ≡ false) (λ p v differs. false_from_ne_true _ (λ same. differs (eqb-true p.number number same))) ps h
+
+  numbered : (p : Place) (v : V) → is_numbered p.number (row_with p v) ≡ true
+  numbered p v = true_from_ne_false _ (λ no. eqb-false p.number p.number no refl)
+
+  module _ (front : List Place) (p : Place) (back : List Place) (rise : NumbersRise (front ++ p ∷ back)) where
+    others_before : (slab : Slab V) → AllByRecursion (λ r. is_numbered p.number r ≡ false) (rows_of slab front)
+    others_before slab =
+        rows_others slab p.number front (all_weaken (λ q. q.number < p.number) (λ q. q.number ≢ p.number) (λ q below same. omega (arith, below, same)) front (so_before (λ p q. p.number < q.number) front p back rise))
+
+    others_behind : (slab : Slab V) → AllByRecursion (λ r. is_numbered p.number r ≡ false) (rows_of slab back)
+    others_behind slab =
+        rows_others slab p.number back (all_weaken (λ q. p.number < q.number) (λ q. q.number ≢ p.number) (λ q above same. omega (arith, above, same)) back (so_behind (λ p q. p.number < q.number) front p back rise))
+
+    -- the row at the place is found by its number
+    pub find_cut : (slab : Slab V) (v : V) → get slab p.key ≡ Some v → find (is_numbered p.number) (rows_of slab (front ++ p ∷ back)) ≡ Some (row_with p v)
+    find_cut slab v is =
+        ap (find (is_numbered p.number)) (rows_cut slab front p back v is)
+        ∙ find_past (is_numbered p.number) (rows_of slab front) (row_with p v ∷ rows_of slab back) (others_before slab)
+        ∙ ap (λ b. cond b (Some (row_with p v)) (find (is_numbered p.number) (rows_of slab back))) (numbered p v)
+
+    pub without_cut : (slab : Slab V) (v : V) → get slab p.key ≡ Some v → without (is_numbered p.number) (rows_of slab (front ++ p ∷ back)) ≡ rows_of slab (front ++ back)
+    without_cut slab v is =
+        let test = is_numbered {V = V} p.number in
+        ap (without test) (rows_cut slab front p back v is)
+        ∙ filter-append (λ r. not (test r)) (rows_of slab front) (row_with p v ∷ rows_of slab back)
+        ∙ (λ i. drop_none test (rows_of slab front) (others_before slab) i ++ cond (not (numbered p v i)) (row_with p v ∷ without test (rows_of slab back)) (without test (rows_of slab back)))
+        ∙ ap (λ rows. rows_of slab front ++ rows) (drop_none test (rows_of slab back) (others_behind slab))
+        ∙ sym (rows_append slab front back)
+
+    pub change_cut : (slab : Slab V) (v w : V) → get slab p.key ≡ Some v
+        → with_row p.number w (rows_of slab (front ++ p ∷ back)) ≡ rows_of slab front ++ row_with p w ∷ rows_of slab back
+    change_cut slab v w is =
+        let test = is_numbered {V = V} p.number in
+        let change : Row V → Row V = λ r. record r { value = w } in
+        ap (with_row p.number w) (rows_cut slab front p back v is)
+        ∙ map-append (λ r. cond (test r) (change r) r) (rows_of slab front) (row_with p v ∷ rows_of slab back)
+        ∙ (λ i. change_none test change (rows_of slab front) (others_before slab) i ++ cond (numbered p v i) (row_with p w) (row_with p v) ∷ change_none test change (rows_of slab back) (others_behind slab) i)
+
+  -- a change of one key leaves the rows at others
+  pub rows_elsewhere : (old new : Slab V) (key : ℕ) (slot : Option V) (ps : List Place) → Updates old new key slot → AllByRecursion (λ p. p.key ≢ key) ps → rows_of new ps ≡ rows_of old ps
+  rows_elsewhere old new key slot [] updates others = refl
+  rows_elsewhere old new key slot (p ∷ ps) updates others =
+      rw (updates.others p.key others.0) (rw (rows_elsewhere old new key slot ps updates others.1) refl)
+
+  pub there_elsewhere : (old new : Slab V) (key : ℕ) (slot : Option V) (ps : List Place) → Updates old new key slot → AllByRecursion (λ p. p.key ≢ key) ps
+      → AllByRecursion (HasRow old) ps → AllByRecursion (HasRow new) ps
+  there_elsewhere old new key slot [] updates others h = tt
+  there_elsewhere old new key slot (p ∷ ps) updates others h =
+      (subst IsSome (sym (updates.others p.key others.0)) h.0, there_elsewhere old new key slot ps updates others.1 h.1)
+
+  -- a key that is vacant is none of theirs
+  pub elsewhere_vacant : (slab : Slab V) (key : ℕ) (ps : List Place) → AllByRecursion (HasRow slab) ps → get slab key ≡ None → AllByRecursion (λ p. p.key ≢ key) ps
+  elsewhere_vacant slab key ps h vacant =
+      all_weaken (HasRow slab) (λ p. p.key ≢ key)
+      (λ p has same. let v = value_at slab p has in absurd (none_some v.0 (sym vacant ∙ ap (get slab) (sym same) ∙ v.1))) ps h
+    where
+      none_some : (v : V) → None ≡ Some v → ⊥
+      none_some v is = cc
+
+  pub slab_len-with_value : (slab : Slab V) (key : ℕ) (v w : V) → get slab key ≡ Some v → slab_len (with_value slab key w) ≡ slab_len slab
+  slab_len-with_value slab key v w is =
+      by (sum_by-set (λ (o : Option V). cond (is_some o) 1 0) slab.slots key (Some w) None (ContainsKey-within slab key (subst IsSome (sym is) refl)))
+    where
+      by : slab_len (with_value slab key w) + cond (is_some (get_or slab.slots key None)) 1 0 ≡ slab_len slab + 1 → slab_len (with_value slab key w) ≡ slab_len slab
+      by sums = omega (arith, subst (λ (o : Option V). slab_len (with_value slab key w) + cond (is_some o) 1 0 ≡ slab_len slab + 1) is sums)
+
+  -- the number of the last row
+  pub newest_push : (rows : List (Row V)) (r : Row V) → newest_of (rows ++ r ∷ []) ≡ r.number
+  newest_push [] r = refl
+  newest_push (q ∷ []) r = refl
+  newest_push (q ∷ s ∷ rows) r = newest_push (s ∷ rows) r
+
+  -- by what `place_of` answers
+
+  pub none_found : (slab : Slab V) (number : ℕ) (ps : List Place) → IsPlaceOf number ps None → find (is_numbered number) (rows_at slab ps) ≡ None
+  none_found slab number ps others = find_none (is_numbered number) (rows_at slab ps) (rows_others slab number (kept ps) others)
+
+  pub none_changed : (slab : Slab V) (number : ℕ) (w : V) (ps : List Place) → IsPlaceOf number ps None → with_row number w (rows_at slab ps) ≡ rows_at slab ps
+  none_changed slab number w ps others = change_none (is_numbered number) (λ r. record r { value = w }) (rows_at slab ps) (rows_others slab number (kept ps) others)
+
+  pub one_found : (slab : Slab V) (number : ℕ) (ps : List Place) (at : ℕ) (p : Place) → NumbersRise ps → AllByRecursion (HasRow slab) (kept ps)
+      → IsPlaceOf number ps (Some at) → p ≡ get_or ps at p → value_in (find (is_numbered number) (rows_at slab ps)) ≡ get slab p.key
+  one_found slab number ps at p rise there found is =
+      let here = subst (Cut ps at) (sym is) (cut ps at p found.0 (found.2 p)) in
+      let has = (all_back (HasRow slab) here.front (p ∷ here.back) (subst (AllByRecursion (HasRow slab)) here.whole there)).0 in
+      let v = value_at slab p has in
+      let numbered : number ≡ p.number = sym (ap (λ (p : Place). p.number) is ∙ found.1 p) in
+      ap value_in (
+        (λ i. find (is_numbered (numbered i)) (rows_of slab (here.whole i)))
+        ∙ find_cut here.front p here.back (subst NumbersRise here.whole (rise_kept ps rise)) slab v.0 v.1
+      )
+      ∙ sym v.1
