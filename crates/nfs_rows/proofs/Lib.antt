@@ -1,4 +1,5 @@
 pub mod Each
 pub mod Marks
 pub mod Shown
+pub mod Lending
 pub mod Leading

@@ -1,7 +1,10 @@
 -- Rows that a slab has, by places that lead to them.
-use Rattle.std.proofs.Common.{◌≡◌, ◌≢◌, ℕ, suc, ◌+◌, ◌<◌, Bool, true, false, not, cond, List, [], ◌∷◌, ◌++◌, length, get_or, set, filter, filter_map, find, map, option_map, Option, Some, None, is_some, IsSome, refl, sym, ap, ◌∙◌, subst, arith}
+use Rattle.std.proofs.Common.{◌≡◌, ◌≢◌, ℕ, suc, ◌+◌, ◌<◌, ◌≤◌, Bool, true, false, not, cond, List, [], ◌∷◌, ◌++◌, length, get_or, set, filter, filter_map, find, map, option_map, Option, Some, None, is_some, IsSome, inl, inr, refl, sym, ap, ◌∙◌, subst, arith}
 use Rattle.std.specs.List.{AllByRecursion, cons_option}
-use Rattle.std.proofs.lemmas.Bool.{eqb-true, eqb-false, false_from_ne_true, true_from_ne_false}
+use Rattle.std.specs.Prelude.{◌⊎◌}
+use Rattle.std.specs.Global.{Vec}
+use Rattle.indexmap.specs.IndexMap.{IndexMap}
+use Rattle.std.proofs.lemmas.Bool.{cases_eq, eqb-true, eqb-false, false_from_ne_true, true_from_ne_false}
 use Rattle.std.proofs.lemmas.List.{map-append}
 use Rattle.std.proofs.lemmas.List.Elements.{filter-append, filter_map-append}
 use Rattle.std.proofs.lemmas.List.Sums.{sum_by-set}
@@ -10,7 +13,7 @@ use Rattle.slab.specs.Slab as slabs
 use Rattle.slab.proofs.SlabLemmas.{ContainsKey-within, Updates-with_value}
 use Rattle.nfs_rows.specs.declared.place.Place.{Place}
 use Rattle.nfs_rows.specs.Rows.{IsAbove, Row, StandInOrder, is_numbered, newest_of, value_in, with_value as with_row, without}
-use Rattle.nfs_rows.specs.Places.{HasRow, IsPlaceOf, KeysDiffer, NumbersRise, kept, row_with, rows_at, rows_of}
+use Rattle.nfs_rows.specs.Places.{AreKept, HasRoom, HasRow, IsPlaceOf, KeysDiffer, NumbersRise, kept, row_with, rows_at, rows_of}
 use Rattle.nfs_rows.proofs.Marks.{Cut, cut, rise_kept}
 use Rattle.nfs_rows.proofs.Each.{all_back, all_weaken, change_none, drop_none, find_none, find_past, so_before, so_behind}
 
@@ -173,3 +176,53 @@ module _ {V : Type 0} where
         ∙ find_cut here.front p here.back (subst NumbersRise here.whole (rise_kept ps rise)) slab v.0 v.1
       )
       ∙ sym v.1
+
+  -- where the row at a place that was found gets another value
+
+  there_changed : (old new : Slab V) (key : ℕ) (w : V) (ps : List Place) → Updates old new key (Some w) → AllByRecursion (HasRow old) ps → AllByRecursion (HasRow new) ps
+  there_changed old new key w ps updates h = all_weaken (HasRow old) (HasRow new) (λ p has. by p has (cases_eq p.key key)) ps h
+    where
+      by : (p : Place) → HasRow old p → (p.key ≡ key) ⊎ (p.key ≢ key) → HasRow new p
+      by p has (inl same) = subst IsSome (sym (ap (get new) same ∙ updates.changed)) refl
+      by p has (inr other) = subst IsSome (sym (updates.others p.key other)) has
+
+  module _ {S : Type 0} (slab : Slab V) (index : IndexMap ℕ ℕ S) (clashed : Bool) (number : ℕ) (ps : List Place) (at : ℕ) (p : Place) (are : AreKept slab ps index clashed)
+      (found : IsPlaceOf number ps (Some at)) (is : p ≡ get_or ps at p) where
+    pub value_found : (v : V) × (get slab p.key ≡ Some v)
+    value_found =
+        let here = subst (Cut ps at) (sym is) (cut ps at p found.0 (found.2 p)) in
+        value_at slab p (all_back (HasRow slab) here.front (p ∷ here.back) (subst (AllByRecursion (HasRow slab)) here.whole are.there)).0
+
+    pub kept_changed : (w : V) → AreKept (with_value slab p.key w) ps index clashed
+    kept_changed w =
+        let has = value_found.1 in
+        record {
+          rise = are.rise;
+          there = there_changed slab (with_value slab p.key w) p.key w (kept ps) (Updates-with_value slab p.key w (subst IsSome (sym has) refl)) are.there;
+          apart = are.apart;
+          all = slab_len-with_value slab p.key value_found.0 w has ∙ are.all;
+          indexed = are.indexed;
+        }
+
+    pub room_changed : (w : V) (places : Vec Place) (room : ℕ) → HasRoom slab places index room → HasRoom (with_value slab p.key w) places index room
+    room_changed w places room has = record {
+      in_slab = subst (λ n. n + room ≤ slab.capacity) (sym (slab_len-with_value slab p.key value_found.0 w value_found.1)) has.in_slab;
+      in_places = has.in_places;
+      in_index = has.in_index;
+    }
+
+    pub rows_changed : (w : V) → rows_at (with_value slab p.key w) ps ≡ with_row number w (rows_at slab ps)
+    rows_changed w =
+        let new = with_value slab p.key w in
+        let here = subst (Cut ps at) (sym is) (cut ps at p found.0 (found.2 p)) in
+        let v = value_found in
+        let updates = Updates-with_value slab p.key w (subst IsSome (sym v.1) refl) in
+        let rise : NumbersRise (here.front ++ p ∷ here.back) = subst NumbersRise here.whole (rise_kept ps are.rise) in
+        let apart : KeysDiffer (here.front ++ p ∷ here.back) = subst KeysDiffer here.whole are.apart in
+        let numbered : p.number ≡ number = ap (λ (p : Place). p.number) is ∙ found.1 p in
+        ap (rows_of new) here.whole
+        ∙ rows_cut new here.front p here.back w updates.changed
+        ∙ (λ i. rows_elsewhere slab new p.key (Some w) here.front updates (keys_before here.front p here.back apart) i
+            ++ row_with p w ∷ rows_elsewhere slab new p.key (Some w) here.back updates (keys_behind here.front p here.back apart) i)
+        ∙ sym (change_cut here.front p here.back rise slab v.0 w v.1)
+        ∙ (λ i. with_row (numbered i) w (rows_of slab (sym here.whole i)))

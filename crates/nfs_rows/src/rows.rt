@@ -157,6 +157,7 @@ impl<T> Rows<T> {
             number = number; hash = hash; client = client; value = value }) ∷ [] }
         ensures room { self.old.room ≡ self.new.room + 1 }
     {
+        self.room -= 1;
         let key = self.slab.insert_reserved(value);
         self.places.push_reserved(Place {
             number,
@@ -169,7 +170,6 @@ impl<T> Rows<T> {
             Ok(None) => {}
             _ => self.clashed = true,
         }
-        self.room -= 1;
     }
 
     /// Removes the row with this number, and answers what it was.
@@ -181,10 +181,7 @@ impl<T> Rows<T> {
         let at = place_of(&self.places, number)?;
         let value = take(&mut self.slab, &mut self.places, &mut self.index, at);
         drop_marks(&mut self.places, self.slab.len());
-        if self.clashed && self.slab.is_empty() {
-            self.index.clear();
-            self.clashed = false;
-        }
+        self.clashed = stay_clashed(&mut self.index, self.clashed, self.slab.len());
         Some(value)
     }
 
@@ -202,17 +199,15 @@ impl<T> Rows<T> {
             }
         }
         drop_marks(&mut self.places, self.slab.len());
-        if self.clashed && self.slab.is_empty() {
-            self.index.clear();
-            self.clashed = false;
-        }
+        self.clashed = stay_clashed(&mut self.index, self.clashed, self.slab.len());
     }
 }
 
-ghost use Rattle.std.specs.Prelude.{Some, slice_set, true, vec_capacity};
+ghost use Rattle.std.specs.Prelude.{List, Some, false, true};
 ghost use Rattle.slab.specs.Slab.{slab_len};
 ghost use Rattle.indexmap.specs.IndexMap.{spare};
-ghost use Rattle.nfs_rows.specs.Places.{AreKept, HasRow, HasRowAt, kept, marked, number_at, rows_at};
+ghost use Rattle.nfs_rows.specs.declared.place.Place.{Place};
+ghost use Rattle.nfs_rows.specs.Places.{AreKept, HasRow, HasRowAt, IsIndexed, kept, marked, number_at, rows_at};
 ghost use Rattle.std.specs.List.{AllByRecursion};
 
 // Takes the row out that is at this place, and leaves a mark.
@@ -239,6 +234,21 @@ fn take<T>(
     places[at].gone = true;
     index.swap_remove(&place.hash);
     slab.remove(place.key)
+}
+
+// Whether look-ups by hash have to look at each row, where this was so before, and there are so many rows. Without rows the
+// index begins anew.
+fn stay_clashed(index: &mut IndexMap<u64, u32>, clashed: bool, rows: usize) -> bool
+    ensures indexed { (places : List Place) → length places ≡ rows
+        → (clashed ≡ false → IsIndexed index.old places)
+        → result ≡ false → IsIndexed index.new places }
+    ensures spare { spare index.old ≤ spare index.new }
+{
+    if clashed && rows == 0 {
+        index.clear();
+        return false;
+    }
+    clashed
 }
 
 // The first row at these places that has the hash and passes the test, with its number.
