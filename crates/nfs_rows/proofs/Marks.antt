@@ -1,5 +1,5 @@
 -- Places in the order of their numbers, of which some are marks.
-use Rattle.std.proofs.Common.{◌≡◌, ◌≢◌, ℕ, zero, suc, ◌+◌, ◌<◌, ◌≤◌, Bool, true, false, not, cond, List, [], ◌∷◌, ◌++◌, length, get_or, filter, inl, inr, refl, sym, ap, ◌∙◌, subst, arith}
+use Rattle.std.proofs.Common.{◌≡◌, ◌≢◌, ℕ, zero, suc, ◌+◌, ◌-◌, ◌<◌, ◌≤◌, Some, set, take, slice_get, Bool, true, false, not, cond, List, [], ◌∷◌, ◌++◌, length, get_or, filter, inl, inr, refl, sym, ap, ◌∙◌, subst, arith}
 use Rattle.std.specs.Prelude.{nat_lt, ◌⊎◌}
 use Rattle.std.specs.List.{AllByRecursion}
 use Rattle.std.specs.List.Sorted.{IsNonDecreasingBy, IsPartitionPoint}
@@ -143,3 +143,28 @@ above_marks number (p ∷ q ∷ ps) rise ends above =
     behind : (b : Bool) → p.gone ≡ b → AllByRecursion (λ p. p.number < number) (kept (q ∷ ps))
     behind true is = subst (AllByRecursion (λ p. p.number < number)) (kept_mark p (q ∷ ps) is) above
     behind false is = (subst (AllByRecursion (λ p. p.number < number)) (kept_first p (q ∷ ps) is) above).1
+
+-- the last place
+
+last_at : (ps : List Place) (k : ℕ) (p : Place) → suc k ≡ length ps → Some p ≡ slice_get ps k → ps ≡ take k ps ++ p ∷ []
+last_at [] k p all is = absurd (omega (arith, all))
+last_at (q ∷ []) zero p all is = ap (λ x. x ∷ []) (same_place q p (sym is))
+  where
+    same_place : (q p : Place) → Some q ≡ Some p → q ≡ p
+    same_place q p is = cc
+last_at (q ∷ r ∷ ps) zero p all is = absurd (omega (arith, all))
+last_at (q ∷ ps) (suc k) p all is = ap (λ xs. q ∷ xs) (last_at ps k p (omega (arith, all)) is)
+
+pub last_is : (ps : List Place) (p : Place) → Some p ≡ slice_get ps (length ps - 1) → ps ≡ take (length ps - 1) ps ++ p ∷ []
+last_is [] p is = absurd (cc)
+last_is (q ∷ ps) p is = last_at (q ∷ ps) (length (q ∷ ps) - 1) p (omega arith) is
+
+pub ends_last : (ps : List Place) (p : Place) → EndsKept (ps ++ p ∷ []) → p.gone ≡ false
+ends_last [] p ends = ends
+ends_last (q ∷ []) p ends = ends
+ends_last (q ∷ r ∷ ps) p ends = ends_last (r ∷ ps) p ends
+
+pub set_marked : (ps : List Place) (at : ℕ) (d : Place) → at < length ps → set ps at (record (get_or ps at d) { gone = true }) ≡ marked at ps
+set_marked [] at d below = absurd (omega (arith, below))
+set_marked (p ∷ ps) zero d below = refl
+set_marked (p ∷ ps) (suc at) d below = ap (λ qs. p ∷ qs) (set_marked ps at d (omega (arith, below)))

@@ -1,21 +1,30 @@
 -- Rows that a slab has, by places that lead to them.
-use Rattle.std.proofs.Common.{◌≡◌, ◌≢◌, ℕ, suc, ◌+◌, ◌<◌, ◌≤◌, Bool, true, false, not, cond, List, [], ◌∷◌, ◌++◌, length, get_or, set, filter, filter_map, find, map, option_map, Option, Some, None, is_some, IsSome, inl, inr, refl, sym, ap, ◌∙◌, subst, arith}
+use Rattle.std.proofs.Common.{◌≡◌, ◌≢◌, ℕ, suc, ◌+◌, ◌-◌, ◌<◌, ◌≤◌, length-append, nat_eq, slice_get, take, drop, ◌&&◌, ◌==◌, Bool, true, false, not, cond, List, [], ◌∷◌, ◌++◌, length, get_or, set, filter, filter_map, find, map, option_map, Option, Some, None, is_some, IsSome, inl, inr, refl, sym, ap, ◌∙◌, subst, arith}
 use Rattle.std.specs.List.{AllByRecursion, cons_option}
 use Rattle.std.specs.Prelude.{◌⊎◌}
 use Rattle.std.specs.Global.{Vec}
-use Rattle.indexmap.specs.IndexMap.{IndexMap}
+use Rattle.indexmap.specs.IndexMap.{IndexMap, UpdatesBy}
 use Rattle.std.proofs.lemmas.Bool.{cases_eq, eqb-true, eqb-false, false_from_ne_true, true_from_ne_false}
-use Rattle.std.proofs.lemmas.List.{map-append}
+use Rattle.std.proofs.lemmas.List.{drop_more, map-append}
 use Rattle.std.proofs.lemmas.List.Elements.{filter-append, filter_map-append}
 use Rattle.std.proofs.lemmas.List.Sums.{sum_by-set}
 use Rattle.slab.specs.Slab.{Slab, get, slab_len, with_value, Updates}
 use Rattle.slab.specs.Slab as slabs
 use Rattle.slab.proofs.SlabLemmas.{ContainsKey-within, Updates-with_value}
 use Rattle.nfs_rows.specs.declared.place.Place.{Place}
-use Rattle.nfs_rows.specs.Rows.{IsAbove, Row, StandInOrder, is_numbered, newest_of, value_in, with_value as with_row, without}
-use Rattle.nfs_rows.specs.Places.{AreKept, HasRoom, HasRow, IsPlaceOf, KeysDiffer, NumbersRise, kept, row_with, rows_at, rows_of}
-use Rattle.nfs_rows.proofs.Marks.{Cut, cut, rise_kept}
-use Rattle.nfs_rows.proofs.Each.{all_back, all_weaken, change_none, drop_none, find_none, find_past, so_before, so_behind}
+use Rattle.nfs_rows.specs.Rows.{IsAbove, Row, StandInOrder, is_named, is_numbered, newest_of, value_in, with_value as with_row, without}
+use Rattle.nfs_rows.specs.Places.{AreKept, EndsKept, HasRoom, HasRow, HasRowAt, IsIndexed, IsPlaceOf, KeysDiffer, NumbersRise, kept, marked, number_at, row_with, rows_at, rows_of}
+use Rattle.nfs_rows.proofs.Leading.{indexed_less}
+use Rattle.nfs_rows.proofs.Marks.{Cut, above_marks, cut, ends_last, kept_first, kept_mark, kept_push, last_is, number_is, rise_kept, rise_marked}
+use Rattle.nfs_rows.proofs.Each.{all_append, all_around, all_back, all_weaken, change_none, drop_none, find_none, find_past, so_around, so_before, so_behind, so_push}
+
+and_no : (b : Bool) → (b && false) ≡ false
+and_no true = refl
+and_no false = refl
+
+-- the number at a place that was found
+pub number_found : (number : ℕ) (ps : List Place) (at : ℕ) (d : Place) → IsPlaceOf number ps (Some at) → number_at at ps ≡ number
+number_found number ps at d found = number_is ps at d found.0 ∙ found.1 d
 
 -- the keys before and behind a place are others
 pub keys_before : (front : List Place) (p : Place) (back : List Place) → KeysDiffer (front ++ p ∷ back) → AllByRecursion (λ q. q.key ≢ p.key) front
@@ -226,3 +235,163 @@ module _ {V : Type 0} where
             ++ row_with p w ∷ rows_elsewhere slab new p.key (Some w) here.back updates (keys_behind here.front p here.back apart) i)
         ∙ sym (change_cut here.front p here.back rise slab v.0 w v.1)
         ∙ (λ i. with_row (numbered i) w (rows_of slab (sym here.whole i)))
+
+  pub newest_last : (slab : Slab V) (ps : List Place) (p : Place) → AllByRecursion (HasRow slab) (kept ps) → EndsKept ps → Some p ≡ slice_get ps (length ps - 1)
+      → p.number ≡ newest_of (rows_at slab ps)
+  newest_last slab ps p there ends last =
+      let is = last_is ps p last in
+      let front = take (length ps - 1) ps in
+      let live = ends_last front p (subst EndsKept is ends) in
+      let whole : kept ps ≡ kept front ++ p ∷ [] = ap kept is ∙ kept_push front p live in
+      let v = value_at slab p (all_back (HasRow slab) (kept front) (p ∷ []) (subst (AllByRecursion (HasRow slab)) whole there)).0 in
+      sym (ap newest_of (ap (rows_of slab) whole ∙ rows_cut slab (kept front) p [] v.0 v.1) ∙ newest_push (rows_of slab (kept front)) (row_with p v.0))
+
+  -- where a place gets a mark, and its row is removed
+  module _ (old new : Slab V) (ps : List Place) (at : ℕ) (p : Place) (there : HasRowAt at ps) (is : (d : Place) → get_or ps at d ≡ p) where
+    taken_cut : Cut ps at p
+    taken_cut = subst (Cut ps at) (is p) (cut ps at p there.0 (there.1 p))
+
+    pub taken_value : AllByRecursion (HasRow old) (kept ps) → (v : V) × (get old p.key ≡ Some v)
+    taken_value rows =
+        let here = taken_cut in
+        value_at old p (all_back (HasRow old) here.front (p ∷ here.back) (subst (AllByRecursion (HasRow old)) here.whole rows)).0
+
+    pub number_taken : number_at at ps ≡ p.number
+    number_taken = number_is ps at p there.0 ∙ ap (λ (p : Place). p.number) (is p)
+
+    module _ {S : Type 0} (index : IndexMap ℕ ℕ S) (are : AreKept old ps index true) where
+      taken_rise : NumbersRise (taken_cut.front ++ p ∷ taken_cut.back)
+      taken_rise = subst NumbersRise taken_cut.whole (rise_kept ps are.rise)
+
+      pub taken_found : (v : V) → get old p.key ≡ Some v → value_in (find (is_numbered (number_at at ps)) (rows_at old ps)) ≡ Some v
+      taken_found v has =
+          let here = taken_cut in
+          ap value_in ((λ i. find (is_numbered (number_taken i)) (rows_of old (here.whole i))) ∙ find_cut here.front p here.back taken_rise old v has)
+
+      pub taken_rows : Updates old new p.key None → rows_at new (marked at ps) ≡ without (is_numbered (number_at at ps)) (rows_at old ps)
+      taken_rows updates =
+          let here = taken_cut in
+          let v = taken_value are.there in
+          let apart : KeysDiffer (here.front ++ p ∷ here.back) = subst KeysDiffer here.whole are.apart in
+          let others = all_append (λ q. q.key ≢ p.key) here.front here.back (keys_before here.front p here.back apart) (keys_behind here.front p here.back apart) in
+          ap (rows_of new) here.less
+          ∙ rows_elsewhere old new p.key None (here.front ++ here.back) updates others
+          ∙ sym (without_cut here.front p here.back taken_rise old v.0 v.1)
+          ∙ (λ i. without (is_numbered (sym number_taken i)) (rows_of old (sym here.whole i)))
+
+    pub taken_kept : {S : Type 0} (before after : IndexMap ℕ ℕ S) (clashed : Bool) → AreKept old ps before clashed → Updates old new p.key None → slab_len new + 1 ≡ slab_len old
+        → UpdatesBy nat_eq (nat_eq p.hash) before after None → AreKept new (marked at ps) after clashed
+    taken_kept before after clashed are updates one_less index =
+        let here = taken_cut in
+        let rise : NumbersRise (here.front ++ p ∷ here.back) = subst NumbersRise here.whole (rise_kept ps are.rise) in
+        let apart : KeysDiffer (here.front ++ p ∷ here.back) = subst KeysDiffer here.whole are.apart in
+        let others = all_append (λ q. q.key ≢ p.key) here.front here.back (keys_before here.front p here.back apart) (keys_behind here.front p here.back apart) in
+        record {
+          rise = rise_marked ps at are.rise;
+          there = subst (AllByRecursion (HasRow new)) (sym here.less)
+              (there_elsewhere old new p.key None (here.front ++ here.back) updates others
+              (all_around (HasRow old) here.front p here.back (subst (AllByRecursion (HasRow old)) here.whole are.there)));
+          apart = subst KeysDiffer (sym here.less) (so_around (λ p q. p.key ≢ q.key) here.front p here.back apart);
+          all = omega (arith, one_less, are.all, ap length here.whole, ap length here.less, length-append here.front (p ∷ here.back), length-append here.front here.back);
+          indexed = λ clean. subst (IsIndexed after) (sym here.less)
+              (indexed_less before here.front p here.back rise (subst (IsIndexed before) here.whole (are.indexed clean)) after index);
+        }
+
+  -- where a row is added
+  module _ (old new : Slab V) (ps : List Place) (p : Place) (v : V) (live : p.gone ≡ false) (updates : Updates old new p.key (Some v)) (vacant : get old p.key ≡ None) where
+    pub added_rows : AllByRecursion (HasRow old) (kept ps) → rows_at new (ps ++ p ∷ []) ≡ rows_at old ps ++ row_with p v ∷ []
+    added_rows there =
+        ap (rows_of new) (kept_push ps p live)
+        ∙ rows_cut new (kept ps) p [] v updates.changed
+        ∙ ap (λ rows. rows ++ row_with p v ∷ []) (rows_elsewhere old new p.key (Some v) (kept ps) updates (elsewhere_vacant old p.key (kept ps) there vacant))
+
+    pub added_kept : {S : Type 0} (before after : IndexMap ℕ ℕ S) (clashed then : Bool) → AreKept old ps before clashed → EndsKept ps → IsAbove p.number (rows_at old ps)
+        → slab_len new ≡ slab_len old + 1 → (then ≡ false → IsIndexed after (kept ps ++ p ∷ [])) → AreKept new (ps ++ p ∷ []) after then
+    added_kept before after clashed then are ends above one_more index =
+        let others = elsewhere_vacant old p.key (kept ps) are.there vacant in
+        let below = places_all old (λ q. q.number < p.number) (λ r. r.number < p.number) (λ q w h. h) (kept ps) are.there above in
+        let whole = kept_push ps p live in
+        record {
+          rise = so_push (λ p q. p.number < q.number) ps p (above_marks p.number ps are.rise ends below) are.rise;
+          there = subst (AllByRecursion (HasRow new)) (sym whole)
+              (all_append (HasRow new) (kept ps) (p ∷ []) (there_elsewhere old new p.key (Some v) (kept ps) updates others are.there) (subst IsSome (sym updates.changed) refl, tt));
+          apart = subst KeysDiffer (sym whole) (so_push (λ p q. p.key ≢ q.key) (kept ps) p others are.apart);
+          all = omega (arith, one_more, are.all, ap length whole, length-append (kept ps) (p ∷ []));
+          indexed = λ clean. subst (IsIndexed after) (sym whole) (index clean);
+        }
+
+  -- which rows have a hash and pass a test
+
+  pub named_yes : (hash : ℕ) (test : V → Bool) (p : Place) (v : V) → p.hash ≡ hash → test v ≡ true → is_named hash test (row_with p v) ≡ true
+  named_yes hash test p v same passes =
+      (λ i. true_from_ne_false _ (λ no. eqb-false p.hash hash no same) i && passes i)
+
+  pub named_other : (hash : ℕ) (test : V → Bool) (p : Place) (v : V) → p.hash ≢ hash → is_named hash test (row_with p v) ≡ false
+  named_other hash test p v differs = ap (λ b. b && test v) (false_from_ne_true _ (λ same. differs (eqb-true p.hash hash same)))
+
+  pub named_no : (hash : ℕ) (test : V → Bool) (p : Place) (v : V) → test v ≡ false → is_named hash test (row_with p v) ≡ false
+  named_no hash test p v fails = ap (λ b. (p.hash == hash) && b) fails ∙ and_no (p.hash == hash)
+
+  pub others_named : (hash : ℕ) (test : V → Bool) (slab : Slab V) (ps : List Place) → AllByRecursion (λ p. p.hash ≢ hash) ps → AllByRecursion (λ r. is_named hash test r ≡ false) (rows_of slab ps)
+  others_named hash test slab ps h = rows_all slab (λ p. p.hash ≢ hash) (λ r. is_named hash test r ≡ false) (λ p v differs. named_other hash test p v differs) ps h
+
+  -- the rows that are left in a walk
+  module _ (slab : Slab V) (hash : ℕ) (test : V → Bool) (ps : List Place) (i : ℕ) (d : Place) (below : i < length ps) where
+    abbrev Left : ℕ → Option (Row V)
+    Left n = find (is_named hash test) (rows_at slab (drop n ps))
+
+    left : drop i ps ≡ get_or ps i d ∷ drop (i + 1) ps
+    left = drop_more ps i d below
+
+    pub walk_mark : (get_or ps i d).gone ≡ true → Left (i + 1) ≡ Left i
+    walk_mark gone = sym (ap (λ qs. find (is_named hash test) (rows_of slab qs)) (ap kept left ∙ kept_mark (get_or ps i d) (drop (i + 1) ps) gone))
+
+    module _ (live : (get_or ps i d).gone ≡ false) where
+      first : kept (drop i ps) ≡ get_or ps i d ∷ kept (drop (i + 1) ps)
+      first = ap kept left ∙ kept_first (get_or ps i d) (drop (i + 1) ps) live
+
+      pub walk_none : get slab (get_or ps i d).key ≡ None → Left (i + 1) ≡ Left i
+      walk_none none = sym (ap (λ qs. find (is_named hash test) (rows_of slab qs)) first ∙ past)
+        where
+          past : find (is_named hash test) (rows_of slab (get_or ps i d ∷ kept (drop (i + 1) ps))) ≡ Left (i + 1)
+          past = rw none refl
+
+      pub walk_row : (v : V) → get slab (get_or ps i d).key ≡ Some v
+          → Left i ≡ cond (is_named hash test (row_with (get_or ps i d) v)) (Some (row_with (get_or ps i d) v)) (Left (i + 1))
+      walk_row v is = ap (find (is_named hash test)) (ap (rows_of slab) first ∙ rows_first slab (get_or ps i d) (kept (drop (i + 1) ps)) v is)
+
+      pub walk_past : (v : V) → get slab (get_or ps i d).key ≡ Some v → is_named hash test (row_with (get_or ps i d) v) ≡ false → Left (i + 1) ≡ Left i
+      walk_past v is fails = sym (walk_row v is ∙ ap (λ b. cond b (Some (row_with (get_or ps i d) v)) (Left (i + 1))) fails)
+
+      pub walk_found : (v : V) → get slab (get_or ps i d).key ≡ Some v → is_named hash test (row_with (get_or ps i d) v) ≡ true → Left i ≡ Some (row_with (get_or ps i d) v)
+      walk_found v is passes = walk_row v is ∙ ap (λ b. cond b (Some (row_with (get_or ps i d) v)) (Left (i + 1))) passes
+
+      -- a row with another hash, which may not be looked at
+      pub walk_other : (get_or ps i d).hash ≢ hash → Left (i + 1) ≡ Left i
+      walk_other differs = by (get slab (get_or ps i d).key) refl
+        where
+          by : (found : Option V) → get slab (get_or ps i d).key ≡ found → Left (i + 1) ≡ Left i
+          by None is = walk_none is
+          by (Some v) is = walk_past v is (named_other hash test (get_or ps i d) v differs)
+
+  pub none_gone : (slab : Slab V) (number : ℕ) (ps : List Place) → IsPlaceOf number ps None → without (is_numbered number) (rows_at slab ps) ≡ rows_at slab ps
+  none_gone slab number ps others = drop_none (is_numbered number) (rows_at slab ps) (rows_others slab number (kept ps) others)
+
+  module _ {S : Type 0} where
+    -- what holds where no two rows had one hash holds but for the index in any case
+    pub as_clashed : (slab : Slab V) (ps : List Place) (index : IndexMap ℕ ℕ S) (clashed : Bool) → AreKept slab ps index clashed → AreKept slab ps index true
+    as_clashed slab ps index clashed are = record { rise = are.rise; there = are.there; apart = are.apart; all = are.all; indexed = λ no_clash. absurd (not_false no_clash) }
+      where
+        not_false : true ≡ false → ⊥
+        not_false is = cc
+
+    -- after marks were dropped, and the index may have begun anew
+    pub kept_dropped : (slab : Slab V) (before after : IndexMap ℕ ℕ S) (clashed then : Bool) (ps qs : List Place) → AreKept slab ps before clashed → kept qs ≡ kept ps → NumbersRise qs
+        → ((clashed ≡ false → IsIndexed before (kept ps)) → then ≡ false → IsIndexed after (kept ps)) → AreKept slab qs after then
+    kept_dropped slab before after clashed then ps qs are same rise index = record {
+      rise = rise;
+      there = subst (AllByRecursion (HasRow slab)) (sym same) are.there;
+      apart = subst KeysDiffer (sym same) are.apart;
+      all = are.all ∙ ap length (sym same);
+      indexed = λ clean. subst (IsIndexed after) (sym same) (index are.indexed clean);
+    }

@@ -2,7 +2,7 @@
 use Rattle.std.specs.Prelude.{◌≡◌, ℕ, ◌<◌, ◌==◌, Bool, ◌&&◌, not, if◌then◌else◌, List, [], ◌∷◌, filter, map, Option, refl, ⊤}
 use Rattle.std.specs.Option.{option_map}
 use Rattle.std.specs.Borrow.{Bor}
-use Rattle.std.specs.Fn.{FnReturnsAt, Shared}
+use Rattle.std.specs.Fn.{Shared}
 use Rattle.std.specs.List.{AllByRecursion}
 use Rattle.std.specs.Coded.{Coded, code_by, coded×, coded_ℕ, coded_list}
 
@@ -71,10 +71,10 @@ module _ {V : Type 0} where
   abbrev pub pair_seen : Option (ℕ × Bor V) → Option (ℕ × V)
   pair_seen found = option_map (λ f. (f.0, f.1.now)) found
 
-  -- each answer of a closure is what the test gives
+  -- whatever a closure is called at, it answers what the test gives
   abbrev pub AnswersAs : {F : Type 0} → Shared F (Bor V × Unit {0}) Bool → F → (V → Bool) → Type 0
-  AnswersAs g f test = (value : V) (answer : Bool) → FnReturnsAt g f value answer
-      → answer ≡ test value
+  AnswersAs g f test = (shown : Bor V) (answer : Bool) → g.post f (shown, tt) answer
+      → answer ≡ test shown.now
 
   -- all numbers are below this one
   abbrev pub IsAbove : ℕ → List (Row V) → Type 0

@@ -1,6 +1,7 @@
-ghost use Rattle.std.specs.Prelude.{◌≡◌, ◌≤◌, false, length, nat_lt, true, vec_capacity, vec_len};
+ghost use Rattle.std.specs.Prelude.{◌≡◌, ◌≤◌, false, length, nat_lt, slice_index_or, true, vec_capacity, vec_len};
 ghost use Rattle.std.specs.List.Sorted.{IsPartitionPoint};
-ghost use Rattle.nfs_rows.specs.Places.{EndsKept, IsPlaceOf, NumbersRise, kept};
+ghost use Rattle.nfs_rows.specs.Places.{EndsKept, HasRowAt, IsPlaceOf, NumbersRise, kept, marked};
+ghost use Rattle.nfs_rows.specs.declared.place.Place.{Place};
 
 /// Where a row is kept, and what the row is found by.
 #[derive(Clone, Copy, Debug)]
@@ -35,6 +36,19 @@ fn first_from(places: &[Place], number: u32) -> usize
         (λ p. nat_lt p.number number ≡ false) places.now result }
 {
     places.partition_point(|place| place.number < number)
+}
+
+/// Leaves a mark, and answers what stood in its place.
+pub fn mark(places: &mut Vec<Place>, at: usize) -> Place
+    requires { HasRowAt at places.old.items }
+    ensures marked { places.new.items ≡ marked at places.old.items }
+    ensures was { (d : Place) → slice_index_or places.old.items at d ≡ result }
+    ensures len { vec_len places.new ≡ vec_len places.old }
+    ensures capacity { vec_capacity places.new ≡ vec_capacity places.old }
+{
+    let place = places[at];
+    places[at].gone = true;
+    place
 }
 
 /// Drops the marks where at least half of the places are marks, and else those at the end.

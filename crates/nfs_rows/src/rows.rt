@@ -4,7 +4,7 @@ ghost use Rattle.std.specs.Borrow.{sem};
 ghost use Rattle.nfs_rows.specs.Rows.{is_named, is_numbered, is_of_client, newest_of, pair_in, pair_of, pair_seen, value_in, without, AnswersAs, IsAbove, StandInOrder};
 
 use crate::iter::Iter;
-use crate::place::{Place, drop_marks, place_of};
+use crate::place::{Place, drop_marks, mark, place_of};
 use indexmap::IndexMap;
 use slab::Slab;
 use std::alloc::{AllocError, Global};
@@ -203,35 +203,33 @@ impl<T> Rows<T> {
     }
 }
 
-ghost use Rattle.std.specs.Prelude.{List, Some, false, true};
-ghost use Rattle.slab.specs.Slab.{slab_len};
+ghost use Rattle.std.specs.Prelude.{List, ℕ, Some, false, true};
 ghost use Rattle.indexmap.specs.IndexMap.{spare};
 ghost use Rattle.nfs_rows.specs.declared.place.Place.{Place};
-ghost use Rattle.nfs_rows.specs.Places.{AreKept, HasRow, HasRowAt, IsIndexed, kept, marked, number_at, rows_at};
+ghost use Rattle.nfs_rows.specs.Places.{AreKept, HasRoom, HasRow, HasRowAt, IsIndexed, kept, marked, number_at, rows_at};
 ghost use Rattle.std.specs.List.{AllByRecursion};
 
 // Takes the row out that is at this place, and leaves a mark.
 fn take<T>(
     slab: &mut Slab<T>,
-    places: &mut [Place],
+    places: &mut Vec<Place>,
     index: &mut IndexMap<u64, u32>,
     at: usize,
 ) -> T
-    requires kept { AreKept slab.old places.old index.old true }
-    requires there { HasRowAt at places.old }
-    ensures kept { (clashed : Bool) → AreKept slab.old places.old index.old clashed
-        → AreKept slab.new places.new index.new clashed }
-    ensures places { places.new ≡ marked at places.old }
-    ensures rows { rows_at slab.new places.new
-        ≡ without (is_numbered (number_at at places.old)) (rows_at slab.old places.old) }
-    ensures value { value_in (find (is_numbered (number_at at places.old)) (rows_at slab.old places.old))
-        ≡ Some result }
-    ensures len { slab_len slab.new + 1 ≡ slab_len slab.old }
-    ensures capacity { slab.new.capacity ≡ slab.old.capacity }
-    ensures spare { spare index.old ≤ spare index.new }
+    requires kept { AreKept slab.old places.old.items index.old true }
+    requires there { HasRowAt at places.old.items }
+    ensures kept { (clashed : Bool) → AreKept slab.old places.old.items index.old clashed
+        → AreKept slab.new places.new.items index.new clashed }
+    ensures places { places.new.items ≡ marked at places.old.items }
+    ensures rows { rows_at slab.new places.new.items
+        ≡ without (is_numbered (number_at at places.old.items))
+        (rows_at slab.old places.old.items) }
+    ensures value { value_in (find (is_numbered (number_at at places.old.items))
+        (rows_at slab.old places.old.items)) ≡ Some result }
+    ensures room { (room : ℕ) → HasRoom slab.old places.old index.old room
+        → HasRoom slab.new places.new index.new room }
 {
-    let place = places[at];
-    places[at].gone = true;
+    let place = mark(places, at);
     index.swap_remove(&place.hash);
     slab.remove(place.key)
 }
