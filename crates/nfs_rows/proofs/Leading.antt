@@ -103,3 +103,8 @@ module _ {S : Type 0} where
           (subst (λ n. Leads (ps ++ p ∷ []) p.hash n) (same_number p.number number (sym updates.1 ∙ ap (get nat_eq new) same ∙ leads)) (leads_last ps p))
       by hash number leads (inr differs) =
           leads_append hash number ps (p ∷ []) (indexed.own hash number (sym (updates.2 hash (false_from_ne_true _ (λ same. differs (eqb-true p.hash hash same)))) ∙ leads))
+
+  -- where the index has nothing at a hash, no place has it
+  pub none_led : (index : IndexMap ℕ ℕ S) (ps : List Place) (hash : ℕ) → IsIndexed index ps → get nat_eq index hash ≡ None → AllByRecursion (λ p. p.hash ≢ hash) ps
+  none_led index ps hash indexed none =
+      all_weaken (λ p. get nat_eq index p.hash ≡ Some p.number) (λ p. p.hash ≢ hash) (λ p led same. no_number p.number (sym none ∙ ap (get nat_eq index) (sym same) ∙ led)) ps indexed.leads

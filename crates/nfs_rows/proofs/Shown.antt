@@ -4,6 +4,7 @@ use Rattle.std.specs.List.{AllByRecursion, cons_option}
 use Rattle.std.specs.Prelude.{◌⊎◌}
 use Rattle.std.specs.Global.{Vec}
 use Rattle.indexmap.specs.IndexMap.{IndexMap, UpdatesBy}
+use Rattle.indexmap.specs.IndexMap as indexes
 use Rattle.std.proofs.lemmas.Bool.{cases_eq, eqb-true, eqb-false, false_from_ne_true, true_from_ne_false}
 use Rattle.std.proofs.lemmas.List.{drop_more, map-append}
 use Rattle.std.proofs.lemmas.List.Elements.{filter-append, filter_map-append}
@@ -12,9 +13,9 @@ use Rattle.slab.specs.Slab.{Slab, get, slab_len, with_value, Updates}
 use Rattle.slab.specs.Slab as slabs
 use Rattle.slab.proofs.SlabLemmas.{ContainsKey-within, Updates-with_value}
 use Rattle.nfs_rows.specs.declared.place.Place.{Place}
-use Rattle.nfs_rows.specs.Rows.{IsAbove, Row, StandInOrder, is_named, is_numbered, newest_of, value_in, with_value as with_row, without}
+use Rattle.nfs_rows.specs.Rows.{IsAbove, Row, StandInOrder, is_named, is_numbered, is_of_client, newest_of, value_in, with_value as with_row, without}
 use Rattle.nfs_rows.specs.Places.{AreKept, EndsKept, HasRoom, HasRow, HasRowAt, IsIndexed, IsPlaceOf, KeysDiffer, NumbersRise, kept, marked, number_at, row_with, rows_at, rows_of}
-use Rattle.nfs_rows.proofs.Leading.{indexed_less}
+use Rattle.nfs_rows.proofs.Leading.{hashes_before, hashes_behind, indexed_less, led, none_led}
 use Rattle.nfs_rows.proofs.Marks.{Cut, above_marks, cut, ends_last, kept_first, kept_mark, kept_push, last_is, number_is, rise_kept, rise_marked}
 use Rattle.nfs_rows.proofs.Each.{all_append, all_around, all_back, all_weaken, change_none, drop_none, find_none, find_past, so_around, so_before, so_behind, so_push}
 
@@ -395,3 +396,67 @@ module _ {V : Type 0} where
       all = are.all ∙ ap length (sym same);
       indexed = λ clean. subst (IsIndexed after) (sym same) (index are.indexed clean);
     }
+
+  -- the rows of a client
+
+  pub client_less : (old : Slab V) (ps : List Place) (at : ℕ) (p : Place) (there : HasRowAt at ps) (is : p ≡ get_or ps at p) (client : ℕ) → p.client ≡ client → NumbersRise ps
+      → AllByRecursion (HasRow old) (kept ps)
+      → without (is_of_client client) (without (is_numbered (number_at at ps)) (rows_at old ps)) ≡ without (is_of_client client) (rows_at old ps)
+  client_less old ps at p there is client own rise rows =
+      let here = subst (Cut ps at) (sym is) (cut ps at p there.0 (there.1 p)) in
+      let v = value_at old p (all_back (HasRow old) here.front (p ∷ here.back) (subst (AllByRecursion (HasRow old)) here.whole rows)).0 in
+      let numbered : number_at at ps ≡ p.number = number_is ps at p there.0 ∙ ap (λ (p : Place). p.number) (sym is) in
+      let test = is_of_client {V = V} client in
+      let of_client : test (row_with p v.0) ≡ true = true_from_ne_false _ (λ differs. eqb-false p.client client differs own) in
+      let front = rows_of old here.front in
+      let back = rows_of old here.back in
+      (λ i. without test (without (is_numbered (numbered i)) (rows_of old (here.whole i))))
+      ∙ ap (without test) (without_cut here.front p here.back (subst NumbersRise here.whole (rise_kept ps rise)) old v.0 v.1 ∙ rows_append old here.front here.back)
+      ∙ filter-append (λ r. not (test r)) front back
+      ∙ sym (
+        ap (without test) (ap (rows_of old) here.whole ∙ rows_cut old here.front p here.back v.0 v.1)
+        ∙ filter-append (λ r. not (test r)) front (row_with p v.0 ∷ back)
+        ∙ ap (λ b. without test front ++ cond (not b) (row_with p v.0 ∷ without test back) (without test back)) of_client
+      )
+
+  pub client_gone : (slab : Slab V) (client : ℕ) (ps : List Place) → AllByRecursion (λ p. p.client ≢ client) ps → without (is_of_client client) (rows_of slab ps) ≡ rows_of slab ps
+  client_gone slab client ps others =
+      drop_none (is_of_client client) (rows_of slab ps)
+      (rows_all slab (λ p. p.client ≢ client) (λ r. is_of_client client r ≡ false) (λ p v differs. false_from_ne_true _ (λ same. differs (eqb-true p.client client same))) ps others)
+
+  -- the only row that may have a hash, by the number to which the index leads
+  pub record Sole (rows : List (Row V)) (hash number : ℕ) : Type 0 where
+    pub row : Row V
+    pub numbered : row.number ≡ number
+    pub found : find (is_numbered number) rows ≡ Some row
+    pub named : (test : V → Bool) → find (is_named hash test) rows ≡ cond (test row.value) (Some row) None
+
+  pub sole : {S : Type 0} (slab : Slab V) (ps : List Place) (index : IndexMap ℕ ℕ S) (hash number : ℕ) → AreKept slab ps index false → indexes.get nat_eq index hash ≡ Some number
+      → Sole (rows_at slab ps) hash number
+  sole slab ps index hash number are leads =
+      let indexed = are.indexed refl in
+      let here = led (kept ps) hash number (indexed.own hash number leads) in
+      let p = here.place in
+      let rise : NumbersRise (here.front ++ p ∷ here.back) = subst NumbersRise here.whole (rise_kept ps are.rise) in
+      let whole : IsIndexed index (here.front ++ p ∷ here.back) = subst (IsIndexed index) here.whole indexed in
+      let v = value_at slab p (all_back (HasRow slab) here.front (p ∷ here.back) (subst (AllByRecursion (HasRow slab)) here.whole are.there)).0 in
+      let differ : List Place → Type 0 = λ qs. AllByRecursion (λ q. q.hash ≢ hash) qs in
+      let before : differ here.front = subst (λ h. AllByRecursion (λ q. q.hash ≢ h) here.front) here.hashed (hashes_before index here.front p here.back rise whole) in
+      let behind : differ here.back = subst (λ h. AllByRecursion (λ q. q.hash ≢ h) here.back) here.hashed (hashes_behind index here.front p here.back rise whole) in
+      record {
+        row = row_with p v.0;
+        numbered = here.numbered;
+        found = (λ i. find (is_numbered (sym here.numbered i)) (rows_of slab (here.whole i))) ∙ find_cut here.front p here.back rise slab v.0 v.1;
+        named = λ test. ap (find (is_named hash test)) (ap (rows_of slab) here.whole ∙ rows_cut slab here.front p here.back v.0 v.1)
+            ∙ find_past (is_named hash test) (rows_of slab here.front) (row_with p v.0 ∷ rows_of slab here.back) (others_named hash test slab here.front before)
+            ∙ by here.place v.0 here.hashed (rows_of slab here.back) test (find_none (is_named hash test) (rows_of slab here.back) (others_named hash test slab here.back behind)) (test v.0) refl;
+      }
+    where
+      by : (p : Place) (v : V) → p.hash ≡ hash → (back : List (Row V)) (test : V → Bool) → find (is_named hash test) back ≡ None → (b : Bool) → test v ≡ b
+          → find (is_named hash test) (row_with p v ∷ back) ≡ cond b (Some (row_with p v)) None
+      by p v same back test none true passes = ap (λ b. cond b (Some (row_with p v)) (find (is_named hash test) back)) (named_yes hash test p v same passes)
+      by p v same back test none false fails = ap (λ b. cond b (Some (row_with p v)) (find (is_named hash test) back)) (named_no hash test p v fails) ∙ none
+
+  pub none_named : {S : Type 0} (slab : Slab V) (ps : List Place) (index : IndexMap ℕ ℕ S) (hash : ℕ) (test : V → Bool) → AreKept slab ps index false → indexes.get nat_eq index hash ≡ None
+      → find (is_named hash test) (rows_at slab ps) ≡ None
+  none_named slab ps index hash test are none = find_none (is_named hash test) (rows_at slab ps) (others_named hash test slab (kept ps) (none_led index (kept ps) hash (are.indexed refl) none))

@@ -3,8 +3,8 @@ use Rattle.nfs_rows.specs.Rows.{RoomyRows, is_numbered, value_in, without}
 use Rattle.nfs_rows.specs.Places.{AreKept, HasRoom, HasRowAt, IsPlaceOf, NumbersRise, kept, number_at, rows_at, rows_of}
 use Rattle.nfs_rows.specs.declared.place.Place.{Place}
 use Rattle.nfs_rows.proofs.Each.{drop_none}
-use Rattle.nfs_rows.proofs.Marks.{number_is, rise_marked}
-use Rattle.nfs_rows.proofs.Shown.{none_found, none_gone, kept_dropped, as_clashed}
+use Rattle.nfs_rows.proofs.Marks.{no_place, rise_marked}
+use Rattle.nfs_rows.proofs.Shown.{kept_dropped, none_found, none_gone, number_found}
 use Rattle.nfs_rows.proofs.rows.Rows.remove.Goals as goal
 
 pub returns-in_err-at-clause-value : goal.returns-in_err-at-clause-value
@@ -43,7 +43,20 @@ invariant_of-self g c =
     )
 
 pub returns-clause-value : goal.returns-clause-value
-returns-clause-value g c = ?
+returns-clause-value g c =
+    let ps = c.self.inside.places.items in
+    let at = c.in_ok-at.at in
+    let found : IsPlaceOf c.args.number ps (Some at) = subst (λ xs. IsPlaceOf c.args.number xs (Some at)) c.deref.ensures.value c.in_ok-at.ensures in
+    sym c.take-value.ensures.value
+    ∙ (λ i. value_in (find (is_numbered (number_found c.args.number ps at no_place found i)) (rows_at c.self.inside.slab ps)))
+    ∙ ap (λ (r : RoomyRows g.row.T.Denot). value_in (find (is_numbered c.args.number) r.rows)) c.self.view_is
 
 pub returns-clause-rows : goal.returns-clause-rows
-returns-clause-rows g c = ?
+returns-clause-rows g c =
+    let ps = c.self.inside.places.items in
+    let at = c.in_ok-at.at in
+    let found : IsPlaceOf c.args.number ps (Some at) = subst (λ xs. IsPlaceOf c.args.number xs (Some at)) c.deref.ensures.value c.in_ok-at.ensures in
+    ap (rows_of c.take-value.new.slab) c.drop_marks.ensures.kept
+    ∙ c.take-value.ensures.rows
+    ∙ (λ i. without (is_numbered (number_found c.args.number ps at no_place found i)) (rows_at c.self.inside.slab ps))
+    ∙ ap (λ (r : RoomyRows g.row.T.Denot). without (is_numbered c.args.number) r.rows) c.self.view_is
