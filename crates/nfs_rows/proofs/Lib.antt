@@ -2,4 +2,5 @@ pub mod Each
 pub mod Marks
 pub mod Shown
 pub mod Lending
+pub mod Clearing
 pub mod Leading

@@ -237,3 +237,15 @@ passed_other client ps at p h is other k d less below live =
     here here_is =
         let seen : get_or ps k d ≡ p = any_default ps k d p below ∙ ap (λ i. get_or ps i p) here_is ∙ sym is in
         subst (λ (q : Place). q.client ≢ client) (sym seen) (other (subst (λ (q : Place). q.gone ≡ false) seen live))
+
+-- by a test that a place isn't gone
+
+pub live_not : (p : Place) → not p.gone ≡ true → p.gone ≡ false
+live_not p is = by p.gone is
+  where
+    by : (b : Bool) → not b ≡ true → b ≡ false
+    by true is = cc
+    by false is = refl
+
+pub not_live : (p : Place) → not p.gone ≡ false → p.gone ≡ false → ⊥
+not_live p is live = cc

@@ -13,7 +13,7 @@ use Rattle.slab.specs.Slab.{Slab, get, slab_len, with_value, Updates}
 use Rattle.slab.specs.Slab as slabs
 use Rattle.slab.proofs.SlabLemmas.{ContainsKey-within, Updates-with_value}
 use Rattle.nfs_rows.specs.declared.place.Place.{Place}
-use Rattle.nfs_rows.specs.Rows.{IsAbove, Row, StandInOrder, is_named, is_numbered, is_of_client, newest_of, value_in, with_value as with_row, without}
+use Rattle.nfs_rows.specs.Rows.{IsAbove, Row, StandInOrder, is_named, is_numbered, is_of_client, newest_of, pair_in, value_in, with_value as with_row, without}
 use Rattle.nfs_rows.specs.Places.{AreKept, EndsKept, HasRoom, HasRow, HasRowAt, IsIndexed, IsPlaceOf, KeysDiffer, NumbersRise, kept, marked, number_at, row_with, rows_at, rows_of}
 use Rattle.nfs_rows.proofs.Leading.{hashes_before, hashes_behind, indexed_less, led, none_led}
 use Rattle.nfs_rows.proofs.Marks.{Cut, above_marks, cut, ends_last, kept_first, kept_mark, kept_push, last_is, number_is, rise_kept, rise_marked}
@@ -460,3 +460,21 @@ module _ {V : Type 0} where
   pub none_named : {S : Type 0} (slab : Slab V) (ps : List Place) (index : IndexMap ℕ ℕ S) (hash : ℕ) (test : V → Bool) → AreKept slab ps index false → indexes.get nat_eq index hash ≡ None
       → find (is_named hash test) (rows_at slab ps) ≡ None
   none_named slab ps index hash test are none = find_none (is_named hash test) (rows_at slab ps) (others_named hash test slab (kept ps) (none_led index (kept ps) hash (are.indexed refl) none))
+
+  module _ (rows : List (Row V)) (hash number : ℕ) (s : Sole rows hash number) where
+    pub sole_there : None ≡ value_in (find (is_numbered number) rows) → ⊥
+    sole_there none = no_value s.row.value (none ∙ ap value_in s.found)
+      where
+        no_value : (v : V) → None ≡ Some v → ⊥
+        no_value v is = cc
+
+    sole_value : (v : V) → Some v ≡ value_in (find (is_numbered number) rows) → s.row.value ≡ v
+    sole_value v is = sym (same_value v s.row.value (is ∙ ap value_in s.found))
+
+    pub sole_passes : (test : V → Bool) (v : V) → Some v ≡ value_in (find (is_numbered number) rows) → test v ≡ true → Some (number, v) ≡ pair_in (find (is_named hash test) rows)
+    sole_passes test v is passes =
+        let same = sole_value v is in
+        sym (ap pair_in (s.named test ∙ ap (λ b. cond b (Some s.row) None) (ap test same ∙ passes)) ∙ (λ i. Some (s.numbered i, same i)))
+
+    pub sole_fails : (test : V → Bool) (v : V) → Some v ≡ value_in (find (is_numbered number) rows) → test v ≡ false → None ≡ pair_in (find (is_named hash test) rows)
+    sole_fails test v is fails = sym (ap pair_in (s.named test ∙ ap (λ b. cond b (Some s.row) None) (ap test (sole_value v is) ∙ fails)))

@@ -3,7 +3,7 @@ use Rattle.std.specs.Prelude.{nat_eq}
 use Rattle.indexmap.specs.IndexMap as maps
 use Rattle.nfs_rows.specs.Rows.{Row, RoomyRows, is_named, is_numbered, pair_in, pair_seen, value_in}
 use Rattle.nfs_rows.specs.Places.{AreKept}
-use Rattle.nfs_rows.proofs.Shown.{Sole, none_named, sole}
+use Rattle.nfs_rows.proofs.Shown.{Sole, none_named, sole, sole_fails, sole_passes, sole_there}
 use Rattle.nfs_rows.proofs.rows.Rows.find_named.Goals as goal
 
 pub returns-in_err-number : goal.returns-in_err-number
@@ -15,10 +15,28 @@ returns-in_err-number g c = λ p answers.
     ∙ ap (λ (r : RoomyRows g.row.T.Denot). pair_in (find (is_named c.args.hash p) r.rows)) c.self.view_is
 
 pub returns-in_err-value : goal.returns-in_err-value
-returns-in_err-value g c = ?
+returns-in_err-value g c = λ p answers.
+    let ps = c.self.inside.places.items in
+    let are = subst (AreKept c.self.inside.slab ps c.self.inside.index) c.if-self.false c.self.invariant.0 in
+    let number = c.in_ok-number.field-0.now in
+    let only : Sole c.args.self.now.rows c.args.hash number =
+    subst (λ (r : RoomyRows g.row.T.Denot). Sole r.rows c.args.hash number) c.self.view_is (sole c.self.inside.slab ps c.self.inside.index c.args.hash number are (sym c.in_ok-number.ensures.value)) in
+    absurd (sole_there c.args.self.now.rows c.args.hash number only c.in_err-value.ensures)
 
 pub returns-then-test : goal.returns-then-test
-returns-then-test g c = ?
+returns-then-test g c = λ p answers.
+    let ps = c.self.inside.places.items in
+    let are = subst (AreKept c.self.inside.slab ps c.self.inside.index) c.if-self.false c.self.invariant.0 in
+    let number = c.in_ok-number.field-0.now in
+    let only : Sole c.args.self.now.rows c.args.hash number =
+    subst (λ (r : RoomyRows g.row.T.Denot). Sole r.rows c.args.hash number) c.self.view_is (sole c.self.inside.slab ps c.self.inside.index c.args.hash number are (sym c.in_ok-number.ensures.value)) in
+    sole_passes c.args.self.now.rows c.args.hash number only p c.in_ok-value.value.now c.in_ok-value.ensures (sym (answers c.in_ok-value.value c.test.result c.test.ensures) ∙ c.if-test.true)
 
 pub returns : goal.returns
-returns g c = ?
+returns g c = λ p answers.
+    let ps = c.self.inside.places.items in
+    let are = subst (AreKept c.self.inside.slab ps c.self.inside.index) c.if-self.false c.self.invariant.0 in
+    let number = c.in_ok-number.field-0.now in
+    let only : Sole c.args.self.now.rows c.args.hash number =
+    subst (λ (r : RoomyRows g.row.T.Denot). Sole r.rows c.args.hash number) c.self.view_is (sole c.self.inside.slab ps c.self.inside.index c.args.hash number are (sym c.in_ok-number.ensures.value)) in
+    sole_fails c.args.self.now.rows c.args.hash number only p c.in_ok-value.value.now c.in_ok-value.ensures (sym (answers c.in_ok-value.value c.test.result c.test.ensures) ∙ c.if-test.false)
