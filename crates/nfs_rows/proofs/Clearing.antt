@@ -1,69 +1,80 @@
--- The walk over the places that removes the rows of a client.
-use Rattle.std.proofs.Common.{◌≡◌, ◌≢◌, ℕ, ◌+◌, ◌<◌, ◌≤◌, Bool, false, true, List, length, get_or, ap, ◌∙◌, sym, subst, arith}
+-- The walk over the places that removes the rows of a client which pass a test.
+use Rattle.std.proofs.Common.{◌≡◌, ℕ, suc, ◌+◌, ◌<◌, ◌≤◌, ◌++◌, ◌∷◌, [], Bool, false, true, None, List, length, get_or, take, ap, ◌∙◌, refl, sym, subst, arith}
+use Rattle.std.specs.List.{AllByRecursion}
 use Rattle.std.specs.Global.{Vec}
-use Rattle.std.proofs.Common.{vec_capacity, vec_len}
-use Rattle.slab.specs.Slab.{Slab}
+use Rattle.std.proofs.lemmas.List.{take_all}
+use Rattle.std.proofs.lemmas.List.Elements.{filter-append}
+use Rattle.slab.specs.Slab.{Slab, Updates}
 use Rattle.indexmap.specs.IndexMap.{IndexMap}
 use Rattle.nfs_rows.specs.declared.place.Place.{Place}
-use Rattle.nfs_rows.specs.Rows.{Row, is_numbered, is_of_client, without}
-use Rattle.nfs_rows.specs.Places.{AreKept, HasRoom, HasRowAt, kept, marked, number_at, rows_at, rows_of}
-use Rattle.nfs_rows.proofs.Each.{any_default}
-use Rattle.nfs_rows.proofs.Marks.{ArePassed, length_marked, passed_all, passed_marked, passed_other}
-use Rattle.nfs_rows.proofs.Shown.{client_gone, client_less}
+use Rattle.nfs_rows.specs.Rows.{Row, is_numbered, without}
+use Rattle.nfs_rows.specs.Places.{AreKept, HasRoom, HasRowAt, KeysDiffer, NumbersRise, has_row, kept, key_at, marked, number_at, rows_at, rows_of}
+use Rattle.nfs_rows.proofs.Each.{all_append, any_default, drop_none}
+use Rattle.nfs_rows.proofs.Marks.{key_is, kept_pop, take_marked, take_next}
+use Rattle.nfs_rows.proofs.Shown.{before_stay, failing, less_passing, passing, rows_append}
 
-module _ {V S : Type 0} where
-  -- So many places were passed, none of which has a row of the client any more. The rows of other clients are those of
-  -- these rows, and the room and the number of places are as they were.
-  pub record Clears (client : ℕ) (rows : List (Row V)) (room end at : ℕ) (slab : Slab V) (places : Vec Place) (index : IndexMap ℕ ℕ S) (clashed : Bool) (promised : ℕ) : Type 0 where
-    pub are : AreKept slab places.items index clashed
-    pub has : HasRoom slab places index promised
-    pub same_room : promised ≡ room
-    pub long : length places.items ≡ end
-    pub others : without (is_of_client client) (rows_at slab places.items) ≡ without (is_of_client client) rows
-    pub passed : ArePassed client places.items at
+-- The fields stand as in a value, but for the end of the places; the room and the number of places are as they were.
+pub record Stands {V S : Type 0} (room end : ℕ) (slab : Slab V) (places : Vec Place) (index : IndexMap ℕ ℕ S) (clashed : Bool) (promised : ℕ) : Type 0 where
+  pub are : AreKept slab places.items index clashed
+  pub has : HasRoom slab places index promised
+  pub same_room : promised ≡ room
+  pub long : length places.items ≡ end
 
-  module _ (client : ℕ) (rows : List (Row V)) (room end at : ℕ) (slab : Slab V) (places : Vec Place) (index : IndexMap ℕ ℕ S) (clashed : Bool) (promised : ℕ)
-      (clears : Clears client rows room end at slab places index clashed promised) (p : Place) (is : p ≡ get_or places.items at p) where
-    pub clears_other : (p.gone ≡ false → p.client ≢ client) → Clears client rows room end (at + 1) slab places index clashed promised
-    clears_other other = record {
-      are = clears.are;
-      has = clears.has;
-      same_room = clears.same_room;
-      long = clears.long;
+kept_append : (ps qs : List Place) → kept (ps ++ qs) ≡ kept ps ++ kept qs
+kept_append ps qs = filter-append _ ps qs
+
+module _ {V : Type 0} where
+  -- The rows that fail the test are those that there were, and no row at the places before this one passes it.
+  pub record Clears (test : Row V → Bool) (rows : List (Row V)) (at : ℕ) (slab : Slab V) (places : List Place) : Type 0 where
+    pub others : without test (rows_at slab places) ≡ without test rows
+    pub passed : AllByRecursion (λ r. test r ≡ false) (rows_at slab (take at places))
+
+  module _ (test : Row V → Bool) (rows : List (Row V)) (at : ℕ) (slab : Slab V) (ps : List Place) (clears : Clears test rows at slab ps) (p : Place) (is : p ≡ get_or ps at p)
+      (below : at < length ps) where
+    -- where no row at the place passes, one more place is passed
+    pub clears_other : has_row test slab p ≡ false → Clears test rows (at + 1) slab ps
+    clears_other none = record {
       others = clears.others;
-      passed = passed_other client places.items at p clears.passed is other;
+      passed = subst (λ n. AllByRecursion (λ r. test r ≡ false) (rows_at slab (take n ps))) (next at)
+          (subst (λ qs. AllByRecursion (λ r. test r ≡ false) (rows_of slab qs)) (sym whole)
+          (subst (AllByRecursion (λ r. test r ≡ false)) (sym (rows_append slab (kept (take at ps)) (kept (p ∷ []))))
+          (all_append (λ r. test r ≡ false) (rows_at slab (take at ps)) (rows_at slab (p ∷ [])) clears.passed (failing test slab p none))));
     }
-
-    -- the place is there, and has a row
-    pub row_there : at < end → p.gone ≡ false → HasRowAt at places.items
-    row_there less live =
-        let below = within at end (length places.items) less clears.long in (
-          below,
-          λ d. subst (λ (q : Place). q.gone ≡ false) (is ∙ any_default places.items at p d below) live,
-        )
       where
-        within : (at end n : ℕ) → at < end → n ≡ end → at < n
-        within at end n less same = omega (arith, less, same)
+        next : (at : ℕ) → suc at ≡ at + 1
+        next at = omega arith
 
-    pub clears_taken : at < end → p.gone ≡ false → p.client ≡ client → (new : Slab V) (left : Vec Place) (after : IndexMap ℕ ℕ S) → AreKept new left.items after clashed
-        → HasRoom new left after promised → left.items ≡ marked at places.items
-        → rows_at new left.items ≡ without (is_numbered (number_at at places.items)) (rows_at slab places.items) → Clears client rows room end (at + 1) new left after clashed promised
-    clears_taken less live own new left after are has items taken = record {
-      are = are;
-      has = has;
-      same_room = clears.same_room;
-      long = ap length items ∙ length_marked places.items at ∙ clears.long;
-      others = ap (without (is_of_client client)) taken
-          ∙ client_less slab places.items at p (row_there less live) is client own clears.are.rise clears.are.there
-          ∙ clears.others;
-      passed = subst (λ ps. ArePassed client ps (at + 1)) (sym items) (passed_marked client places.items at clears.passed);
-    }
+        whole : kept (take (suc at) ps) ≡ kept (take at ps) ++ kept (p ∷ [])
+        whole = ap kept (take_next ps at p below ∙ ap (λ (q : Place). take at ps ++ q ∷ []) (sym is)) ∙ kept_append (take at ps) (p ∷ [])
 
-  -- in the end the rows are those of other clients
-  pub cleared : (client : ℕ) (rows : List (Row V)) (room end at : ℕ) (slab : Slab V) (places : Vec Place) (index : IndexMap ℕ ℕ S) (clashed : Bool) (promised : ℕ)
-      → Clears client rows room end at slab places index clashed promised → end ≤ at → rows_at slab places.items ≡ without (is_of_client client) rows
-  cleared client rows room end at slab places index clashed promised clears all =
-      sym (client_gone slab client (kept places.items) (passed_all client places.items at (whole end at (length places.items) all clears.long) clears.passed)) ∙ clears.others
-    where
-      whole : (end at n : ℕ) → end ≤ at → n ≡ end → n ≤ at
-      whole end at n all same = omega (arith, all, same)
+    pub row_there : has_row test slab p ≡ true → HasRowAt at ps
+    row_there some = (
+      below,
+      λ d. subst (λ (q : Place). q.gone ≡ false) (is ∙ any_default ps at p d below) (passing test slab p some).live,
+    )
+
+    -- where one passes, it is gone
+    pub clears_taken : has_row test slab p ≡ true → NumbersRise ps → KeysDiffer (kept ps) → (new : Slab V) (left : List Place) → left ≡ marked at ps
+        → Updates slab new (key_at at ps) None → rows_at new left ≡ without (is_numbered (number_at at ps)) (rows_at slab ps) → Clears test rows (at + 1) new left
+    clears_taken some rise apart new left items updates taken =
+        let there = row_there some in
+        let row = passing test slab p some in
+        let update : Updates slab new p.key None = subst (λ key. Updates slab new key None) (key_is ps at p below ∙ ap (λ (q : Place). q.key) (sym is)) updates in
+        record {
+          others = ap (without test) taken ∙ less_passing slab ps at p row.value test there is row.has row.passes rise ∙ clears.others;
+          passed = subst (λ qs. AllByRecursion (λ r. test r ≡ false) (rows_at new (take (at + 1) qs))) (sym items)
+              (subst (λ n. AllByRecursion (λ r. test r ≡ false) (rows_at new (take n (marked at ps)))) (next at)
+              (subst (λ qs. AllByRecursion (λ r. test r ≡ false) (rows_of new qs)) (sym whole)
+              (subst (AllByRecursion (λ r. test r ≡ false)) (sym (before_stay slab new ps at p there is apart update)) clears.passed)));
+        }
+      where
+        next : (at : ℕ) → suc at ≡ at + 1
+        next at = omega arith
+
+        whole : kept (take (suc at) (marked at ps)) ≡ kept (take at ps)
+        whole = ap kept (take_marked ps at p below) ∙ kept_pop (take at ps) (record (get_or ps at p) { gone = true }) refl
+
+  -- in the end the rows are those that fail the test
+  pub cleared : (test : Row V → Bool) (rows : List (Row V)) (at : ℕ) (slab : Slab V) (ps : List Place) → Clears test rows at slab ps → length ps ≤ at → rows_at slab ps ≡ without test rows
+  cleared test rows at slab ps clears all =
+      sym (drop_none test (rows_at slab ps) (subst (λ qs. AllByRecursion (λ r. test r ≡ false) (rows_at slab qs)) (take_all at ps all) clears.passed)) ∙ clears.others

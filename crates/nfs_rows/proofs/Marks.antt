@@ -1,14 +1,13 @@
 -- Places in the order of their numbers, of which some are marks.
-use Rattle.std.proofs.Common.{◌≡◌, ◌≢◌, ℕ, zero, suc, ◌+◌, ◌-◌, ◌<◌, ◌≤◌, Some, set, take, slice_get, Bool, true, false, not, cond, List, [], ◌∷◌, ◌++◌, length, get_or, filter, inl, inr, refl, sym, ap, ◌∙◌, subst, arith}
-use Rattle.std.specs.Prelude.{nat_lt, ◌⊎◌}
+use Rattle.std.proofs.Common.{◌≡◌, ◌≢◌, ℕ, zero, suc, ◌-◌, ◌<◌, ◌≤◌, Some, set, take, slice_get, Bool, true, false, not, cond, List, [], ◌∷◌, ◌++◌, length, get_or, inl, inr, refl, sym, ap, ◌∙◌, subst, arith}
+use Rattle.std.specs.Prelude.{nat_lt}
 use Rattle.std.specs.List.{AllByRecursion}
 use Rattle.std.specs.List.Sorted.{IsNonDecreasingBy, IsPartitionPoint}
 use Rattle.std.proofs.lemmas.Bool.{cases_lt}
 use Rattle.std.proofs.lemmas.List.Elements.{filter-append}
 use Rattle.nfs_rows.specs.declared.place.Place.{Place}
-use Rattle.nfs_rows.specs.Rows.{StandSo}
-use Rattle.nfs_rows.specs.Places.{EndsKept, HasRowAt, NumbersRise, kept, marked, number_at}
-use Rattle.nfs_rows.proofs.Each.{any_default, filter_all, passes_filter, so_at, so_filter}
+use Rattle.nfs_rows.specs.Places.{EndsKept, NumbersRise, kept, key_at, marked, number_at}
+use Rattle.nfs_rows.proofs.Each.{filter_all, passes_filter, so_at, so_filter}
 
 abbrev Below : Place → Place → Type 0
 Below p q = p.number < q.number
@@ -74,19 +73,21 @@ pub record Cut (ps : List Place) (at : ℕ) (p : Place) : Type 0 where
   pub back : List Place
   pub whole : kept ps ≡ front ++ p ∷ back
   pub less : kept (marked at ps) ≡ front ++ back
+  pub before : front ≡ kept (take at ps)
 
 pub cut : (ps : List Place) (at : ℕ) (d : Place) → at < length ps → (get_or ps at d).gone ≡ false → Cut ps at (get_or ps at d)
 cut [] at d below live = absurd (omega (arith, below))
-cut (p ∷ ps) zero d below live = record { front = []; back = kept ps; whole = kept_first p ps live; less = refl }
+cut (p ∷ ps) zero d below live = record { front = []; back = kept ps; whole = kept_first p ps live; less = refl; before = refl }
 cut (p ∷ ps) (suc at) d below live = by p.gone refl (cut ps at d (omega (arith, below)) live)
   where
     by : (b : Bool) → p.gone ≡ b → Cut ps at (get_or ps at d) → Cut (p ∷ ps) (suc at) (get_or ps at d)
-    by true is rest = record { front = rest.front; back = rest.back; whole = kept_mark p ps is ∙ rest.whole; less = kept_mark p (marked at ps) is ∙ rest.less }
+    by true is rest = record { front = rest.front; back = rest.back; whole = kept_mark p ps is ∙ rest.whole; less = kept_mark p (marked at ps) is ∙ rest.less; before = rest.before ∙ sym (kept_mark p (take at ps) is) }
     by false is rest = record {
       front = p ∷ rest.front;
       back = rest.back;
       whole = kept_first p ps is ∙ ap (λ qs. p ∷ qs) rest.whole;
       less = kept_first p (marked at ps) is ∙ ap (λ qs. p ∷ qs) rest.less;
+      before = ap (λ qs. p ∷ qs) rest.before ∙ sym (kept_first p (take at ps) is);
     }
 
 pub rise_marked : (ps : List Place) (at : ℕ) → NumbersRise ps → NumbersRise (marked at ps)
@@ -98,6 +99,11 @@ rise_marked (p ∷ ps) (suc at) h = (all_marked ps at h.0, rise_marked ps at h.1
     all_marked [] at h = tt
     all_marked (q ∷ qs) zero h = h
     all_marked (q ∷ qs) (suc at) h = (h.0, all_marked qs at h.1)
+
+pub key_is : (ps : List Place) (at : ℕ) (d : Place) → at < length ps → key_at at ps ≡ (get_or ps at d).key
+key_is [] at d below = absurd (omega (arith, below))
+key_is (p ∷ ps) zero d below = refl
+key_is (p ∷ ps) (suc at) d below = key_is ps at d (omega (arith, below))
 
 pub number_is : (ps : List Place) (at : ℕ) (d : Place) → at < length ps → number_at at ps ≡ (get_or ps at d).number
 number_is [] at d below = absurd (omega (arith, below))
@@ -180,63 +186,15 @@ length_marked [] at = refl
 length_marked (p ∷ ps) zero = refl
 length_marked (p ∷ ps) (suc at) = ap suc (length_marked ps at)
 
-pub marked_same : (ps : List Place) (at : ℕ) (d : Place) → at < length ps → (get_or (marked at ps) at d).gone ≡ true
-marked_same [] at d below = absurd (omega (arith, below))
-marked_same (p ∷ ps) zero d below = refl
-marked_same (p ∷ ps) (suc at) d below = marked_same ps at d (omega (arith, below))
+pub take_marked : (ps : List Place) (at : ℕ) (d : Place) → at < length ps → take (suc at) (marked at ps) ≡ take at ps ++ record (get_or ps at d) { gone = true } ∷ []
+take_marked [] at d below = absurd (omega (arith, below))
+take_marked (p ∷ ps) zero d below = refl
+take_marked (p ∷ ps) (suc at) d below = ap (λ qs. p ∷ qs) (take_marked ps at d (omega (arith, below)))
 
-pub marked_other : (ps : List Place) (at k : ℕ) (d : Place) → k < at → get_or (marked at ps) k d ≡ get_or ps k d
-marked_other [] at k d less = refl
-marked_other (p ∷ ps) zero k d less = absurd (omega (arith, less))
-marked_other (p ∷ ps) (suc at) zero d less = refl
-marked_other (p ∷ ps) (suc at) (suc k) d less = marked_other ps at k d (omega (arith, less))
-
--- of the places before this one, those that are kept are of other clients
-abbrev pub ArePassed : ℕ → List Place → ℕ → Type 0
-ArePassed client ps at = (k : ℕ) (d : Place) → k < at → k < length ps → (get_or ps k d).gone ≡ false → (get_or ps k d).client ≢ client
-
-pub passed_all : (client : ℕ) (ps : List Place) (at : ℕ) → length ps ≤ at → ArePassed client ps at → AllByRecursion (λ p. p.client ≢ client) (kept ps)
-passed_all client [] at all h = tt
-passed_all client (p ∷ ps) at all h =
-    by p.gone refl (passed_all client ps (length ps) (omega arith) (λ k d less below live. h (suc k) d (omega (arith, all, below)) (omega (arith, below)) live))
-  where
-    by : (b : Bool) → p.gone ≡ b → AllByRecursion (λ p. p.client ≢ client) (kept ps) → AllByRecursion (λ p. p.client ≢ client) (cond (not b) (p ∷ kept ps) (kept ps))
-    by true is rest = rest
-    by false is rest = (h 0 p (omega (arith, all)) (omega arith) is, rest)
-
-gone_live : (p : Place) → p.gone ≡ true → p.gone ≡ false → ⊥
-gone_live p gone live = cc
-
--- one more place is passed: it got a mark, or it is one, or it is of another client
-pub passed_marked : (client : ℕ) (ps : List Place) (at : ℕ) → ArePassed client ps at → ArePassed client (marked at ps) (at + 1)
-passed_marked client ps at h k d less below live =
-    elim (cases_lt k at) [
-      | inl before ↦ subst (λ (p : Place). p.client ≢ client) (sym (marked_other ps at k d before))
-          (h k d before (omega (arith, below, length_marked ps at)) (subst (λ (p : Place). p.gone ≡ false) (marked_other ps at k d before) live))
-      | inr behind ↦ absurd (here (same k at less behind))
-    ]
-  where
-    same : (k at : ℕ) → k < at + 1 → at ≤ k → k ≡ at
-    same k at less behind = omega (arith, less, behind)
-
-    here : k ≡ at → ⊥
-    here is =
-        gone_live (get_or (marked at ps) k d) (subst (λ i. (get_or (marked at ps) i d).gone ≡ true) (sym is) (marked_same ps at d (omega (arith, below, length_marked ps at, is)))) live
-
-pub passed_other : (client : ℕ) (ps : List Place) (at : ℕ) (p : Place) → ArePassed client ps at → p ≡ get_or ps at p → (p.gone ≡ false → p.client ≢ client) → ArePassed client ps (at + 1)
-passed_other client ps at p h is other k d less below live =
-    elim (cases_lt k at) [
-      | inl before ↦ h k d before below live
-      | inr behind ↦ here (same k at less behind)
-    ]
-  where
-    same : (k at : ℕ) → k < at + 1 → at ≤ k → k ≡ at
-    same k at less behind = omega (arith, less, behind)
-
-    here : k ≡ at → (get_or ps k d).client ≢ client
-    here here_is =
-        let seen : get_or ps k d ≡ p = any_default ps k d p below ∙ ap (λ i. get_or ps i p) here_is ∙ sym is in
-        subst (λ (q : Place). q.client ≢ client) (sym seen) (other (subst (λ (q : Place). q.gone ≡ false) seen live))
+pub take_next : (ps : List Place) (at : ℕ) (d : Place) → at < length ps → take (suc at) ps ≡ take at ps ++ get_or ps at d ∷ []
+take_next [] at d below = absurd (omega (arith, below))
+take_next (p ∷ ps) zero d below = refl
+take_next (p ∷ ps) (suc at) d below = ap (λ qs. p ∷ qs) (take_next ps at d (omega (arith, below)))
 
 -- by a test that a place isn't gone
 

@@ -1,7 +1,8 @@
 -- Rows that a slab has, by places that lead to them.
-use Rattle.std.proofs.Common.{◌≡◌, ◌≢◌, ℕ, suc, ◌+◌, ◌-◌, ◌<◌, ◌≤◌, length-append, nat_eq, slice_get, take, drop, ◌&&◌, ◌==◌, Bool, true, false, not, cond, List, [], ◌∷◌, ◌++◌, length, get_or, set, filter, filter_map, find, map, option_map, Option, Some, None, is_some, IsSome, inl, inr, refl, sym, ap, ◌∙◌, subst, arith}
+use Rattle.std.proofs.Common.{◌≡◌, ◌≢◌, ℕ, suc, ◌+◌, ◌-◌, ◌<◌, ◌≤◌, length-append, nat_eq, slice_get, take, drop, ◌&&◌, ◌==◌, Bool, true, false, not, cond, List, [], ◌∷◌, ◌++◌, length, get_or, find, option_map, Option, Some, None, is_some, IsSome, inl, inr, refl, sym, ap, ◌∙◌, subst, arith}
 use Rattle.std.specs.List.{AllByRecursion, cons_option}
 use Rattle.std.specs.Prelude.{◌⊎◌}
+use Rattle.std.specs.Option.{option_map_or}
 use Rattle.std.specs.Global.{Vec}
 use Rattle.indexmap.specs.IndexMap.{IndexMap, UpdatesBy}
 use Rattle.indexmap.specs.IndexMap as indexes
@@ -10,14 +11,20 @@ use Rattle.std.proofs.lemmas.List.{drop_more, map-append}
 use Rattle.std.proofs.lemmas.List.Elements.{filter-append, filter_map-append}
 use Rattle.std.proofs.lemmas.List.Sums.{sum_by-set}
 use Rattle.slab.specs.Slab.{Slab, get, slab_len, with_value, Updates}
-use Rattle.slab.specs.Slab as slabs
 use Rattle.slab.proofs.SlabLemmas.{ContainsKey-within, Updates-with_value}
 use Rattle.nfs_rows.specs.declared.place.Place.{Place}
-use Rattle.nfs_rows.specs.Rows.{IsAbove, Row, StandInOrder, is_named, is_numbered, is_of_client, newest_of, pair_in, value_in, with_value as with_row, without}
-use Rattle.nfs_rows.specs.Places.{AreKept, EndsKept, HasRoom, HasRow, HasRowAt, IsIndexed, IsPlaceOf, KeysDiffer, NumbersRise, kept, marked, number_at, row_with, rows_at, rows_of}
+use Rattle.nfs_rows.specs.Rows.{IsAbove, Row, StandInOrder, is_named, is_numbered, newest_of, pair_in, value_in, with_value as with_row, without}
+use Rattle.nfs_rows.specs.Places.{AreKept, has_row, row_of, EndsKept, HasRoom, HasRow, HasRowAt, IsIndexed, IsPlaceOf, KeysDiffer, NumbersRise, kept, marked, number_at, row_with, rows_at, rows_of}
 use Rattle.nfs_rows.proofs.Leading.{hashes_before, hashes_behind, indexed_less, led, none_led}
-use Rattle.nfs_rows.proofs.Marks.{Cut, above_marks, cut, ends_last, kept_first, kept_mark, kept_push, last_is, number_is, rise_kept, rise_marked}
+use Rattle.nfs_rows.proofs.Marks.{Cut, above_marks, cut, ends_last, kept_first, kept_mark, kept_push, live_not, last_is, number_is, rise_kept, rise_marked}
 use Rattle.nfs_rows.proofs.Each.{all_append, all_around, all_back, all_weaken, change_none, drop_none, find_none, find_past, so_around, so_before, so_behind, so_push}
+
+and_yes : (a b : Bool) → (a && b) ≡ true → (a ≡ true) × (b ≡ true)
+and_yes true b is = (refl, is)
+and_yes false b is = absurd (not_true is)
+  where
+    not_true : false ≡ true → ⊥
+    not_true is = cc
 
 and_no : (b : Bool) → (b && false) ≡ false
 and_no true = refl
@@ -182,8 +189,8 @@ module _ {V : Type 0} where
       let v = value_at slab p has in
       let numbered : number ≡ p.number = sym (ap (λ (p : Place). p.number) is ∙ found.1 p) in
       ap value_in (
-        (λ i. find (is_numbered (numbered i)) (rows_of slab (here.whole i)))
-        ∙ find_cut here.front p here.back (subst NumbersRise here.whole (rise_kept ps rise)) slab v.0 v.1
+      (λ i. find (is_numbered (numbered i)) (rows_of slab (here.whole i)))
+      ∙ find_cut here.front p here.back (subst NumbersRise here.whole (rise_kept ps rise)) slab v.0 v.1
       )
       ∙ sym v.1
 
@@ -233,7 +240,7 @@ module _ {V : Type 0} where
         ap (rows_of new) here.whole
         ∙ rows_cut new here.front p here.back w updates.changed
         ∙ (λ i. rows_elsewhere slab new p.key (Some w) here.front updates (keys_before here.front p here.back apart) i
-            ++ row_with p w ∷ rows_elsewhere slab new p.key (Some w) here.back updates (keys_behind here.front p here.back apart) i)
+        ++ row_with p w ∷ rows_elsewhere slab new p.key (Some w) here.back updates (keys_behind here.front p here.back apart) i)
         ∙ sym (change_cut here.front p here.back rise slab v.0 w v.1)
         ∙ (λ i. with_row (numbered i) w (rows_of slab (sym here.whole i)))
 
@@ -397,32 +404,61 @@ module _ {V : Type 0} where
       indexed = λ clean. subst (IsIndexed after) (sym same) (index are.indexed clean);
     }
 
-  -- the rows of a client
-
-  pub client_less : (old : Slab V) (ps : List Place) (at : ℕ) (p : Place) (there : HasRowAt at ps) (is : p ≡ get_or ps at p) (client : ℕ) → p.client ≡ client → NumbersRise ps
-      → AllByRecursion (HasRow old) (kept ps)
-      → without (is_of_client client) (without (is_numbered (number_at at ps)) (rows_at old ps)) ≡ without (is_of_client client) (rows_at old ps)
-  client_less old ps at p there is client own rise rows =
+  -- Without the row at a place, which passes a test, the rows that fail the test are those that there were.
+  pub less_passing : (slab : Slab V) (ps : List Place) (at : ℕ) (p : Place) (v : V) (test : Row V → Bool) → HasRowAt at ps → p ≡ get_or ps at p → get slab p.key ≡ Some v → test (row_with p v) ≡ true
+      → NumbersRise ps → without test (without (is_numbered (number_at at ps)) (rows_at slab ps)) ≡ without test (rows_at slab ps)
+  less_passing slab ps at p v test there is has passes rise =
       let here = subst (Cut ps at) (sym is) (cut ps at p there.0 (there.1 p)) in
-      let v = value_at old p (all_back (HasRow old) here.front (p ∷ here.back) (subst (AllByRecursion (HasRow old)) here.whole rows)).0 in
       let numbered : number_at at ps ≡ p.number = number_is ps at p there.0 ∙ ap (λ (p : Place). p.number) (sym is) in
-      let test = is_of_client {V = V} client in
-      let of_client : test (row_with p v.0) ≡ true = true_from_ne_false _ (λ differs. eqb-false p.client client differs own) in
-      let front = rows_of old here.front in
-      let back = rows_of old here.back in
-      (λ i. without test (without (is_numbered (numbered i)) (rows_of old (here.whole i))))
-      ∙ ap (without test) (without_cut here.front p here.back (subst NumbersRise here.whole (rise_kept ps rise)) old v.0 v.1 ∙ rows_append old here.front here.back)
+      let front = rows_of slab here.front in
+      let back = rows_of slab here.back in
+      (λ i. without test (without (is_numbered (numbered i)) (rows_of slab (here.whole i))))
+      ∙ ap (without test) (without_cut here.front p here.back (subst NumbersRise here.whole (rise_kept ps rise)) slab v has ∙ rows_append slab here.front here.back)
       ∙ filter-append (λ r. not (test r)) front back
       ∙ sym (
-        ap (without test) (ap (rows_of old) here.whole ∙ rows_cut old here.front p here.back v.0 v.1)
-        ∙ filter-append (λ r. not (test r)) front (row_with p v.0 ∷ back)
-        ∙ ap (λ b. without test front ++ cond (not b) (row_with p v.0 ∷ without test back) (without test back)) of_client
+      ap (without test) (ap (rows_of slab) here.whole ∙ rows_cut slab here.front p here.back v has)
+      ∙ filter-append (λ r. not (test r)) front (row_with p v ∷ back)
+      ∙ ap (λ b. without test front ++ cond (not b) (row_with p v ∷ without test back) (without test back)) passes
       )
 
-  pub client_gone : (slab : Slab V) (client : ℕ) (ps : List Place) → AllByRecursion (λ p. p.client ≢ client) ps → without (is_of_client client) (rows_of slab ps) ≡ rows_of slab ps
-  client_gone slab client ps others =
-      drop_none (is_of_client client) (rows_of slab ps)
-      (rows_all slab (λ p. p.client ≢ client) (λ r. is_of_client client r ≡ false) (λ p v differs. false_from_ne_true _ (λ same. differs (eqb-true p.client client same))) ps others)
+  -- the rows at the places before it stay
+  pub before_stay : (old new : Slab V) (ps : List Place) (at : ℕ) (p : Place) → HasRowAt at ps → p ≡ get_or ps at p → KeysDiffer (kept ps) → Updates old new p.key None
+      → rows_of new (kept (take at ps)) ≡ rows_of old (kept (take at ps))
+  before_stay old new ps at p there is apart updates =
+      let here = subst (Cut ps at) (sym is) (cut ps at p there.0 (there.1 p)) in
+      let others = keys_before here.front p here.back (subst KeysDiffer here.whole apart) in
+      rows_elsewhere old new p.key None (kept (take at ps)) updates (subst (AllByRecursion (λ q. q.key ≢ p.key)) here.before others)
+
+  -- what a place has that has a row which passes a test
+  pub record Passing (test : Row V → Bool) (slab : Slab V) (p : Place) : Type 0 where
+    pub live : p.gone ≡ false
+    pub value : V
+    pub has : get slab p.key ≡ Some value
+    pub passes : test (row_with p value) ≡ true
+
+  pub passing : (test : Row V → Bool) (slab : Slab V) (p : Place) → has_row test slab p ≡ true → Passing test slab p
+  passing test slab p is =
+      let both = and_yes (not p.gone) (option_map_or test (row_of slab p) false) is in
+      by (live_not p both.0) (get slab p.key) refl both.1
+    where
+      not_true : false ≡ true → ⊥
+      not_true no_row = cc
+
+      by : p.gone ≡ false → (found : Option V) → get slab p.key ≡ found → option_map_or test (option_map (row_with p) found) false ≡ true → Passing test slab p
+      by live None has passes = absurd (not_true passes)
+      by live (Some v) has passes = record { live = live; value = v; has = has; passes = passes }
+
+  -- and where it has none, no row there passes
+  pub failing : (test : Row V → Bool) (slab : Slab V) (p : Place) → has_row test slab p ≡ false → AllByRecursion (λ r. test r ≡ false) (rows_at slab (p ∷ []))
+  failing test slab p is = by p.gone refl (row_of slab p) refl is
+    where
+      alone : (row : Option (Row V)) → option_map_or test row false ≡ false → AllByRecursion (λ r. test r ≡ false) (cons_option row [])
+      alone None fails = tt
+      alone (Some r) fails = (fails, tt)
+
+      by : (b : Bool) → p.gone ≡ b → (row : Option (Row V)) → row_of slab p ≡ row → (not b && option_map_or test (row_of slab p) false) ≡ false → AllByRecursion (λ r. test r ≡ false) (rows_at slab (p ∷ []))
+      by true gone row there fails = subst (λ qs. AllByRecursion (λ r. test r ≡ false) (rows_of slab qs)) (sym (kept_mark p [] gone)) tt
+      by false live row there fails = subst (λ qs. AllByRecursion (λ r. test r ≡ false) (rows_of slab qs)) (sym (kept_first p [] live)) (alone (row_of slab p) fails)
 
   -- the only row that may have a hash, by the number to which the index leads
   pub record Sole (rows : List (Row V)) (hash number : ℕ) : Type 0 where

@@ -1,7 +1,7 @@
 -- How rows are kept.
-use Rattle.std.specs.Prelude.{◌≡◌, ◌≢◌, ◌⊎◌, ℕ, ◌+◌, zero, suc, ◌<◌, ◌≤◌, Bool, false, true, not, List, [], ◌∷◌, Option, Some, None, filter, filter_map, IsSome, length, map, slice_index_or, vec_capacity, vec_len, nat_eq, ⊤}
+use Rattle.std.specs.Prelude.{◌≡◌, ◌≢◌, ◌⊎◌, ℕ, ◌+◌, zero, suc, ◌<◌, ◌≤◌, Bool, ◌&&◌, false, true, not, List, [], ◌∷◌, Option, Some, None, filter, filter_map, IsSome, length, map, slice_index_or, vec_capacity, vec_len, nat_eq, ⊤}
 use Rattle.std.specs.Global.{Vec}
-use Rattle.std.specs.Option.{option_map}
+use Rattle.std.specs.Option.{option_map, option_map_or}
 use Rattle.std.specs.List.{AllByRecursion}
 use Rattle.slab.specs.Slab.{Slab, slab_len}
 use Rattle.slab.specs.Slab as slabs
@@ -42,6 +42,10 @@ HasRowAt at places =
 abbrev pub number_at : ℕ → List Place → ℕ
 number_at at places = slice_index_or (map (λ p. p.number) places) at 0
 
+-- and the key
+abbrev pub key_at : ℕ → List Place → ℕ
+key_at at places = slice_index_or (map (λ p. p.key) places) at 0
+
 -- the places, with a mark at this one
 abbrev pub marked : ℕ → List Place → List Place
 marked at [] = []
@@ -53,9 +57,13 @@ module _ {V : Type 0} where
   abbrev pub row_with : Place → V → Row V
   row_with p v = record { number = p.number; hash = p.hash; client = p.client; value = v }
 
-  -- the rows at these places, in their order
+  -- the row to which the place leads
+  abbrev pub row_of : Slab V → Place → Option (Row V)
+  row_of slab p = option_map (row_with p) (slabs.get slab p.key)
+
+  -- the rows to which these places lead, in their order
   abbrev pub rows_of : Slab V → List Place → List (Row V)
-  rows_of slab places = filter_map (λ p. option_map (row_with p) (slabs.get slab p.key)) places
+  rows_of slab places = filter_map (row_of slab) places
 
   abbrev pub rows_at : Slab V → List Place → List (Row V)
   rows_at slab places = rows_of slab (kept places)
@@ -63,6 +71,10 @@ module _ {V : Type 0} where
   -- the slab has a row at the place's key
   abbrev pub HasRow : Slab V → Place → Type 0
   HasRow slab p = IsSome (slabs.get slab p.key)
+
+  -- the place isn't a mark, and leads to a row that passes the test
+  abbrev pub has_row : (Row V → Bool) → Slab V → Place → Bool
+  has_row test slab p = not p.gone && option_map_or test (row_of slab p) false
 
 -- a place has this hash and this number
 abbrev pub Leads : List Place → ℕ → ℕ → Type 0

@@ -49,8 +49,9 @@ module _ {V : Type 0} where
   abbrev pub is_numbered : ℕ → Row V → Bool
   is_numbered number r = r.number == number
 
-  abbrev pub is_of_client : ℕ → Row V → Bool
-  is_of_client client r = r.client == client
+  -- the row is of the client, and its value passes the test
+  abbrev pub is_of_client : ℕ → (V → Bool) → Row V → Bool
+  is_of_client client test r = r.client == client && test r.value
 
   -- the row has the hash, and its value passes the test
   abbrev pub is_named : ℕ → (V → Bool) → Row V → Bool

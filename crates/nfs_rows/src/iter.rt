@@ -26,13 +26,13 @@ impl<'a, T> Model for Iter<'a, T> {
 }
 
 impl<'a, T> Iterator for Iter<'a, T> {
-    type Item = (u32, &'a T);
+    type Item = (u64, &'a T);
 
     ghost next_gives = { YieldsFirstBy (λ item. (item.0, item.1.now)) (λ rest. rest) };
 
     ghost remaining = { item_count (λ rest. rest) };
 
-    fn next(&mut self) -> Option<(u32, &'a T)> {
+    fn next(&mut self) -> Option<(u64, &'a T)> {
         while let Some((place, rest)) = self.places.split_first() {
             self.places = rest;
             if !place.gone {

@@ -4,8 +4,6 @@
 mod iter;
 mod place;
 mod rows;
-#[cfg(test)]
-mod tests;
 
 pub use iter::Iter;
 pub use rows::Rows;

@@ -6,7 +6,7 @@ ghost use Rattle.nfs_rows.specs.declared.place.Place.{Place};
 /// Where a row is kept, and what the row is found by.
 #[derive(Clone, Copy, Debug)]
 pub struct Place {
-    pub number: u32,
+    pub number: u64,
     pub hash: u64,
     pub client: u32,
     // The key of the row in the slab.
@@ -16,7 +16,7 @@ pub struct Place {
 }
 
 /// Where the row with this number is, if there is one.
-pub fn place_of(places: &[Place], number: u32) -> Option<usize>
+pub fn place_of(places: &[Place], number: u64) -> Option<usize>
     requires { NumbersRise places.now }
     ensures { IsPlaceOf number places.now result }
 {
@@ -29,7 +29,7 @@ pub fn place_of(places: &[Place], number: u32) -> Option<usize>
 }
 
 // How many numbers are below this one, by halving.
-fn first_from(places: &[Place], number: u32) -> usize
+fn first_from(places: &[Place], number: u64) -> usize
     requires { NumbersRise places.now }
     ensures bound { result ≤ length places.now }
     ensures point { IsPartitionPoint (λ p. nat_lt p.number number ≡ true)

@@ -18,7 +18,7 @@ pub struct Rows<T> {
     // Where the rows are, in the order of their numbers; the last one isn't a mark.
     places: Vec<Place>,
     // The number of the row with a hash, as long as no two rows had one.
-    index: IndexMap<u64, u32>,
+    index: IndexMap<u64, u64>,
     // Two rows have had one hash, and there have been rows since.
     clashed: bool,
     // How many additions were promised to take no memory.
@@ -75,7 +75,7 @@ impl<T> Rows<T> {
     }
 
     /// The number of the newest row, or 0 where there is none.
-    pub fn newest(&self) -> u32
+    pub fn newest(&self) -> u64
         ensures { result ≡ newest_of self.now.rows }
     {
         match self.places.last() {
@@ -85,7 +85,7 @@ impl<T> Rows<T> {
     }
 
     /// The row with this number, if there is one.
-    pub fn find(&self, number: u32) -> Option<&T>
+    pub fn find(&self, number: u64) -> Option<&T>
         ensures { option_copied result ≡ value_in (find (is_numbered number) self.now.rows) }
     {
         let at = place_of(&self.places, number)?;
@@ -93,7 +93,7 @@ impl<T> Rows<T> {
     }
 
     /// The row with this number for a change, if there is one. Its number, hash and client stay, and so do other rows.
-    pub fn find_mut(&mut self, number: u32) -> Option<&mut T>
+    pub fn find_mut(&mut self, number: u64) -> Option<&mut T>
         ensures* lends { sem 𝓛 (lends_value T.row self.entry number result) }
         ensures value { option_copied_mut result
             ≡ value_in (find (is_numbered number) self.old.rows) }
@@ -104,7 +104,7 @@ impl<T> Rows<T> {
 
     /// The first row that has the hash and passes the test, with its number, if there is one. As long as no two rows have
     /// had one hash, it looks at one row, and else at each.
-    pub fn find_named<F: Fn(&T) -> bool>(&self, hash: u64, test: F) -> Option<(u32, &T)>
+    pub fn find_named<F: Fn(&T) -> bool>(&self, hash: u64, test: F) -> Option<(u64, &T)>
         requires { F.IsAlwaysCallable test }
         ensures { (p : T → Bool) → AnswersAs F.Fn test p
             → pair_seen result ≡ pair_in (find (is_named hash p) self.now.rows) }
@@ -150,11 +150,15 @@ impl<T> Rows<T> {
     }
 
     /// Adds a row, whose number has to be above those of all others. It takes no memory.
-    pub fn add(&mut self, number: u32, hash: u64, client: u32, value: T)
+    pub fn add(&mut self, number: u64, hash: u64, client: u32, value: T)
         requires room { 0 < self.old.room }
         requires newest { IsAbove number self.old.rows }
         ensures rows { self.new.rows ≡ self.old.rows ++ (record {
-            number = number; hash = hash; client = client; value = value }) ∷ [] }
+          number = number;
+          hash = hash;
+          client = client;
+          value = value;
+        }) ∷ [] }
         ensures room { self.old.room ≡ self.new.room + 1 }
     {
         self.room -= 1;
@@ -173,7 +177,7 @@ impl<T> Rows<T> {
     }
 
     /// Removes the row with this number, and answers what it was.
-    pub fn remove(&mut self, number: u32) -> Option<T>
+    pub fn remove(&mut self, number: u64) -> Option<T>
         ensures value { result ≡ value_in (find (is_numbered number) self.old.rows) }
         ensures rows { self.new.rows ≡ without (is_numbered number) self.old.rows }
         ensures room { self.new.room ≡ self.old.room }
@@ -185,16 +189,18 @@ impl<T> Rows<T> {
         Some(value)
     }
 
-    /// Removes the rows of this client.
-    pub fn remove_client(&mut self, client: u32)
+    /// Removes the rows of this client that pass the test. It looks at no row of another client.
+    pub fn remove_of_client<F: Fn(&T) -> bool>(&mut self, client: u32, test: F)
     where
         T: Drop,
-        ensures rows { self.new.rows ≡ without (is_of_client client) self.old.rows }
+        requires { F.IsAlwaysCallable test }
+        ensures rows { (p : T → Bool) → AnswersAs F.Fn test p
+            → self.new.rows ≡ without (is_of_client client p) self.old.rows }
         ensures room { self.new.room ≡ self.old.room }
     {
         for at in 0..self.places.len() {
             let place = self.places[at];
-            if !place.gone && place.client == client {
+            if has_row_of(&self.slab, place, client, &test) {
                 let _value = take(&mut self.slab, &mut self.places, &mut self.index, at);
             }
         }
@@ -203,17 +209,18 @@ impl<T> Rows<T> {
     }
 }
 
-ghost use Rattle.std.specs.Prelude.{List, ℕ, Some, false, true};
+ghost use Rattle.std.specs.Prelude.{List, ℕ, None, Some, false, true};
 ghost use Rattle.indexmap.specs.IndexMap.{spare};
 ghost use Rattle.nfs_rows.specs.declared.place.Place.{Place};
-ghost use Rattle.nfs_rows.specs.Places.{AreKept, HasRoom, HasRow, HasRowAt, IsIndexed, kept, marked, number_at, rows_at};
+ghost use Rattle.nfs_rows.specs.Places.{AreKept, HasRoom, HasRow, HasRowAt, IsIndexed, has_row, kept, key_at, marked, number_at, rows_at};
+ghost use Rattle.slab.specs.Slab.{Updates};
 ghost use Rattle.std.specs.List.{AllByRecursion};
 
 // Takes the row out that is at this place, and leaves a mark.
 fn take<T>(
     slab: &mut Slab<T>,
     places: &mut Vec<Place>,
-    index: &mut IndexMap<u64, u32>,
+    index: &mut IndexMap<u64, u64>,
     at: usize,
 ) -> T
     requires kept { AreKept slab.old places.old.items index.old true }
@@ -226,6 +233,7 @@ fn take<T>(
         (rows_at slab.old places.old.items) }
     ensures value { value_in (find (is_numbered (number_at at places.old.items))
         (rows_at slab.old places.old.items)) ≡ Some result }
+    ensures updates { Updates slab.old slab.new (key_at at places.old.items) None }
     ensures room { (room : ℕ) → HasRoom slab.old places.old index.old room
         → HasRoom slab.new places.new index.new room }
 {
@@ -234,9 +242,25 @@ fn take<T>(
     slab.remove(place.key)
 }
 
+// Whether a row of the client that passes the test is at this place.
+fn has_row_of<T, F: Fn(&T) -> bool>(slab: &Slab<T>, place: Place, client: u32, test: &F) -> bool
+    requires { F.IsAlwaysCallable test.now }
+    ensures there { result ≡ true → place.gone ≡ false }
+    ensures passes { (p : T → Bool) → AnswersAs F.Fn test.now p
+        → result ≡ has_row (is_of_client client p) slab.now place }
+{
+    if place.gone || place.client != client {
+        return false;
+    }
+    match slab.get(place.key) {
+        Some(value) => test(value),
+        None => false,
+    }
+}
+
 // Whether look-ups by hash have to look at each row, where this was so before, and there are so many rows. Without rows the
 // index begins anew.
-fn stay_clashed(index: &mut IndexMap<u64, u32>, clashed: bool, rows: usize) -> bool
+fn stay_clashed(index: &mut IndexMap<u64, u64>, clashed: bool, rows: usize) -> bool
     ensures indexed { (places : List Place) → length places ≡ rows
         → (clashed ≡ false → IsIndexed index.old places)
         → result ≡ false → IsIndexed index.new places }
@@ -255,7 +279,7 @@ fn named_among<'a, T, F: Fn(&T) -> bool>(
     places: &[Place],
     hash: u64,
     test: F,
-) -> Option<(u32, &'a T)>
+) -> Option<(u64, &'a T)>
     requires callable { F.IsAlwaysCallable test }
     requires there { AllByRecursion (HasRow slab.now) (kept places.now) }
     ensures { (p : T → Bool) → AnswersAs F.Fn test p

@@ -1,8 +1,8 @@
-use Rattle.std.proofs.Common.{◌≡◌, ◌∙◌, ◌∷◌, ◌++◌, ◌<◌, ◌-◌, [], Some, length, slice_get, List, rules, not, take, ap, arith, filter, subst, sym, vec_len}
+use Rattle.std.proofs.Common.{◌≡◌, ◌∙◌, ◌∷◌, ◌++◌, ◌<◌, ◌-◌, [], Some, length, slice_get, List, rules, not, take, ap, arith, subst, sym, vec_len}
 use Rattle.std.proofs.lemmas.Fn.{filter_same}
 use Rattle.nfs_rows.specs.Places.{EndsKept, NumbersRise, kept}
 use Rattle.nfs_rows.specs.declared.place.Place.{Place}
-use Rattle.nfs_rows.proofs.Each.{passes_filter, so_filter, so_front}
+use Rattle.nfs_rows.proofs.Each.{passes_filter, so_front}
 use Rattle.nfs_rows.proofs.Marks.{ends_all, ends_push, kept_kept, kept_pop, last_is, rise_kept}
 use Rattle.nfs_rows.proofs.place.drop_marks.Goals as goal
 

@@ -1,4 +1,4 @@
-use Rattle.std.proofs.Common.{arith, ap, ◌∙◌, ◌≢◌, ◌≡◌, ℕ, ◌<◌, List, length, get_or, sym, true, false}
+use Rattle.std.proofs.Common.{arith, ap, ◌∙◌, ◌≡◌, ℕ, ◌<◌, List, length, get_or, sym, true, false}
 use Rattle.nfs_rows.specs.declared.place.Place.{Place}
 use Rattle.nfs_rows.proofs.Each.{any_default}
 use Rattle.nfs_rows.proofs.Marks.{none_kept, other_at_point}

@@ -1,7 +1,5 @@
-use Rattle.std.proofs.Common.{◌≡◌, ◌∙◌, ap, arith, find, false, get_or, refl, sym, drop}
-use Rattle.std.proofs.lemmas.List.{drop_all}
-use Rattle.nfs_rows.specs.Rows.{is_named, pair_in}
-use Rattle.nfs_rows.specs.Places.{rows_at}
+use Rattle.std.proofs.Common.{◌∙◌, ap, false, get_or, sym}
+use Rattle.nfs_rows.specs.Rows.{pair_in}
 use Rattle.nfs_rows.specs.declared.place.Place.{Place}
 use Rattle.nfs_rows.proofs.Shown.{named_no, named_yes, walk_found, walk_none, walk_past}
 use Rattle.nfs_rows.proofs.rows.named_among.Goals as goal

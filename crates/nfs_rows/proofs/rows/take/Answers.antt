@@ -1,4 +1,7 @@
-use Rattle.std.proofs.Common.{◌∙◌, IsSome, arith, ap, refl, subst, sym}
+use Rattle.std.proofs.Common.{◌∙◌, None, IsSome, arith, ap, refl, subst, sym}
+use Rattle.slab.specs.Slab.{Updates}
+use Rattle.nfs_rows.specs.declared.place.Place.{Place}
+use Rattle.nfs_rows.proofs.Marks.{key_is}
 use Rattle.nfs_rows.specs.Places.{AreKept, rows_at}
 use Rattle.nfs_rows.proofs.Shown.{taken_found, taken_kept, taken_rows, taken_value}
 use Rattle.nfs_rows.proofs.rows.take.Goals as goal
@@ -30,3 +33,9 @@ returns-clause-room g c = λ room has. record {
   in_places = omega (arith, has.in_places, c.mark-place.ensures.len, c.mark-place.ensures.capacity);
   in_index = omega (arith, has.in_index, c.swap_remove.ensures.room.0);
 }
+
+pub returns-clause-updates : goal.returns-clause-updates
+returns-clause-updates g c =
+    subst (λ key. Updates c.args.slab.now c.remove.new.self key None)
+    (sym (key_is c.args.places.now.items c.args.at c.mark-place.result c.requires.there.0 ∙ ap (λ (p : Place). p.key) (c.mark-place.ensures.was c.mark-place.result)))
+    c.remove.ensures.updates

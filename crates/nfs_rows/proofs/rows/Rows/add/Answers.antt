@@ -1,8 +1,8 @@
-use Rattle.std.proofs.Common.{◌≡◌, ◌∙◌, ◌∷◌, ◌++◌, ◌<◌, [], Bool, true, false, None, Some, ap, arith, refl, subst, sym}
+use Rattle.std.proofs.Common.{◌≡◌, ◌∙◌, ◌∷◌, ◌++◌, ◌<◌, [], true, false, None, ap, arith, refl, subst, sym}
 use Rattle.std.specs.Prelude.{nat_eq}
 use Rattle.indexmap.specs.IndexMap as maps
 use Rattle.nfs_rows.specs.Rows.{IsAbove, Row, RoomyRows}
-use Rattle.nfs_rows.specs.Places.{AreKept, EndsKept, HasRoom, IsIndexed, kept, rows_at}
+use Rattle.nfs_rows.specs.Places.{AreKept, EndsKept, kept, rows_at}
 use Rattle.nfs_rows.specs.declared.place.Place.{Place}
 use Rattle.nfs_rows.proofs.Leading.{indexed_more}
 use Rattle.nfs_rows.proofs.Marks.{ends_push}
@@ -25,8 +25,8 @@ invariant_of-self g c =
     let none : maps.get nat_eq c.self.inside.index c.args.hash ≡ None = sym c.in-Ok-None.ensures.old ∙ c.in-Ok-None.field-0-is in
     let some : 0 < c.self.inside.room = subst (λ (r : RoomyRows g.row.T.Denot). 0 < r.room) (sym c.self.view_is) c.requires.room in (
       subst (λ xs. AreKept new xs c.insert.new.self c.self.inside.clashed) (sym c.push_reserved.ensures.items)
-      (added_kept old new ps place c.args.value refl filled.updates filled.was_vacant c.self.inside.index c.insert.new.self c.self.inside.clashed c.self.inside.clashed are c.self.invariant.1 above filled.len
-      (λ clean. indexed_more c.self.inside.index c.insert.new.self (kept ps) place (are.indexed clean) none c.in-Ok-None.ensures.updates)),
+          (added_kept old new ps place c.args.value refl filled.updates filled.was_vacant c.self.inside.index c.insert.new.self c.self.inside.clashed c.self.inside.clashed are c.self.invariant.1 above filled.len
+          (λ clean. indexed_more c.self.inside.index c.insert.new.self (kept ps) place (are.indexed clean) none c.in-Ok-None.ensures.updates)),
       subst EndsKept (sym c.push_reserved.ensures.items) (ends_push ps place refl),
       record {
         in_slab = omega (arith, room.in_slab, filled.len, filled.capacity, some);
@@ -47,8 +47,8 @@ invariant_of-self-in_default g c =
     let above : IsAbove c.args.number (rows_at old ps) = subst (λ (r : RoomyRows g.row.T.Denot). IsAbove c.args.number r.rows) (sym c.self.view_is) c.requires.newest in
     let some : 0 < c.self.inside.room = subst (λ (r : RoomyRows g.row.T.Denot). 0 < r.room) (sym c.self.view_is) c.requires.room in (
       subst (λ xs. AreKept new xs c.insert.new.self true) (sym c.push_reserved.ensures.items)
-      (added_kept old new ps place c.args.value refl filled.updates filled.was_vacant c.self.inside.index c.insert.new.self c.self.inside.clashed true are c.self.invariant.1 above filled.len
-      (λ clean. absurd (no_true clean))),
+          (added_kept old new ps place c.args.value refl filled.updates filled.was_vacant c.self.inside.index c.insert.new.self c.self.inside.clashed true are c.self.invariant.1 above filled.len
+          (λ clean. absurd (no_true clean))),
       subst EndsKept (sym c.push_reserved.ensures.items) (ends_push ps place refl),
       record {
         in_slab = omega (arith, room.in_slab, filled.len, filled.capacity, some);

@@ -1,8 +1,6 @@
-use Rattle.std.proofs.Common.{◌∙◌, ◌≡◌, None, Some, ap, find, option_copied, subst, sym}
-use Rattle.slab.specs.Slab.{get}
+use Rattle.std.proofs.Common.{◌∙◌, None, Some, ap, find, option_copied, subst, sym}
 use Rattle.nfs_rows.specs.Rows.{RoomyRows, is_numbered, value_in}
 use Rattle.nfs_rows.specs.Places.{IsPlaceOf}
-use Rattle.nfs_rows.specs.declared.place.Place.{Place}
 use Rattle.nfs_rows.proofs.Shown.{none_found, one_found}
 use Rattle.nfs_rows.proofs.rows.Rows.find.Goals as goal
 

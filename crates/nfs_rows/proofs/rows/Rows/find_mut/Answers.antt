@@ -1,9 +1,7 @@
-use Rattle.std.proofs.Common.{◌∙◌, ◌≡◌, None, Some, ap, find, option_copied, inr, subst, sym, refl}
+use Rattle.std.proofs.Common.{◌∙◌, None, Some, ap, find, inr, subst, sym}
 use Rattle.std.specs.Option.{option_copied_mut}
-use Rattle.slab.specs.Slab.{get}
 use Rattle.nfs_rows.specs.Rows.{RoomyRows, is_numbered, value_in, with_value}
 use Rattle.nfs_rows.specs.Places.{IsPlaceOf}
-use Rattle.nfs_rows.specs.declared.place.Place.{Place}
 use Rattle.nfs_rows.proofs.Lending.{same_end}
 use Rattle.nfs_rows.proofs.Shown.{kept_changed, none_found, one_found, room_changed, rows_changed}
 use Rattle.nfs_rows.proofs.rows.Rows.find_mut.Goals as goal
@@ -47,9 +45,9 @@ returns g c =
     let are = c.self.invariant.0 in
     let found : IsPlaceOf c.args.number ps (Some at) = subst (λ xs. IsPlaceOf c.args.number xs (Some at)) c.deref.ensures.value c.in_ok-at.ensures in (
       same_end _ _ _ _ _
-      (λ w. ap (λ rows. record { rows = rows; room = c.self.inside.room }) (rows_changed slab c.self.inside.index c.self.inside.clashed c.args.number ps at place are found c.index.ensures w)
-      ∙ ap (λ (r : RoomyRows g.row.T.Denot). record { rows = with_value c.args.number w r.rows; room = r.room }) c.self.view_is)
-      c.self.view_is,
+          (λ w. ap (λ rows. record { rows = rows; room = c.self.inside.room }) (rows_changed slab c.self.inside.index c.self.inside.clashed c.args.number ps at place are found c.index.ensures w)
+          ∙ ap (λ (r : RoomyRows g.row.T.Denot). record { rows = with_value c.args.number w r.rows; room = r.room }) c.self.view_is)
+          c.self.view_is,
       record {
         lends = tt;
         value = c.get_mut.ensures.value

@@ -1,7 +1,5 @@
-use Rattle.std.proofs.Common.{◌≡◌, ◌∙◌, Bool, true, false, cond, None, Some, ap, find, refl, subst, sym}
-use Rattle.std.specs.Prelude.{nat_eq}
-use Rattle.indexmap.specs.IndexMap as maps
-use Rattle.nfs_rows.specs.Rows.{Row, RoomyRows, is_named, is_numbered, pair_in, pair_seen, value_in}
+use Rattle.std.proofs.Common.{◌∙◌, ap, find, subst, sym}
+use Rattle.nfs_rows.specs.Rows.{RoomyRows, is_named, pair_in, pair_seen}
 use Rattle.nfs_rows.specs.Places.{AreKept}
 use Rattle.nfs_rows.proofs.Shown.{Sole, none_named, sole, sole_fails, sole_passes, sole_there}
 use Rattle.nfs_rows.proofs.rows.Rows.find_named.Goals as goal

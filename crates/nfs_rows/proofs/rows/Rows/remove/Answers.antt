@@ -1,8 +1,6 @@
-use Rattle.std.proofs.Common.{◌≡◌, ◌∙◌, ◌<◌, None, Some, true, ap, arith, find, length, refl, subst, sym}
+use Rattle.std.proofs.Common.{◌∙◌, None, Some, ap, arith, find, subst, sym}
 use Rattle.nfs_rows.specs.Rows.{RoomyRows, is_numbered, value_in, without}
-use Rattle.nfs_rows.specs.Places.{AreKept, HasRoom, HasRowAt, IsPlaceOf, NumbersRise, kept, number_at, rows_at, rows_of}
-use Rattle.nfs_rows.specs.declared.place.Place.{Place}
-use Rattle.nfs_rows.proofs.Each.{drop_none}
+use Rattle.nfs_rows.specs.Places.{IsPlaceOf, NumbersRise, kept, rows_at, rows_of}
 use Rattle.nfs_rows.proofs.Marks.{no_place, rise_marked}
 use Rattle.nfs_rows.proofs.Shown.{kept_dropped, none_found, none_gone, number_found}
 use Rattle.nfs_rows.proofs.rows.Rows.remove.Goals as goal
@@ -32,8 +30,8 @@ invariant_of-self g c =
     let room = c.take-value.ensures.room c.self.inside.room c.self.invariant.2 in
     let dropped = c.drop_marks.ensures in (
       kept_dropped c.take-value.new.slab c.take-value.new.index c.stay_clashed-self-inside.new.index c.self.inside.clashed c.stay_clashed-self-inside.result
-      c.take-value.new.places.items c.drop_marks.new.places.items taken dropped.kept dropped.rise
-      (c.stay_clashed-self-inside.ensures.indexed (kept c.take-value.new.places.items) (sym taken.all ∙ sym c.len-2.ensures)),
+          c.take-value.new.places.items c.drop_marks.new.places.items taken dropped.kept dropped.rise
+          (c.stay_clashed-self-inside.ensures.indexed (kept c.take-value.new.places.items) (sym taken.all ∙ sym c.len-2.ensures)),
       dropped.ends,
       record {
         in_slab = room.in_slab;
