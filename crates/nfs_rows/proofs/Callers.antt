@@ -2,7 +2,7 @@
 use Rattle.std.proofs.Common.{◌≡◌, ℕ, ◌<◌, ◌≤◌, Bool, true, false, not, cond, ◌&&◌, List, [], ◌∷◌, filter, find, map, option_map, Option, Some, None, refl, sym, ap, subst, ◌∙◌, arith}
 use Rattle.std.specs.List.{AllByRecursion}
 use Rattle.std.proofs.lemmas.Bool.{eqb-true, eqb-false, false_from_ne_true, true_from_ne_false}
-use Rattle.nfs_rows.specs.Rows.{IsAbove, Row, StandInOrder, StandSo, is_named, is_numbered, is_of_client, newest_of, pair_in, value_in, with_value, without}
+use Rattle.nfs_rows.specs.Rows.{IsAbove, Row, StandInOrder, StandSo, is_named, is_numbered, is_of_client, newest_of, pair_in, pair_of, value_in, with_value, without}
 use Rattle.nfs_rows.proofs.Each.{all_both, all_filter, all_weaken, change_none}
 
 module _ {V W : Type 0} (seen : Row V → W) where
@@ -103,6 +103,11 @@ module _ {V : Type 0} where
       by : (r : Row V) (a b : Bool) → a ≡ b → (cond a (record r { value = change r.value }) r).value ≡ cond b (change r.value) r.value
       by r true b is = ap (λ b. cond b (change r.value) r.value) is
       by r false b is = ap (λ b. cond b (change r.value) r.value) is
+
+  -- what a walk shows, without the numbers
+  pub values_shown : (rows : List (Row V)) → map (λ (f : ℕ × V). f.1) (map pair_of rows) ≡ map (λ r. r.value) rows
+  values_shown [] = refl
+  values_shown (r ∷ rows) = ap (λ vs. r.value ∷ vs) (values_shown rows)
 
   -- where only rows with a hash pass a test, the hash says no more than the test; and so with a client
 
