@@ -14,4 +14,6 @@ mod ranges;
 #[cfg(test)]
 mod renewing;
 #[cfg(test)]
+mod seeds;
+#[cfg(test)]
 mod sweeps;
