@@ -8,6 +8,7 @@ use std::random::RandomSource;
 use std::test::Fail;
 
 // What gives bytes so many times.
+#[derive(Drop)]
 struct Source {
     times: Cell<u32>,
 }
