@@ -14,6 +14,7 @@ use crate::{FirstLock, LockState, Report};
 use nfs_forms::{ClientId, LockOwner, Stateid};
 use nfs_ranges::{Mode, Piece, Range, Ranges};
 use std::alloc::{AllocError, Global};
+use std::hash::RandomState;
 use std::marker::Model;
 
 /// The lock states of a file, in the order in which they began.
@@ -42,9 +43,10 @@ impl Model for FileLocks {
 
 impl FileLocks {
     /// A file without lock states, taking no memory.
-    pub fn new(alloc: Global) -> FileLocks
+    pub fn new(alloc: Global, names: RandomState) -> FileLocks
         ensures { result.states ≡ [] }
     {
+        let _ = names;
         FileLocks {
             states: Vec::new(alloc),
             spare: None,

@@ -14,6 +14,7 @@ pub use client_change::ClientChange;
 use nfs_operations::setclientid_confirm::SetclientidConfirm;
 use nfs_xdr::ClientId;
 use std::alloc::{AllocError, Global};
+use std::hash::RandomState;
 use std::marker::Model;
 
 /// The clients' confirmed and unconfirmed records, each in the order in which they were added, and the numbers that were
@@ -63,9 +64,10 @@ impl Clients {
     ghost use Rattle.nfs_owners.specs.Registry.{AreRecords, client_seen, confirmed_named_by, confirmed_of, is_live, no_clients, record_of, record_state, unconfirmed_named_by, was_given, without_client};
 
     /// A registry without clients, taking no memory.
-    pub fn new(alloc: Global) -> Clients
+    pub fn new(alloc: Global, ids: RandomState) -> Clients
         ensures { result.registry ≡ no_clients }
     {
+        let _ = ids;
         Clients {
             confirmed: Vec::new(alloc),
             unconfirmed: Vec::new(alloc),

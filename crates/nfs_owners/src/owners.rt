@@ -13,6 +13,7 @@ use crate::{
 };
 use nfs_xdr::{ClientId, Op};
 use std::alloc::Global;
+use std::hash::RandomState;
 use std::marker::Model;
 
 /// The owners that the server knows, in the order in which they were recorded: at most `OWNER_LIMIT`, no two with one
@@ -39,9 +40,10 @@ impl Model for Owners {
 
 impl Owners {
     /// No owners, taking no memory.
-    pub fn new(alloc: Global) -> Owners
+    pub fn new(alloc: Global, names: RandomState) -> Owners
         ensures { result.owners ≡ [] }
     {
+        let _ = names;
         Owners {
             owners: Vec::new(alloc),
         }

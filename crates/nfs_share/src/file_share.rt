@@ -10,6 +10,7 @@ use crate::changes::{advance_each, downgrade_each, join_each, recall_each};
 use crate::{Delegation, DelegationKind, FileUse, Modes, OpenState, Share, ShareError};
 use nfs_forms::{ClientId, Moment, OpenOwner, Stateid};
 use std::alloc::{AllocError, Global};
+use std::hash::RandomState;
 use std::marker::Model;
 
 /// The opens of a file, each of which keeps others out by its share reservation (RFC 7530, section 9.9), and its
@@ -41,10 +42,11 @@ impl Model for FileShare {
 
 impl FileShare {
     /// A file without opens and delegations, taking no memory.
-    pub fn new(alloc: Global) -> FileShare
+    pub fn new(alloc: Global, names: RandomState) -> FileShare
         ensures opens { result.opens ≡ [] }
         ensures delegations { result.delegations ≡ [] }
     {
+        let _ = names;
         FileShare {
             opens: Vec::new(alloc),
             delegations: Vec::new(alloc),
