@@ -42,6 +42,9 @@ class Client:
     """The user with this number, who is known to the server by a name that has it, too, and has one open owner with one
     open, and one lock owner."""
 
+    # What it opens files for.
+    access = BOTH
+
     def __init__(self, peer, uid, epoch=1):
         self.peer, self.uid, self.epoch = peer, uid, epoch
         self.name, self.owner, self.locker = (word + b" %d" % uid for word in (b"client", b"owner", b"locker"))
@@ -101,7 +104,7 @@ class Client:
 
     def open_words(self, last):
         owner = self.clientid() + opaque(self.owner)
-        return words(OPEN, last, BOTH, NONE) + owner + words(0, 0) + opaque(FILES[self.file][-1])
+        return words(OPEN, last, self.access, NONE) + owner + words(0, 0) + opaque(FILES[self.file][-1])
 
     def first_lock_words(self, last):
         """By a lock owner that has no lock of the file yet."""

@@ -45,3 +45,17 @@ fn locks_and_unlocks(rt: HostRuntime) -> Result<(), Fail> {
     assert!(rt; ranges.first_conflict(span(90, 109), Mode::Read).is_none());
     Ok(())
 }
+
+/// Bytes 0 to 9 are locked for reading, 5 to 14 for writing, and 10 to 19 for reading; and then 5 to 9 for reading, so
+/// that all are one run.
+#[test]
+fn joins_runs_of_one_mode(rt: HostRuntime) -> Result<(), Fail> {
+    let mut ranges = Ranges::new(rt.alloc());
+    lock(&mut ranges, span(0, 9), Mode::Read)?;
+    lock(&mut ranges, span(5, 14), Mode::Write)?;
+    lock(&mut ranges, span(10, 19), Mode::Read)?;
+    assert!(rt; ranges.run_at(12) == Some((span(10, 19), Mode::Read)));
+    lock(&mut ranges, span(5, 9), Mode::Read)?;
+    assert!(rt; ranges.run_at(0) == Some((span(0, 19), Mode::Read)));
+    Ok(())
+}

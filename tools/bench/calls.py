@@ -1,0 +1,128 @@
+"""The calls that are counted beside what there is, each kind by a client that came after all others."""
+from collections import namedtuple
+
+from beside import STEP, be_known, lock_runs
+from client import BOTH, done, under
+from messages import CLOSE, NFS4_OK, RELEASE_LOCKOWNER, words
+from parties import ALL, FILE, NAME, OTHERS, TO_READ
+from told import Wrong
+
+# Made known by `messages`.
+from wire import Status, u64
+
+# A state's number that is never given; and a byte in the middle of 1,000 runs, that touches none.
+NO_STATE, MIDDLE = 0xFFFFFFF0, STEP * 500 + STEP // 2
+
+
+def nothing(party, scene):
+    pass
+
+
+def open_and_close(party, scene):
+    party.open_file(FILE)
+    party.close()
+
+
+def be_lent_it(party, scene):
+    """From here on its OPENs to read bring nothing more."""
+    be_known(party)
+    party.borrow_and_close(NAME)
+    party.access = TO_READ
+
+
+def open_it(party, scene):
+    party.open_file(FILE)
+
+
+def hold_runs(party, scene):
+    """The runs that whoever is measured is to hold."""
+    party.open_file(FILE)
+    if scene.own_runs:
+        lock_runs(party, scene.own_runs)
+
+
+def hold_a_lock_state(party, scene):
+    """With these runs, or none."""
+    hold_runs(party, scene)
+    if not scene.own_runs:
+        party.lock_as(party.locker, MIDDLE)
+        party.unlock_byte(MIDDLE)
+
+
+def lock_and_unlock(party, scene):
+    party.lock_byte(MIDDLE)
+    party.unlock_byte(MIDDLE)
+
+
+def test(party, scene):
+    party.test(u64(MIDDLE) + u64(1))
+
+
+def test_all(party, scene):
+    party.test(ALL)
+
+
+def read(party, scene):
+    party.read()
+
+
+def introduce_again(party, scene):
+    party.arrive()
+
+
+def close_once(party, scene):
+    party.open_file(FILE)
+    party.closing = party.close_words(party.last + 1)
+    party.close()
+
+
+def close_again(party, scene):
+    party.want(*under(FILE, party.closing, done(CLOSE, party.open_stateid())))
+
+
+def close_nothing(party, scene):
+    party.refuse(Status.BAD_STATEID, words(CLOSE, party.last + 1) + party.stateid(NO_STATE, 1))
+
+
+def reopen_oldest(party, scene):
+    owner = scene.openers.popleft()
+    owner.close()
+    owner.open_it(NAME)
+    scene.openers.append(owner)
+
+
+def release_oldest(party, scene):
+    owner, locker = scene.idle.popleft()
+    owner.locker = locker
+    owner.want((owner.release_words(), done(RELEASE_LOCKOWNER)))
+
+
+def open_for_writing(party, scene):
+    """Another file each time, of which all that is lent is called back."""
+    party.turn = getattr(party, "turn", -1) + 1
+    status = party.open_by_name(OTHERS[party.turn], BOTH).status
+    if status != (Status.DELAY if scene.lenders else NFS4_OK):
+        raise Wrong(f"an OPEN gets status {status}")
+
+
+# In words; what is done once, and then again and again; how many calls that is; how often it is done, uncounted and
+# counted; and what has to be there.
+Kind = namedtuple("Kind", "what begin again calls before times alone", defaults=[""])
+KINDS = {
+    "OPEN+CLOSE": Kind("for reading and writing", open_and_close, open_and_close, 2, 50, 250),
+    "OPEN+CLOSE-to-read": Kind("for reading, by a client that is lent the file", be_lent_it, open_and_close,
+                               2, 50, 250),
+    "LOCK+LOCKU": Kind("of a byte, of which the lock state holds no neighbour", hold_a_lock_state, lock_and_unlock,
+                       2, 50, 250),
+    "LOCKT": Kind("of a byte, for reading", hold_runs, test, 1, 50, 500),
+    "LOCKT-of-all": Kind("of all bytes, for reading", open_it, test_all, 1, 2, 20),
+    "READ": Kind("of 4 KiB, by an open's stateid", open_it, read, 1, 50, 500),
+    "SETCLIENTID+CONFIRM": Kind("of one id, by the same verifier", nothing, introduce_again, 2, 50, 250),
+    "CLOSE-again": Kind("one that was answered OK comes again", close_once, close_again, 1, 50, 500),
+    "CLOSE-of-nothing": Kind("by the number of no state", close_once, close_nothing, 1, 50, 500),
+    "oldest-CLOSE+OPEN": Kind("each time by the owner of the oldest open of the file", nothing, reopen_oldest,
+                              2, 50, 250, "opens=1"),
+    "oldest-RELEASE_LOCKOWNER": Kind("each time of the oldest lock owner", nothing, release_oldest, 1, 10, 50,
+                                     "idle=60"),
+    "OPEN-that-calls-back": Kind("for writing, each time of another file, of which all that is lent is called back",
+                                 open_and_close, open_for_writing, 1, 1, 8)}

@@ -1,0 +1,146 @@
+"""Counts instructions of calls that come after others, by valgrind's callgrind."""
+import os
+import re
+import subprocess
+import tempfile
+import time
+
+from beside import Scene, read_besides
+from calls import KINDS
+from messages import split
+from parties import TREE
+from told import Wrong
+
+# The seconds that what is sent may take under valgrind.
+PATIENCE = 3600
+
+
+class Process:
+    """A process that is gone in the end, however it comes to that."""
+
+    def __init__(self, words, **streams):
+        self.program = subprocess.Popen(words, stdin=subprocess.PIPE, **streams)
+
+    def __enter__(self):
+        return self
+
+    def __exit__(self, *_):
+        if self.program.poll() is None:
+            self.program.kill()
+            self.program.wait()
+        for stream in self.program.stdin, self.program.stdout:
+            if stream is not None:
+                stream.close()
+
+    def end(self):
+        """By the end of its input."""
+        self.program.stdin.close()
+        if (status := self.program.wait(PATIENCE)) != 0:
+            raise Wrong(f"{self.program.args[0]} ends with status {status}")
+
+
+class Conversation(Process):
+    """`nfs4state once` as a peer. It keeps what is sent and received, in the parts between the marks."""
+
+    def __init__(self, program, tree):
+        super().__init__([program, "once", "--tree", tree], stdout=subprocess.PIPE, bufsize=0)
+        self.rest, self.parts = b"", [([], [])]
+
+    def send(self, data):
+        self.parts[-1][0].append(data)
+        self.program.stdin.write(data)
+
+    def receive(self):
+        while not (found := split(self.rest)[0]):
+            if not (more := self.program.stdout.read(1 << 18)):
+                raise Wrong("once ends")
+            self.rest += more
+        self.rest = self.rest[len(found[0]):]
+        self.parts[-1][1].append(found[0])
+        return found[0]
+
+    def mark(self):
+        self.parts.append(([], []))
+
+    def joined(self):
+        """The bytes of each part, of both sides."""
+        return [tuple(b"".join(side) for side in part) for part in self.parts]
+
+
+def spoken(program, tree, beside, names):
+    """The parts of a conversation: for each call what comes before it, and then the call again and again."""
+    with Conversation(program, tree) as conversation:
+        scene = Scene(conversation)
+        for make, numbers in read_besides(beside):
+            make(scene, *numbers)
+        for name in names:
+            kind, party = KINDS[name], scene.come()
+            kind.begin(party, scene)
+            for times in kind.before, kind.times:
+                for _ in range(times):
+                    kind.again(party, scene)
+                conversation.mark()
+        conversation.end()
+        return conversation.joined()
+
+
+class Counted(Process):
+    """`nfs4state once` under callgrind, which counts only what is to be counted: so the rest takes less time."""
+
+    def __init__(self, program, tree, room):
+        self.room, self.replies, self.answered, self.count = room, os.path.join(room, "replies"), 0, 0
+        words = ["valgrind", "--tool=callgrind", "--instr-atstart=no", f"--callgrind-out-file={room}/counts",
+                 f"--log-file={room}/log", program, "once", "--tree", tree]
+        with open(self.replies, "wb") as replies:
+            super().__init__(words, stdout=replies)
+
+    def say(self, sent, received):
+        """Until all of it is answered."""
+        self.program.stdin.write(sent)
+        self.program.stdin.flush()
+        self.answered += len(received)
+        until = time.monotonic() + PATIENCE
+        while (there := os.path.getsize(self.replies)) < self.answered:
+            if self.program.poll() is not None or time.monotonic() > until:
+                raise Wrong(f"of {self.answered} bytes of replies {there} come under valgrind")
+            time.sleep(0.005)
+
+    def command(self, *words):
+        """To callgrind."""
+        ran = subprocess.run(["vgdb", f"--pid={self.program.pid}", *words], capture_output=True, text=True)
+        if ran.returncode != 0:
+            raise Wrong(f"vgdb: {ran.stderr.strip()}")
+
+    def instructions(self, sent, received):
+        """How many this takes."""
+        self.command("instrumentation", "on")
+        self.say(sent, received)
+        self.command("dump")
+        self.command("instrumentation", "off")
+        self.count += 1
+        with open(f"{self.room}/counts.{self.count}", encoding="utf-8") as source:
+            return int(re.search(r"^totals: (\d+)", source.read(), re.MULTILINE)[1])
+
+    def expect(self, received):
+        """In all."""
+        with open(self.replies, "rb") as source:
+            if source.read() != received:
+                raise Wrong("under valgrind there are other replies")
+
+
+def counts(program, beside, names):
+    """The mean instructions of a call, for each of these."""
+    found = {}
+    with tempfile.TemporaryDirectory() as room:
+        tree = os.path.join(room, "tree.toml")
+        with open(tree, "w", encoding="utf-8") as file:
+            file.write(TREE)
+        parts = spoken(program, tree, beside, names)
+        with Counted(program, tree, room) as counted:
+            for place, name in enumerate(names):
+                counted.say(*parts[2 * place])
+                total = counted.instructions(*parts[2 * place + 1])
+                found[name] = total / (KINDS[name].calls * KINDS[name].times)
+            counted.end()
+            counted.expect(b"".join(received for _, received in parts))
+    return found

@@ -1,0 +1,78 @@
+"""Which calls are counted beside what for the table of `cost --table`, and the table."""
+import sys
+from collections import namedtuple
+
+from beside import spelled
+from calls import KINDS
+from counting import counts
+from table import markdown
+
+# Calls, counted in turn beside this; and how many times what they take alone they may take.
+Times = namedtuple("Times", "calls beside most", defaults=[None])
+# A call counted beside one and the other: what it takes more, by this number; and how much that may be.
+Each = namedtuple("Each", "call less more count most", defaults=[None])
+
+USUAL = "OPEN+CLOSE,LOCK+LOCKU,LOCKT,READ"
+ROWS = [
+    Times(f"{USUAL},SETCLIENTID+CONFIRM", "clients=250"),
+    Times(USUAL, "lenders=250"),
+    Times(USUAL, "clients=4000"),
+    Times("OPEN+CLOSE,CLOSE-again,CLOSE-of-nothing", "owners=10000"),
+    Times("LOCK+LOCKU", "locks=1000"),
+    Times("OPEN+CLOSE", "opens=10000"),
+    Times("OPEN+CLOSE-to-read", "readers=250"),
+    Times("LOCK+LOCKU", "own-runs=1000"),
+    Times("LOCKT", "own-runs=1000"),
+    Times("LOCKT", "runs=1000"),
+    Times("oldest-CLOSE+OPEN", "opens=10000"),
+    Times("oldest-RELEASE_LOCKOWNER", "idle=10000"),
+    Times("LOCKT-of-all", "read-runs=1000"),
+    Each("LOCK+LOCKU", "neighbours=1000", "neighbours=2000", 1000),
+    Each("LOCKT", "neighbours=1000", "neighbours=2000", 1000),
+    Each("OPEN-that-calls-back", "", "lenders=250x10", 250, 1200)]
+HEAD = ["Call", "Instructions", "Beside", "Instructions", "Times", "At most"]
+
+
+class Figures:
+    """What was counted so far."""
+
+    def __init__(self, program):
+        self.program, self.alone = program, {}
+
+    def counts(self, beside, names):
+        print(f"{','.join(names)} beside {spelled(beside)}", file=sys.stderr)
+        return counts(self.program, beside, names)
+
+    def of_one_alone(self, name):
+        if name not in self.alone:
+            self.alone[name] = self.counts(KINDS[name].alone, [name])[name]
+        return self.alone[name]
+
+    def times(self, row):
+        """A line for each call."""
+        alone = {name: self.of_one_alone(name) for name in row.calls.split(",")}
+        for name, count in self.counts(row.beside, list(alone)).items():
+            yield [name, number(alone[name]), spelled(row.beside), number(count), f"{count / alone[name]:.2f}",
+                   *bound(count / alone[name], row.most)]
+
+    def each(self, row):
+        less, more = (self.counts(beside, [row.call])[row.call] for beside in (row.less, row.more))
+        value = (more - less) / row.count
+        what = f"{spelled(row.more)}, less {spelled(row.less)}, by {row.count:,}"
+        yield [row.call, "", what, number(value), "", *bound(value, row.most)]
+
+    def lines(self):
+        for row in ROWS:
+            yield from self.times(row) if isinstance(row, Times) else self.each(row)
+
+
+def number(value):
+    return f"{value:,.0f}"
+
+
+def bound(value, most):
+    return [""] if most is None else [f"{most:,}" if value <= most else f"**{most:,}: missed**"]
+
+
+def table(program):
+    return markdown(HEAD, list(Figures(program).lines()))

@@ -1,0 +1,98 @@
+"""Clients whose owners are many, for what is measured beside what there is: in a tree of the file `a`, with a block of
+bytes, and of as many others as there may be. Each client is one that callbacks reach, and what is lent is lent to
+read."""
+import os
+import sys
+from copy import copy
+
+HERE = os.path.dirname(os.path.abspath(__file__))
+sys.path.insert(0, os.path.join(HERE, ".."))
+from callback_client import Borrower
+from callback_peers import callback_at
+from client import BOTH, done, under
+from messages import CLOSE, LOCK, LOCKT, LOCKU, NFS4_OK, READ, opaque, words
+from told import Wrong
+
+# Made known by `messages`.
+from wire import WRITE_LT, u64
+
+# The file that is measured, by its node, its name and its bytes; and the others.
+FILE, NAME, BLOCK = 1, b"a", b"x" * 4096
+OTHERS = [b"other %d" % number for number in range(63)]
+TREE = f"""[policy]
+delegations = "read"
+callbacks = "assume"
+
+[[file]]
+path = "{NAME.decode()}"
+text = "{BLOCK.decode()}"
+""" + "".join(f'\n[[file]]\npath = "{name.decode()}"\n' for name in OTHERS)
+# Where nobody listens.
+NOWHERE = callback_at(("127.0.0.1", 1000))
+# An access; and the span of all bytes.
+TO_READ, ALL = 1, u64(0) + u64(2**64 - 1)
+
+
+class Party(Borrower):
+    """A client by one of its owners: the others are copies. The first lock of a lock owner is of one byte."""
+
+    def __init__(self, peer, uid):
+        super().__init__(peer, uid)
+        self.byte = 0
+
+    def arrive(self):
+        self.introduce(NOWHERE)
+        return self
+
+    def beside(self, number):
+        """Another owner of the client, that isn't known yet."""
+        other = copy(self)
+        other.owner, other.last, other.is_confirmed, other.sent, other.got = b"owner %d" % number, 0, False, [], []
+        return other
+
+    def span(self, place=0):
+        return u64(self.byte + place) + u64(1)
+
+    def open_it(self, name, access=BOTH):
+        """The delegation that it brings, or None."""
+        status, delegation = self.open_by_name(name, access)
+        if status != NFS4_OK:
+            raise Wrong(f"user {self.uid} gets status {status} for OPEN")
+        self.is_confirmed = True
+        return delegation
+
+    def close(self):
+        self.sequenced(CLOSE, self.close_words(self.last + 1))
+
+    def borrow_and_close(self, name):
+        """Keeps a delegation and no open; the owner is confirmed."""
+        if self.open_it(name, TO_READ) is None:
+            raise Wrong(f"user {self.uid} is lent nothing")
+        self.close()
+
+    def owners(self, names):
+        """More owners, as they come, each with an open of one of these files."""
+        for number, name in enumerate(names):
+            owner = self.beside(number)
+            owner.open_it(name)
+            yield owner
+
+    def lock_as(self, locker, byte):
+        """A byte, to write, by a lock owner that is new."""
+        self.locker, self.lock_last, self.byte = locker, 0, byte
+        self.lock_first()
+
+    def lock_byte(self, byte, kind=WRITE_LT):
+        locker = words(0) + self.lock_stateid() + words(self.lock_last + 1)
+        self.lock_again(LOCK, words(LOCK, kind, 0) + u64(byte) + u64(1) + locker)
+
+    def unlock_byte(self, byte):
+        self.lock_again(LOCKU, words(LOCKU, WRITE_LT, self.lock_last + 1) + self.lock_stateid() + u64(byte) + u64(1))
+
+    def test(self, span):
+        """LOCKT to read, which meets nothing."""
+        self.want(*under(FILE, self.lockt_words(self.locker, span), done(LOCKT)))
+
+    def read(self):
+        operation = words(READ) + self.open_stateid() + u64(0) + words(len(BLOCK))
+        self.want(*under(FILE, operation, done(READ, words(1) + opaque(BLOCK))))
