@@ -1,5 +1,7 @@
 pub mod Locks
 pub mod StoredLocks
+pub mod Hashes
+pub mod KeptLocks
 pub mod AllLocks
 pub mod LockFound
 pub mod Report

@@ -13,6 +13,7 @@ use crate::{FirstLock, LockState, Report};
 use nfs_forms::{ClientId, LockOwner, Stateid};
 use nfs_ranges::{Mode, Piece, Range};
 use std::alloc::{AllocError, Global};
+use std::hash::RandomState;
 use std::marker::Model;
 
 /// The lock states of all files, by the numbers of their nodes. A node that there isn't has no lock states, and a change
@@ -42,13 +43,13 @@ impl Model for Locks {
 
 impl Locks {
     /// No lock states of any of these nodes.
-    pub fn new(alloc: Global, nodes: u32) -> Result<Locks, AllocError>
+    pub fn new(alloc: Global, nodes: u32, names: RandomState) -> Result<Locks, AllocError>
         ensures { IfOk result (λ locks. stored_in locks ≡ replicate nodes []) }
     {
         let mut files = Vec::new(alloc);
         files.reserve(nodes as usize)?;
         for _ in 0..nodes {
-            files.push_reserved(FileLocks::new(alloc));
+            files.push_reserved(FileLocks::new(alloc, names));
         }
         Ok(Locks { files })
     }
