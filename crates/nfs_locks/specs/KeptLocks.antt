@@ -1,7 +1,7 @@
 -- How the lock states of a file are kept: in rows that are found by number and by the keyed hash of their owner.
 use Rattle.std.specs.Prelude.{◌≡◌, ℕ, ◌+◌, ◌*◌, ◌<◌, ◌^◌, List, map}
 use Rattle.std.specs.List.{AllByRecursion}
-use Rattle.std.specs.declared.random_state.RandomState.{RandomState}
+use Rattle.std.specs.declared.hash.RandomState.{RandomState}
 use Rattle.nfs_forms.specs.declared.lock_owner.LockOwner.{LockOwner}
 use Rattle.nfs_locks.specs.Hashes.{hash_of}
 use Rattle.nfs_locks.specs.declared.lock_state.LockState.{LockState}

@@ -112,9 +112,7 @@ impl FileLocks {
     pub fn has_client(&self, client: ClientId) -> bool
         ensures { result ≡ list_any (λ l. is_lock_of_client client (lock_seen l)) self.now.states }
     {
-        self.states
-            .iter()
-            .any(|(_, state)| state.is_of_client(client))
+        self.states.iter().any(|row| row.1.is_of_client(client))
     }
 
     /// Whether this owner holds a byte.
@@ -167,10 +165,10 @@ impl FileLocks {
         ensures room { OnOk result (AllByRecursion (HasRangeRoom number) self.new.states) }
         ensures ready { AllByRecursion (HasRangeRoom number) self.old.states → IsOk result }
     {
-        match self.states.find_mut(u64::from(number)) {
-            Some(state) => reserve(&mut state.ranges),
-            None => Ok(()),
-        }
+        let Some(state) = self.states.find_mut(u64::from(number)) else {
+            return Ok(());
+        };
+        reserve(&mut state.ranges)
     }
 
     /// LOCK of an owner that has no lock state of the file: makes one with this number, which has to be above those of

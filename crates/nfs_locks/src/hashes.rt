@@ -3,12 +3,16 @@ ghost use Rattle.nfs_locks.specs.Hashes.{hash_of};
 
 use std::hash::{BuildHasher, Hasher, RandomState};
 
-/// The keyed hash of a name.
+/// A keyed hash of a name in a space of names, so that who chooses names can't make hashes meet. The space is a number and
+/// a kind.
 #[tactic(auto, unfolding(crate::specs::Hashes::hash_of))]
-pub(crate) fn hash_of(seed: RandomState, _space: u64, _kind: u8, name: &[u8]) -> u64
-    ensures { result ≡ hash_of seed _space _kind name.now }
+pub(crate) fn hash_of(seed: RandomState, space: u64, kind: u8, name: &[u8]) -> u64
+    ensures { result ≡ hash_of seed space kind name.now }
 {
+    let mut space_and_kind = [kind; 9];
+    space_and_kind[..8].copy_from_slice(&space.to_le_bytes());
     let mut hasher = seed.build_hasher();
+    hasher.write(&space_and_kind);
     hasher.write(name);
     hasher.finish()
 }

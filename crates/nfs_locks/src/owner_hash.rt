@@ -1,4 +1,4 @@
-ghost use Rattle.std.specs.Prelude.{◌≡◌};
+ghost use Rattle.std.specs.Prelude.{◌≡◌, ◌+◌, ◌*◌, ◌^◌};
 ghost use Rattle.nfs_locks.specs.KeptLocks.{owner_hash};
 
 use crate::hashes::hash_of;
@@ -9,6 +9,13 @@ use std::hash::RandomState;
 pub(crate) fn owner_hash(names: RandomState, owner: &LockOwner) -> u64
     ensures { result ≡ owner_hash names owner.now }
 {
-    let client = u64::from(owner.client.epoch) * (1 << 32) + u64::from(owner.client.number);
+    let client = client_number(owner.client.epoch, owner.client.number);
     hash_of(names, client, 0, owner.name.as_slice())
+}
+
+// The number of the clientid of these two parts.
+fn client_number(epoch: u32, number: u32) -> u64
+    ensures { result ≡ epoch * 2 ^ 32 + number }
+{
+    u64::from(epoch) * 0x1_0000_0000 + u64::from(number)
 }

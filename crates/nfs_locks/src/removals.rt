@@ -1,5 +1,4 @@
-ghost use Rattle.std.specs.Prelude.{◌≡◌, ℕ, Bool, find, length, option_map};
-ghost use Rattle.std.specs.List.{AllByRecursion};
+ghost use Rattle.std.specs.Prelude.{◌≡◌, find, option_map};
 ghost use Rattle.nfs_locks.specs.KeptLocks.{AreOfClients};
 ghost use Rattle.nfs_locks.specs.Locks.{is_lock_of, is_under};
 ghost use Rattle.nfs_locks.specs.StoredLocks.{lock_seen};
@@ -15,7 +14,10 @@ pub(crate) fn remove_named(states: &mut Rows<LockState>, hash: u64, owner: &Lock
         ≡ without (is_named hash (λ l. is_lock_of owner.now (lock_seen l))) states.old.rows }
     ensures room { states.new.room ≡ states.old.room }
 {
-    while let Some(number) = number_of(states, hash, owner) {
+    'removing: loop {
+        let Some(number) = number_of(states, hash, owner) else {
+            return;
+        };
         states.remove(number);
     }
 }
@@ -40,7 +42,10 @@ pub(crate) fn remove_under(states: &mut Rows<LockState>, open_number: u32)
         ≡ without (λ r. is_under open_number (lock_seen r.value)) states.old.rows }
     ensures room { states.new.room ≡ states.old.room }
 {
-    while let Some(client) = client_under(states, open_number) {
+    'removing: loop {
+        let Some(client) = client_under(states, open_number) else {
+            return;
+        };
         states.remove_of_client(client, |state| state.open_number == open_number);
     }
 }
@@ -50,10 +55,8 @@ fn client_under(states: &Rows<LockState>, open_number: u32) -> Option<u32>
     ensures { result ≡ option_map (λ r. r.value.owner.client.number)
         (find (λ r. is_under open_number (lock_seen r.value)) states.now.rows) }
 {
-    for (_, state) in states.iter() {
-        if state.open_number == open_number {
-            return Some(state.owner.client.number);
-        }
+    match states.iter().find(|row| row.1.open_number == open_number) {
+        Some((_, state)) => Some(state.owner.client.number),
+        None => None,
     }
-    None
 }
