@@ -34,6 +34,6 @@ loop-state-preserved c =
 pub returns : goal.returns
 returns c =
     let rows = c.args.states.now.rows in
-    let all = YieldsList-end (YieldsList-from_first (λ (p : ℕ × Bor LockState). (p.0, p.1.now)) (λ rest. rest) (map pair_of rows) cc) c.loop-state.yielded _ c.loop-state.yielded_by _ _ c.in-None.is c.next.ensures.steps in
+    let all = YieldsList-end (YieldsList-from_first (λ (p : ℕ × Bor LockState). (p.0, p.1.now)) (λ rest. rest) (map pair_of rows) (c.into_iter-state-iterator.ensures.into_iter_gives ∙ c.iter-state-items.ensures)) c.loop-state.yielded _ c.loop-state.yielded_by _ _ c.in-None.is c.next.ensures.steps in
     subst (λ locks. IsMeeting locks c.args.owner.now c.args.range c.args.mode (option_map meeting_seen c.loop-state.first))
     (all_yielded c.loop-state.yielded rows all.0) c.loop-state.invariant
