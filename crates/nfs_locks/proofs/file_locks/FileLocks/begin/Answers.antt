@@ -1,4 +1,5 @@
-use Rattle.std.proofs.Common.{◌∙◌, [], ◌∷◌, ◌++◌, ap, subst, sym}
+use Rattle.std.proofs.Common.{◌≡◌, ◌∙◌, ◌<◌, [], ◌∷◌, ◌++◌, Option, ap, subst, sym}
+use Rattle.std.specs.Prelude.{IfSome}
 use Rattle.nfs_locks.specs.AllLocks.{HasLockRoom}
 use Rattle.nfs_locks.specs.KeptLocks.{AreRowsOf, IsRowOf, owner_hash, states_of}
 use Rattle.nfs_locks.specs.Locks.{ByteLocks, IsAbove, with_first_lock}
@@ -6,6 +7,7 @@ use Rattle.nfs_locks.specs.StoredLocks.{StoredLocks, locks_seen}
 use Rattle.nfs_locks.specs.declared.lock_state.LockState.{LockState}
 use Rattle.nfs_locks.proofs.Rowed.{above, states_append}
 use Rattle.nfs_locks.proofs.file_locks.FileLocks.begin.Goals as goal
+use Rattle.nfs_ranges.specs.RoomyRanges.{RoomyRanges}
 use Rattle.nfs_rows.specs.Rows.{Row}
 use Rattle.nfs_rows.proofs.Each.{all_append}
 
@@ -31,7 +33,7 @@ invariant_of-self c =
         },
         tt,
       )),
-      tt,
+      subst (λ (spare : Option RoomyRanges). IfSome spare (λ r. (r.pieces ≡ []) × (0 < r.room))) (sym c.take.ensures.after) tt,
     )
 
 pub returns-in-Some : goal.returns-in-Some

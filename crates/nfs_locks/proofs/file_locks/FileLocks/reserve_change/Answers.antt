@@ -8,12 +8,11 @@ use Rattle.nfs_locks.proofs.file_locks.FileLocks.reserve_change.Goals as goal
 
 pub returns-in_default-clause-room : goal.returns-in_default-clause-room
 returns-in_default-clause-room c =
-    subst (λ (f : StoredLocks). AllByRecursion (HasRangeRoom c.args.number) f.states) c.self.view_is
-    (room_of_none c.args.number (states_of c.self.inside.states.rows)
-    (sym (c.in_default.ensures.value ∙ found_in c.self.inside.names c.args.number c.from.result c.self.inside.states.rows c.self.invariant.0 c.from.ensures)))
+    room_of_none c.args.number (states_of c.self.inside.states.rows)
+    (sym (c.in_default.ensures.value ∙ found_in c.self.inside.names c.args.number c.from.result c.self.inside.states.rows c.self.invariant.0 c.from.ensures))
 
-pub invariant_of-self : goal.invariant_of-self
-invariant_of-self c = (
+pub invariant_of-self-2 : goal.invariant_of-self-2
+invariant_of-self-2 c = (
   rows_set c.self.inside.names c.args.number c.from.result c.in-Some.state.now (record c.in-Some.state.now { ranges = c.reserve.new.ranges }) c.self.inside.states.rows c.self.invariant.0 c.from.ensures c.in-Some.ensures.order c.in-Some.ensures.value refl refl,
   c.self.invariant.1,
 )
