@@ -2,9 +2,11 @@
 #![tactic(auto)]
 
 mod iter;
+mod name_hash;
 mod parts;
 mod place;
 mod rows;
 
 pub use iter::Iter;
+pub use name_hash::hash_of;
 pub use rows::Rows;
