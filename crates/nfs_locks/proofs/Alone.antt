@@ -85,7 +85,7 @@ pub numbered_once : (number : ℕ) (states : List LockState) → NumbersRise sta
 numbered_once number [] h = tt
 numbered_once number (l ∷ states) h = (
   all_weaken (λ m. l.number < m.number) (λ m. is_numbered number (lock_seen l) ≡ true → is_numbered number (lock_seen m) ≡ false)
-  (λ m more here. false_from_ne_true _ (λ there. omega (arith, more, eqb-true l.number number here, eqb-true m.number number there))) states h.0,
+      (λ m more here. false_from_ne_true _ (λ there. omega (arith, more, eqb-true l.number number here, eqb-true m.number number there))) states h.0,
   numbered_once number states h.1,
 )
 

@@ -1,7 +1,7 @@
 -- Loops that remove rows until none passes a test.
-use Rattle.std.proofs.Common.{◌≡◌, ℕ, ◌<◌, ◌≤◌, suc, ◌==◌, Bool, true, false, not, ◌&&◌, ◌||◌, cond, List, [], ◌∷◌, filter, find, length, option_map, Option, Some, None, refl, sym, ap, ◌∙◌, arith}
+use Rattle.std.proofs.Common.{◌≡◌, ℕ, ◌<◌, ◌≤◌, suc, ◌==◌, Bool, true, false, not, ◌||◌, cond, List, [], ◌∷◌, filter, find, length, option_map, Option, Some, None, refl, sym, ap, ◌∙◌, arith}
 use Rattle.std.specs.List.{AllByRecursion, list_any}
-use Rattle.std.proofs.lemmas.Bool.{and_from, and_parts, eq-eqb, eqb-true, false≢true, false_from_ne_true}
+use Rattle.std.proofs.lemmas.Bool.{and_from, and_parts, eq-eqb, eqb-true, false≢true}
 use Rattle.nfs_rows.specs.Rows.{Row, StandInOrder, is_numbered, is_of_client, without}
 use Rattle.nfs_rows.proofs.Each.{all_weaken, drop_none}
 use Rattle.nfs_locks.proofs.Elements.{all_found}
@@ -91,7 +91,7 @@ module _ {V : Type 0} where
       by true passes here rest = (
         (λ _. passes),
         all_weaken (λ s. r.number < s.number) (λ s. is_numbered number s ≡ true → test s ≡ true)
-        (λ s more yes. absurd (omega (arith, more, eqb-true s.number number yes, ap (λ (r : Row V). r.number) (same r x here), is))) rows order.0,
+            (λ s more yes. absurd (omega (arith, more, eqb-true s.number number yes, ap (λ (r : Row V). r.number) (same r x here), is))) rows order.0,
       )
       by false fails behind rest = (
         (λ yes. absurd (omega (arith, eqb-true r.number number yes, (all_found (λ s. r.number < s.number) test rows x order.0 behind).0, is))),

@@ -3,8 +3,8 @@ use Rattle.std.specs.Prelude.{◌≡◌, ℕ, ◌+◌, ◌*◌, ◌<◌, ◌^◌
 use Rattle.std.specs.List.{AllByRecursion}
 use Rattle.std.specs.declared.hash.RandomState.{RandomState}
 use Rattle.nfs_forms.specs.declared.lock_owner.LockOwner.{LockOwner}
-use Rattle.nfs_locks.specs.Hashes.{hash_of}
 use Rattle.nfs_locks.specs.declared.lock_state.LockState.{LockState}
+use Rattle.nfs_rows.specs.NameHash.{hash_of}
 use Rattle.nfs_rows.specs.Rows.{Row, StandSo}
 
 -- the keyed hash of a lock owner: of its clientid as a number, and of its name

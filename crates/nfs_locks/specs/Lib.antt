@@ -1,6 +1,5 @@
 pub mod Locks
 pub mod StoredLocks
-pub mod Hashes
 pub mod KeptLocks
 pub mod AllLocks
 pub mod LockFound

@@ -85,6 +85,7 @@ impl FileLocks {
             ≡ find (λ l. is_numbered number (lock_seen l)) self.now.states }
         ensures order { NumbersRise self.now.states }
     {
+        // `len` tells that the rows stand in the order of their numbers.
         let _count = self.states.len();
         self.states.find(u64::from(number))
     }

@@ -2,7 +2,6 @@
 //! sections 9.2, 9.3 and 16.10 to 16.12).
 #![tactic(auto)]
 
-mod hashes;
 mod file_locks;
 mod first_lock;
 mod laws;

@@ -1,8 +1,8 @@
 ghost use Rattle.std.specs.Prelude.{◌≡◌, ◌+◌, ◌*◌, ◌^◌};
 ghost use Rattle.nfs_locks.specs.KeptLocks.{owner_hash};
 
-use crate::hashes::hash_of;
 use nfs_forms::LockOwner;
+use nfs_rows::hash_of;
 use std::hash::RandomState;
 
 /// The keyed hash of a lock owner.

@@ -28,6 +28,7 @@ fn number_of(states: &Rows<LockState>, hash: u64, owner: &LockOwner) -> Option<u
         (find (is_named hash (λ l. is_lock_of owner.now (lock_seen l))) states.now.rows) }
     ensures order { StandInOrder states.now.rows }
 {
+    // `len` tells that the rows stand in the order of their numbers.
     let _count = states.len();
     match states.find_named(hash, |state| state.is_of(owner)) {
         Some((number, _)) => Some(number),

@@ -1,4 +1,4 @@
-use Rattle.std.proofs.Common.{◌≡◌, ◌∙◌, ℕ, Bool, Bor, ap, map, option_map, rules, sym, tests}
+use Rattle.std.proofs.Common.{◌∙◌, ℕ, Bool, Bor, ap, map, option_map, rules, sym, tests}
 use Rattle.std.proofs.lemmas.Iterator.Consumers.{YieldsList-from_first}
 use Rattle.std.proofs.lemmas.Iterator.Search.{find_from_yields_List}
 use Rattle.nfs_locks.specs.Locks.{is_under}

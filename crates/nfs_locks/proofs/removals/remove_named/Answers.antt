@@ -1,4 +1,4 @@
-use Rattle.std.proofs.Common.{◌≡◌, ◌<◌, ◌∙◌, Bool, ap, length, subst, sym}
+use Rattle.std.proofs.Common.{◌<◌, ◌∙◌, Bool, ap, length, subst, sym}
 use Rattle.nfs_locks.specs.Locks.{is_lock_of}
 use Rattle.nfs_locks.specs.StoredLocks.{lock_seen}
 use Rattle.nfs_locks.specs.declared.lock_state.LockState.{LockState}

@@ -25,14 +25,14 @@ invariant_of-self c =
     let rows = c.self.inside.states.rows in
     let row : Row LockState = record { number = c.from.result; hash = c.owner_hash-hash.result; client = c.args.first.owner.client.number; value = c.new-state.result } in (
       subst (AreRowsOf names) (sym c.add.ensures.rows)
-      (all_append (IsRowOf names) rows (row ∷ []) c.self.invariant.0 (
-        record {
-          numbered = c.from.ensures ∙ sym (ap (λ (l : ByteLocks). l.number) c.new-state.ensures);
-          hashed = c.owner_hash-hash.ensures ∙ sym (ap (λ (l : ByteLocks). owner_hash names l.owner) c.new-state.ensures);
-          of_client = sym (ap (λ (l : ByteLocks). l.owner.client.number) c.new-state.ensures);
-        },
-        tt,
-      )),
+          (all_append (IsRowOf names) rows (row ∷ []) c.self.invariant.0 (
+            record {
+              numbered = c.from.ensures ∙ sym (ap (λ (l : ByteLocks). l.number) c.new-state.ensures);
+              hashed = c.owner_hash-hash.ensures ∙ sym (ap (λ (l : ByteLocks). owner_hash names l.owner) c.new-state.ensures);
+              of_client = sym (ap (λ (l : ByteLocks). l.owner.client.number) c.new-state.ensures);
+            },
+            tt,
+          )),
       subst (λ (spare : Option RoomyRanges). IfSome spare (λ r. (r.pieces ≡ []) × (0 < r.room))) (sym c.take.ensures.after) tt,
     )
 

@@ -4,7 +4,7 @@ use Rattle.std.specs.List.{AllByRecursion}
 use Rattle.nfs_locks.specs.AllLocks.{HasRangeRoom, is_full_for}
 use Rattle.nfs_locks.specs.KeptLocks.{AreRowsOf, states_of}
 use Rattle.nfs_locks.specs.Locks.{ByteLocks, with_lock_change}
-use Rattle.nfs_locks.specs.StoredLocks.{StoredLocks, lock_seen, locks_seen}
+use Rattle.nfs_locks.specs.StoredLocks.{StoredLocks, locks_seen}
 use Rattle.nfs_locks.specs.declared.file_locks.FileLocks.TheInside.{Inside}
 use Rattle.nfs_locks.proofs.Rowed.{found_in, has_place, has_room, rows_changed, rows_set, rows_unchanged}
 use Rattle.nfs_locks.proofs.file_locks.FileLocks.change.Goals as goal
@@ -30,10 +30,9 @@ invariant_of-self c =
     let names = c.self.inside.names in
     elim c.match-find_mut.branch [
       | in-Some w ↦
-          subst (λ (s : Inside). AreRowsOf s.names s.states.rows × IfSome s.spare (λ r. (r.pieces ≡ []) × (0 < r.room))) (sym w.self-inside-is)
-          (
+          subst (λ (s : Inside). AreRowsOf s.names s.states.rows × IfSome s.spare (λ r. (r.pieces ≡ []) × (0 < r.room))) (sym w.self-inside-is) (
             rows_set names c.args.number c.from.result w.in-Some.state.now w.change.new.self rows c.self.invariant.0 c.from.ensures w.in-Some.ensures.order w.in-Some.ensures.value
-            (ap (λ (l : ByteLocks). l.number) w.change.ensures) (ap (λ (l : ByteLocks). l.owner) w.change.ensures),
+                (ap (λ (l : ByteLocks). l.number) w.change.ensures) (ap (λ (l : ByteLocks). l.owner) w.change.ensures),
             c.self.invariant.1,
           )
       | in_default w ↦

@@ -13,7 +13,7 @@ remove_under-requires c = of_clients c.self.inside.names c.self.inside.states.ro
 pub invariant_of-self : goal.invariant_of-self
 invariant_of-self c = (
   subst (AreRowsOf c.self.inside.names) (sym c.remove_under.ensures.rows)
-  (all_filter (IsRowOf c.self.inside.names) (λ r. not (is_under c.args.open_number (lock_seen r.value))) c.self.inside.states.rows c.self.invariant.0),
+      (all_filter (IsRowOf c.self.inside.names) (λ r. not (is_under c.args.open_number (lock_seen r.value))) c.self.inside.states.rows c.self.invariant.0),
   c.self.invariant.1,
 )
 

@@ -1,9 +1,9 @@
-use Rattle.std.proofs.Common.{◌≡◌, ◌∙◌, Bool, ap, find, sym, rules}
+use Rattle.std.proofs.Common.{◌∙◌, Bool, ap, find, sym, rules}
 use Rattle.nfs_locks.specs.Locks.{is_lock_of}
 use Rattle.nfs_locks.specs.StoredLocks.{StoredLocks, lock_seen}
 use Rattle.nfs_locks.specs.declared.lock_state.LockState.{LockState}
 use Rattle.nfs_locks.proofs.Rowed.{named_in}
-use Rattle.nfs_rows.specs.Rows.{is_named, pair_in, pair_seen}
+use Rattle.nfs_rows.specs.Rows.{is_named, pair_seen}
 use Rattle.nfs_rows.proofs.Callers.{none_beside, value_beside}
 use Rattle.nfs_locks.proofs.file_locks.FileLocks.lock_of.Goals as goal
 

@@ -1,4 +1,4 @@
-use Rattle.std.proofs.Common.{◌∙◌, ap, sym}
+use Rattle.std.proofs.Common.{◌∙◌, ap}
 use Rattle.std.specs.Prelude.{is_some}
 use Rattle.nfs_locks.specs.Locks.{is_stateid_of}
 use Rattle.nfs_locks.specs.StoredLocks.{lock_seen}

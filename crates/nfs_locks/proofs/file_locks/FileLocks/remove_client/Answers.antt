@@ -1,4 +1,4 @@
-use Rattle.std.proofs.Common.{◌≡◌, ◌∙◌, Bool, ap, not, rules, subst, sym}
+use Rattle.std.proofs.Common.{◌∙◌, Bool, ap, not, rules, subst, sym}
 use Rattle.nfs_locks.specs.KeptLocks.{AreRowsOf, IsRowOf, states_of}
 use Rattle.nfs_locks.specs.Locks.{is_lock_of_client, without}
 use Rattle.nfs_locks.specs.StoredLocks.{StoredLocks, lock_seen, locks_seen}
@@ -14,7 +14,7 @@ invariant_of-self c =
     let test : LockState → Bool = λ l. is_lock_of_client c.args.client (lock_seen l) in
     let left = c.remove_of_client.ensures.rows test (λ shown answer says. search rules) in (
       subst (AreRowsOf c.self.inside.names) (sym left)
-      (all_filter (IsRowOf c.self.inside.names) (λ r. not (is_of_client c.args.client.number test r)) c.self.inside.states.rows c.self.invariant.0),
+          (all_filter (IsRowOf c.self.inside.names) (λ r. not (is_of_client c.args.client.number test r)) c.self.inside.states.rows c.self.invariant.0),
       c.self.invariant.1,
     )
 

@@ -1,4 +1,4 @@
-use Rattle.std.proofs.Common.{◌≡◌, ◌∙◌, Bool, ap, not, subst, sym}
+use Rattle.std.proofs.Common.{◌∙◌, Bool, ap, not, subst, sym}
 use Rattle.nfs_locks.specs.KeptLocks.{AreRowsOf, IsRowOf, owner_hash, states_of}
 use Rattle.nfs_locks.specs.Locks.{is_lock_of, without}
 use Rattle.nfs_locks.specs.StoredLocks.{StoredLocks, lock_seen, locks_seen}
@@ -13,7 +13,7 @@ pub invariant_of-self : goal.invariant_of-self
 invariant_of-self c =
     let test : LockState → Bool = λ l. is_lock_of c.args.owner.now (lock_seen l) in (
       subst (AreRowsOf c.self.inside.names) (sym c.remove_named.ensures.rows)
-      (all_filter (IsRowOf c.self.inside.names) (λ r. not (is_named c.owner_hash-hash.result test r)) c.self.inside.states.rows c.self.invariant.0),
+          (all_filter (IsRowOf c.self.inside.names) (λ r. not (is_named c.owner_hash-hash.result test r)) c.self.inside.states.rows c.self.invariant.0),
       c.self.invariant.1,
     )
 
