@@ -1,6 +1,9 @@
 pub mod Elements
 pub mod Files
-pub mod SameSet
 pub mod Compatible
 pub mod Meetings
 pub mod Unique
+pub mod Alone
+pub mod Rowed
+pub mod Setting
+pub mod Removing

@@ -1,5 +1,6 @@
 pub mod Locks
 pub mod StoredLocks
+pub mod KeptLocks
 pub mod AllLocks
 pub mod LockFound
 pub mod Report
