@@ -1,5 +1,7 @@
 pub mod Addresses
 pub mod Registry
+pub mod HashStub
+pub mod Records
 pub mod ClientChange
 pub mod Registration
 pub mod Confirmation

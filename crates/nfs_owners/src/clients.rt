@@ -7,6 +7,7 @@ ghost use Rattle.nfs_owners.specs.Registry.{client_seen, is_named_by, is_of_clie
 mod client_change;
 mod confirmation;
 mod path_marks;
+mod records;
 mod registration;
 
 use crate::{ClientRecord, ClientRef, ClientState};
