@@ -59,7 +59,7 @@ numbered n test (r ∷ rows) order is = by (test r) is (λ there. numbered n tes
     by true here later = ap (λ b. cond b (Some r) (find (is_numbered n) rows)) (eq-eqb r.number n (sym (same_number n r.number here)))
     by false there later =
         let below = number_behind r.number n test rows order.0 there in
-        ap (λ b. cond b (Some r) (find (is_numbered n) rows)) (false_from_ne_true _ (λ same. omega (arith, below, eqb-true r.number n same))) ∙ later there
+        ap (λ b. cond b (Some r) (find (is_numbered n) rows)) (false_from_ne_true (is_numbered n r) (λ same. omega (arith, below, eqb-true r.number n same))) ∙ later there
 
 found_of_client : (number : ℕ) (rows : Rows) → value_in (find (of_client number) rows) ≡ find (is_of_client number) (records_in rows)
 found_of_client number rows =
@@ -350,4 +350,4 @@ none_marked number path records none = sym (change_none (is_of_client number) (m
 
 pub on_ok : {A E : Type 0} (result : Result A E) (P : Type 0) → IsOk result → OnOk result P → P
 on_ok (Ok a) P ok holds = holds
-on_ok (Err e) P ok holds = absurd ok
+on_ok (Err e) P ok holds = absurd (true≢false (sym ok))

@@ -1,7 +1,8 @@
 ghost use Rattle.std.specs.Prelude.{◌≡◌, ◌<◌, [], ◌∷◌, ◌++◌, IsOk, IsFalse, OnOk, find, map};
-ghost use Rattle.std.specs.List.{list_any};
+ghost use Rattle.std.specs.List.{IsDistinct, list_any};
 ghost use Rattle.std.specs.Option.{option_copied};
 ghost use Rattle.nfs_rows.specs.Rows.{is_numbered, without};
+ghost use Rattle.nfs_owners.specs.Records.{have_same_client};
 ghost use Rattle.nfs_owners.specs.Registry.{after_mark, is_of, is_of_client, takes_number, without_id, without_number};
 
 use crate::hash_stub::hash_of;
@@ -43,7 +44,7 @@ impl Model for Records {
 impl Records {
     /// No records, taking no memory.
     pub fn new(alloc: Global, ids: RandomState) -> Records
-        ensures records { result.records ≡ [] }
+        ensures { result.records ≡ [] }
     {
         Records {
             rows: Rows::new(alloc),
@@ -67,7 +68,8 @@ impl Records {
 
     /// The record of the client with this number, if there is one.
     pub fn of_client(&self, number: u32) -> Option<&ClientRecord>
-        ensures { option_copied result ≡ find (is_of_client number) self.now.records }
+        ensures found { option_copied result ≡ find (is_of_client number) self.now.records }
+        ensures apart { IsDistinct have_same_client self.now.records }
     {
         let row = *self.by_client.get(&number)?;
         self.rows.find(row)
