@@ -197,8 +197,8 @@ unknown_found after last registry state distinct none within is = by (find (is_u
         )
 
 and_no : (a b : Bool) → b ≡ false → (a && b) ≡ false
-and_no true b no = no
-and_no false b no = refl
+and_no true b fails = fails
+and_no false b fails = refl
 
 pub unknown_with : (number : ℕ) (records : List ClientRecord) (r : ClientRecord) → IsDistinct have_same_client records → Some r ≡ find (is_of_client number) records → is_unknown r.state.path ≡ true
     → Some r.state ≡ record_state (find (is_unknown_of number) records)

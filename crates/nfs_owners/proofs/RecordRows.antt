@@ -10,7 +10,7 @@ use Rattle.indexmap.specs.IndexMap.{IndexMap, Updates, UpdatesBy, get, spare}
 use Rattle.nfs_rows.specs.Rows.{RoomyRows, Row, StandInOrder, is_named, is_numbered, value_in, without}
 use Rattle.nfs_rows.proofs.Callers.{all_seen, changed_all, changed_seen, find_seen, named_is, with_change, without_seen}
 use Rattle.nfs_rows.proofs.Each.{all_append, all_filter, all_weaken, change_none, drop_none, so_filter, so_push}
-use Rattle.nfs_owners.specs.HashStub.{hash_of}
+use Rattle.nfs_rows.specs.NameHash.{hash_of}
 use Rattle.nfs_owners.specs.Records.{AreRows, IsHashed, have_same_client, records_in, row_of_client}
 use Rattle.nfs_owners.specs.Registry.{after_mark, have_same_id, is_of, is_of_client, takes_number, without_id, without_number}
 use Rattle.nfs_owners.specs.declared.client_record.ClientRecord.{ClientRecord}

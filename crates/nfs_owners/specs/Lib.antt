@@ -1,6 +1,5 @@
 pub mod Addresses
 pub mod Registry
-pub mod HashStub
 pub mod Records
 pub mod ClientChange
 pub mod Registration

@@ -4,7 +4,7 @@ use Rattle.std.specs.List.{AllByRecursion, IsDistinct}
 use Rattle.std.specs.declared.random_state.RandomState.{RandomState}
 use Rattle.indexmap.specs.IndexMap.{IndexMap, get, spare}
 use Rattle.nfs_rows.specs.Rows.{RoomyRows, Row, StandInOrder}
-use Rattle.nfs_owners.specs.HashStub.{hash_of}
+use Rattle.nfs_rows.specs.NameHash.{hash_of}
 use Rattle.nfs_owners.specs.Registry.{have_same_id, is_of_client}
 use Rattle.nfs_owners.specs.declared.client_record.ClientRecord.{ClientRecord}
 

@@ -8,7 +8,6 @@ mod client_record;
 mod client_ref;
 mod clients;
 mod copy_of_bytes;
-mod hash_stub;
 mod kept;
 mod limits;
 mod live_change;

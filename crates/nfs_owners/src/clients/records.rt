@@ -5,10 +5,9 @@ ghost use Rattle.nfs_rows.specs.Rows.{is_numbered, without};
 ghost use Rattle.nfs_owners.specs.Records.{have_same_client};
 ghost use Rattle.nfs_owners.specs.Registry.{after_mark, is_of, is_of_client, takes_number, without_id, without_number};
 
-use crate::hash_stub::hash_of;
 use crate::{ClientRecord, PathMark};
 use indexmap::IndexMap;
-use nfs_rows::Rows;
+use nfs_rows::{Rows, hash_of};
 use std::alloc::{AllocError, Global};
 use std::hash::RandomState;
 use std::marker::Model;

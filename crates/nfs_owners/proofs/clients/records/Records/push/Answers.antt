@@ -1,7 +1,7 @@
 use Rattle.std.proofs.Common.{◌≡◌, ◌∙◌, ◌+◌, ◌<◌, false, ap, arith, refl, subst, sym}
 use Rattle.std.specs.List.{list_any}
 use Rattle.nfs_rows.specs.Rows.{Row}
-use Rattle.nfs_owners.specs.HashStub.{hash_of}
+use Rattle.nfs_rows.specs.NameHash.{hash_of}
 use Rattle.nfs_owners.specs.Records.{RoomyRecords}
 use Rattle.nfs_owners.specs.Registry.{is_of, is_of_client}
 use Rattle.nfs_owners.specs.declared.client_record.ClientRecord.{ClientRecord}
