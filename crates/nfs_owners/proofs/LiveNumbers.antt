@@ -61,15 +61,15 @@ pub of_clientid : (client : ClientId) (records : List ClientRecord) (found : Opt
 of_clientid client records found distinct is =
     ap (option_and_then (λ r. cond (is_same_client r.state.client client) (Some r) None)) is
     ∙ sym (narrowed (λ r. is_same_client r.state.client client) client.number
-      (λ r same. (and_parts (r.state.client.epoch == client.epoch) (r.state.client.number == client.number) same).1) records distinct)
+    (λ r same. (and_parts (r.state.client.epoch == client.epoch) (r.state.client.number == client.number) same).1) records distinct)
 
 pub of_name : (args : SetclientidConfirm) (records : List ClientRecord) (found : Option ClientRecord) → IsDistinct have_same_client records → found ≡ find (is_of_client args.client.number) records
     → option_and_then (λ r. cond (is_named_by args r) (Some r) None) found ≡ find (is_named_by args) records
 of_name args records found distinct is =
     ap (option_and_then (λ r. cond (is_named_by args r) (Some r) None)) is
     ∙ sym (narrowed (is_named_by args) args.client.number
-      (λ r same. (and_parts (r.state.client.epoch == args.client.epoch) (r.state.client.number == args.client.number) (and_parts (is_same_client r.state.client args.client) (r.state.confirm == args.confirm) same).0).1)
-      records distinct)
+    (λ r same. (and_parts (r.state.client.epoch == args.client.epoch) (r.state.client.number == args.client.number) (and_parts (is_same_client r.state.client args.client) (r.state.confirm == args.confirm) same).0).1)
+    records distinct)
 
 pub of_unknown : (number : ℕ) (records : List ClientRecord) (found : Option ClientRecord) → IsDistinct have_same_client records → found ≡ find (is_of_client number) records
     → option_and_then (λ r. cond (is_unknown_of number r) (Some r) None) found ≡ find (is_unknown_of number) records
@@ -187,7 +187,7 @@ unknown_found after last registry state distinct none within is = by (find (is_u
         let held : find (λ s. is_same_client s.state.client r.state.client) records ≡ Some r =
         sym (of_clientid r.state.client records (Some r) distinct (sym here ∙ ap (λ n. find (is_of_client n) records) (sym number)))
         ∙ ap (λ b. cond b (Some r) None) (and_from (r.state.client.epoch == r.state.client.epoch) (r.state.client.number == r.state.client.number)
-          (eq-eqb r.state.client.epoch r.state.client.epoch refl) (eq-eqb r.state.client.number r.state.client.number refl)) in
+        (eq-eqb r.state.client.epoch r.state.client.epoch refl) (eq-eqb r.state.client.number r.state.client.number refl)) in
         let next : IsNextAmong after (filter has_unknown_path records) (Some (last + 1)) =
         next_found after last (filter has_unknown_path records) none within (unknown_any (last + 1) records ∙ ap is_some found) in
         subst (λ (s : ClientState). IsNextUnknown after registry (Some s)) (sym same) (

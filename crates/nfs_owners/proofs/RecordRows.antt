@@ -128,9 +128,9 @@ index_less n number c [] same = sym (cond_same (nat_eq number c) None)
 index_less n number c (r ∷ rows) same =
     split (not (is_numbered n r))
     ∙ less_step (is_numbered n r) (nat_eq number c) (of_client c r) (row_of_client c (without (is_numbered n) rows)) (row_of_client c rows) r.number
-        (λ is. ap (λ k. nat_eq k c) (eqb-true r.value.state.client.number number (sym same.0 ∙ is)))
-        (λ is. sym (ap (nat_eq r.value.state.client.number) (eqb-true number c is)) ∙ sym same.0)
-        (index_less n number c rows same.1)
+    (λ is. ap (λ k. nat_eq k c) (eqb-true r.value.state.client.number number (sym same.0 ∙ is)))
+    (λ is. sym (ap (nat_eq r.value.state.client.number) (eqb-true number c is)) ∙ sym same.0)
+    (index_less n number c rows same.1)
     ∙ sym (ap (λ x. cond (nat_eq number c) None x) (first_row c r rows))
   where
     split : (a : Bool) → row_of_client c (cond a (r ∷ without (is_numbered n) rows) (without (is_numbered n) rows))
@@ -151,7 +151,7 @@ index_more c (r ∷ rows) x none =
     first_row c r (rows ++ x ∷ [])
     ∙ ap (λ w. cond (of_client c r) (Some r.number) w) (index_more c rows x parts.1)
     ∙ more_step (of_client c r) (nat_eq x.value.state.client.number c) r.number x.number (row_of_client c rows)
-        (λ is. sym (ap (nat_eq r.value.state.client.number) (eqb-true x.value.state.client.number c is)) ∙ parts.0)
+    (λ is. sym (ap (nat_eq r.value.state.client.number) (eqb-true x.value.state.client.number c is)) ∙ parts.0)
     ∙ sym (ap (λ w. cond (nat_eq x.value.state.client.number c) (Some x.number) w) (first_row c r rows))
 
 records_push : (rows : Rows) (x : Row ClientRecord) → records_in (rows ++ x ∷ []) ≡ records_in rows ++ x.value ∷ []
