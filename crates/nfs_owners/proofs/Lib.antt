@@ -1,5 +1,5 @@
 pub mod Lists
 pub mod ClientLists
-pub mod NextLive
 pub mod OwnerLists
-pub mod UnknownPaths
+pub mod RecordRows
+pub mod LiveNumbers

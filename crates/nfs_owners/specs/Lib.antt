@@ -1,5 +1,6 @@
 pub mod Addresses
 pub mod Registry
+pub mod Records
 pub mod ClientChange
 pub mod Registration
 pub mod Confirmation
