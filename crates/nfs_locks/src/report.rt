@@ -5,8 +5,6 @@ ghost use Rattle.nfs_locks.specs.ReportSeen.{comes_before, first_of, meeting_see
 ghost use Rattle.nfs_locks.specs.StoredLocks.{lock_seen, locks_seen};
 ghost use Rattle.nfs_ranges.specs.Questions.{IsFirstConflict};
 ghost use Rattle.nfs_ranges.specs.RoomyRanges.{modes_in};
-ghost use Rattle.nfs_ranges.specs.declared.mode.Mode.{Mode};
-ghost use Rattle.nfs_ranges.specs.declared.range.Range.{Range};
 
 use crate::LockState;
 use crate::owner_order::owner_order;
@@ -57,18 +55,23 @@ fn meeting_among<'a>(
     let mut first = None;
     for (_, state) in states.iter() {
         if let Some(byte) = state.ranges.first_conflict(range, mode) {
-            first = first_of(first, meeting_at(state, owner, byte));
+            first = first_of(first, meeting_at(state, owner, range, mode, byte));
         }
     }
     first
 }
 
-// The byte, which is the first of the range that this lock state's modes refuse, with the report of it, unless the
-// owner has the lock state.
-fn meeting_at<'a>(state: &'a LockState, owner: &LockOwner, byte: u64) -> Option<Meeting<'a>>
-    ensures { (range : Range) (mode : Mode)
-        → IsFirstConflict (modes_in state.now.ranges) range mode (Some byte)
-        → IsMeeting (lock_seen state.now ∷ []) owner.now range mode
+// The first byte that this lock state refuses, with the report of it, where this byte is the first in the way of another
+// owner.
+fn meeting_at<'a>(
+    state: &'a LockState,
+    owner: &LockOwner,
+    range: Range,
+    mode: Mode,
+    byte: u64,
+) -> Option<Meeting<'a>>
+    requires { IsFirstConflict (modes_in state.now.ranges) range mode (Some byte) }
+    ensures { IsMeeting (lock_seen state.now ∷ []) owner.now range mode
         (option_map meeting_seen result) }
 {
     if state.is_of(owner) {

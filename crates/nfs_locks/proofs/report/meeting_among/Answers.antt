@@ -19,7 +19,7 @@ loop-state-preserved-in-Some-first_conflict c =
     subst (λ locks. IsMeeting locks owner c.args.range c.args.mode (option_map meeting_seen c.first_of-first.result))
     (sym (map_push (λ (p : ℕ × Bor LockState). lock_seen p.1.now) c.loop-state.yielded (c.in-Some.field-0-0, c.in-Some.state)))
     (subst (IsMeeting (seen ++ item ∷ []) owner c.args.range c.args.mode) (sym c.first_of-first.ensures)
-    (one_more seen item owner c.args.range c.args.mode a b c.loop-state.invariant (c.meeting_at.ensures c.args.range c.args.mode c.in-Some-first_conflict.ensures)))
+    (one_more seen item owner c.args.range c.args.mode a b c.loop-state.invariant c.meeting_at.ensures))
 
 pub loop-state-preserved : goal.loop-state-preserved
 loop-state-preserved c =

@@ -10,16 +10,9 @@ use Rattle.nfs_locks.proofs.Meetings.{owners_total}
 use Rattle.nfs_locks.proofs.report.meeting_at.Goals as goal
 use Rattle.nfs_ranges.specs.Modes.{conflicts}
 
-pub returns-then-is_of : goal.returns-then-is_of
-returns-then-is_of c = λ range mode conflict.
-    ((λ byte inside. ap (λ own. not own && conflicts mode ((lock_seen c.args.state.now).modes byte)) (sym c.is_of.ensures ∙ c.if-is_of.true)), tt)
-
-pub returns-in_err-run : goal.returns-in_err-run
-returns-in_err-run c = λ range mode conflict.
-    absurd (false≢true (sym (ap (conflicts mode) c.in_err-run.ensures) ∙ conflict.1))
-
 pub returns : goal.returns
-returns c = λ range mode conflict.
+returns c =
+    let mode = c.args.mode in
     let l = lock_seen c.args.state.now in
     let owner = c.args.owner.now in
     let other : is_lock_of owner l ≡ false = sym c.is_of.ensures ∙ c.if-is_of.false in
@@ -27,10 +20,10 @@ returns c = λ range mode conflict.
     λ byte. ap (λ own. not own && conflicts mode (l.modes byte)) other in
     let byte = c.args.byte in
     let passes : refuses_for l.owner owner mode byte l ≡ true =
-    and_from (is_lock_of l.owner l) (refuses owner mode byte l) (same_self l.owner) (refuses_as byte ∙ conflict.1) in
+    and_from (is_lock_of l.owner l) (refuses owner mode byte l) (same_self l.owner) (refuses_as byte ∙ c.requires.1) in
     let found = cond-true (refuses_for l.owner owner mode byte l) (Some l) None passes in (
-      conflict.0,
-      ((λ byte from below. refuses_as byte ∙ conflict.2 byte from below), tt),
+      c.requires.0,
+      ((λ byte from below. refuses_as byte ∙ c.requires.2 byte from below), tt),
       ((λ refused. ap is_gt (tied_itself owners_total l.owner)), tt),
       (l, found, c.in_ok-run.ensures),
     )
