@@ -1,6 +1,5 @@
-use Rattle.std.proofs.Common.{◌≡◌, ◌∙◌, Some, ap, find, map, subst, sym}
-use Rattle.nfs_rows.specs.Rows.{Row, value_in, is_numbered, with_value}
-use Rattle.nfs_rows.proofs.Callers.{with_change, with_value_is}
+use Rattle.std.proofs.Common.{◌∙◌, ap, map, subst, sym}
+use Rattle.nfs_rows.proofs.Callers.{with_value_is}
 use Rattle.nfs_owners.specs.Records.{AreRows, RoomyRecords, records_in}
 use Rattle.nfs_owners.specs.Registry.{after_mark}
 use Rattle.nfs_owners.proofs.RecordRows.{client_found, marked, no_client, none_marked, records_marked, rows_marked}
