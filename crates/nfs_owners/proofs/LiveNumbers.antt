@@ -9,7 +9,7 @@ use Rattle.nfs_operations.specs.declared.setclientid_confirm.SetclientidConfirm.
 use Rattle.nfs_rows.proofs.Each.{all_filter, all_weaken, find_none}
 use Rattle.nfs_owners.specs.LiveClients.{IsNextAmong, IsNextLive, IsNextUnknown, has_unknown_path, is_unknown, is_unknown_of}
 use Rattle.nfs_owners.specs.Records.{have_same_client}
-use Rattle.nfs_owners.specs.Registry.{AreRecords, HasOwnNumber, Registry, is_named_by, is_of_client, record_of, record_state, was_given}
+use Rattle.nfs_owners.specs.Registry.{AreRecords, HasOwnNumber, Registry, is_named_by, is_of_client, record_state}
 use Rattle.nfs_owners.specs.declared.client_record.ClientRecord.{ClientRecord}
 use Rattle.nfs_owners.specs.declared.client_record.ClientState.{ClientState}
 use Rattle.nfs_owners.specs.declared.client_record.PathMark.{PathMark}

@@ -1,5 +1,5 @@
 -- Rows of clients' records: by an id, by its hash, and by a client's number, one is found.
-use Rattle.std.proofs.Common.{◌≡◌, ℕ, ◌+◌, ◌^◌, ◌<◌, ◌≤◌, Bool, true, false, not, cond, List, [], ◌∷◌, ◌++◌, Some, None, Option, option_map, filter, find, map, refl, sym, ap, ◌∙◌, subst, arith, true≢false}
+use Rattle.std.proofs.Common.{◌≡◌, ℕ, ◌+◌, ◌<◌, ◌≤◌, Bool, true, false, not, cond, List, [], ◌∷◌, ◌++◌, Some, None, Option, option_map, filter, find, map, refl, sym, ap, ◌∙◌, subst, arith, true≢false}
 use Rattle.std.specs.Prelude.{nat_eq, Result, Ok, Err, IsOk, OnOk}
 use Rattle.std.specs.List.{AllByRecursion, IsDistinct, list_any}
 use Rattle.std.specs.Map.{lookup}
@@ -8,7 +8,7 @@ use Rattle.std.proofs.lemmas.Slice.Eq.{bytes_eq-Decides}
 use Rattle.std.specs.declared.random_state.RandomState.{RandomState}
 use Rattle.indexmap.specs.IndexMap.{IndexMap, Updates, UpdatesBy, get, spare}
 use Rattle.nfs_rows.specs.Rows.{RoomyRows, Row, StandInOrder, is_named, is_numbered, value_in, without}
-use Rattle.nfs_rows.proofs.Callers.{all_seen, changed_all, changed_seen, find_seen, named_is, with_change, without_seen}
+use Rattle.nfs_rows.proofs.Callers.{PassOnce, changed_all, changed_seen, find_seen, found_again, named_is, only_found, with_change, without_seen}
 use Rattle.nfs_rows.proofs.Each.{all_append, all_filter, all_weaken, change_none, drop_none, so_filter, so_push}
 use Rattle.nfs_rows.specs.NameHash.{hash_of}
 use Rattle.nfs_owners.specs.Records.{AreRows, IsHashed, have_same_client, records_in, row_of_client}
@@ -41,25 +41,15 @@ of_client number r = is_of_client number r.value
 same_number : (a b : ℕ) → Some a ≡ Some b → a ≡ b
 same_number a b is = cc
 
-number_behind : (k n : ℕ) (test : Row ClientRecord → Bool) (rows : Rows) → AllByRecursion (λ s. k < s.number) rows → Some n ≡ option_map (λ r. r.number) (find test rows) → k < n
-number_behind k n test [] above is = absurd (cc)
-number_behind k n test (r ∷ rows) above is = by (test r) is (λ there. number_behind k n test rows above.1 there)
-  where
-    by : (b : Bool) → Some n ≡ option_map (λ (s : Row ClientRecord). s.number) (cond b (Some r) (find test rows)) → (Some n ≡ option_map (λ (s : Row ClientRecord). s.number) (find test rows) → k < n) → k < n
-    by true here later = subst (λ m. k < m) (sym (same_number n r.number here)) above.0
-    by false there later = later there
+-- a row that was found, by its number
+found_row : (n : ℕ) (found : Option (Row ClientRecord)) → Some n ≡ option_map (λ r. r.number) found → (r : Row ClientRecord) × (found ≡ Some r) × (n ≡ r.number)
+found_row n None is = absurd (cc)
+found_row n (Some r) is = (r, refl, same_number n r.number is)
 
 numbered : (n : ℕ) (test : Row ClientRecord → Bool) (rows : Rows) → StandInOrder rows → Some n ≡ option_map (λ r. r.number) (find test rows) → find (is_numbered n) rows ≡ find test rows
-numbered n test [] order is = absurd (cc)
-numbered n test (r ∷ rows) order is = by (test r) is (λ there. numbered n test rows order.1 there)
-  where
-    by : (b : Bool) → Some n ≡ option_map (λ (s : Row ClientRecord). s.number) (cond b (Some r) (find test rows))
-        → (Some n ≡ option_map (λ (s : Row ClientRecord). s.number) (find test rows) → find (is_numbered n) rows ≡ find test rows)
-        → find (is_numbered n) (r ∷ rows) ≡ cond b (Some r) (find test rows)
-    by true here later = ap (λ b. cond b (Some r) (find (is_numbered n) rows)) (eq-eqb r.number n (sym (same_number n r.number here)))
-    by false there later =
-        let below = number_behind r.number n test rows order.0 there in
-        ap (λ b. cond b (Some r) (find (is_numbered n) rows)) (false_from_ne_true (is_numbered n r) (λ same. omega (arith, below, eqb-true r.number n same))) ∙ later there
+numbered n test rows order is =
+    let found = found_row n (find test rows) is in
+    ap (λ k. find (is_numbered k) rows) found.2 ∙ found_again test found.0 rows order found.1 ∙ sym found.1
 
 found_of_client : (number : ℕ) (rows : Rows) → value_in (find (of_client number) rows) ≡ find (is_of_client number) (records_in rows)
 found_of_client number rows =
@@ -77,31 +67,26 @@ no_client number rows is = sym (found_of_client number rows) ∙ ap value_in (no
 
 -- No other row has its client's number.
 
-pub alone : (n number : ℕ) (rows : Rows) → StandInOrder rows → IsDistinct have_same_client (records_in rows) → Some n ≡ row_of_client number rows → AllByRecursion (λ r. is_numbered n r ≡ is_of_client number r.value) rows
-unfolding IsDistinct
-alone n number [] order distinct is = tt
-alone n number (r ∷ rows) order distinct is = by (of_client number r) refl is (λ later. alone n number rows order.1 distinct.1 later)
-  where
-    other : of_client number r ≡ true → n ≡ r.number → (s : Row ClientRecord) → r.number < s.number → have_same_client r.value s.value ≡ false → is_numbered n s ≡ is_of_client number s.value
-    other here first s above apart =
-        let held = r.value.state.client.number in
-        let given = s.value.state.client.number in
-        false_from_ne_true (is_numbered n s) (λ same. omega (arith, above, first, eqb-true s.number n same))
-        ∙ sym (false_from_ne_true (is_of_client number s.value) (λ same. true≢false (sym (eq-eqb held given (eqb-true held number here ∙ sym (eqb-true given number same))) ∙ apart)))
+others_behind : (number : ℕ) (r : Row ClientRecord) (rows : Rows) → AllByRecursion (λ s. have_same_client r.value s ≡ false) (records_in rows)
+    → AllByRecursion (λ s. of_client number r ≡ true → of_client number s ≡ false) rows
+others_behind number r [] apart = tt
+others_behind number r (s ∷ rows) apart =
+    let held = r.value.state.client.number in
+    let given = s.value.state.client.number in (
+      λ here. false_from_ne_true (of_client number s) (λ same. true≢false (sym (eq-eqb held given (eqb-true held number here ∙ sym (eqb-true given number same))) ∙ apart.0)),
+      others_behind number r rows apart.1,
+    )
 
-    by : (b : Bool) → of_client number r ≡ b → Some n ≡ option_map (λ (s : Row ClientRecord). s.number) (cond b (Some r) (find (of_client number) rows))
-        → (Some n ≡ row_of_client number rows → AllByRecursion (λ s. is_numbered n s ≡ is_of_client number s.value) rows)
-        → AllByRecursion (λ s. is_numbered n s ≡ is_of_client number s.value) (r ∷ rows)
-    by true here first later =
-        let one = same_number n r.number first in (
-          eq-eqb r.number n (sym one) ∙ sym here,
-          all_seen (λ s. s.value) (λ s. r.number < s.number) (λ s. have_same_client r.value s ≡ false) (λ s. is_numbered n s ≡ is_of_client number s.value) (other here one) rows order.0 distinct.0,
-        )
-    by false here there later =
-        let below = number_behind r.number n (of_client number) rows order.0 there in (
-          false_from_ne_true (is_numbered n r) (λ same. omega (arith, below, eqb-true r.number n same)) ∙ sym here,
-          later there,
-        )
+once : (number : ℕ) (rows : Rows) → IsDistinct have_same_client (records_in rows) → PassOnce (of_client number) rows
+unfolding IsDistinct
+once number [] distinct = tt
+once number (r ∷ rows) distinct = (others_behind number r rows distinct.0, once number rows distinct.1)
+
+alone : (n number : ℕ) (rows : Rows) → StandInOrder rows → IsDistinct have_same_client (records_in rows) → Some n ≡ row_of_client number rows → AllByRecursion (λ r. is_numbered n r ≡ is_of_client number r.value) rows
+alone n number rows order distinct is =
+    let found = found_row n (find (of_client number) rows) is in
+    subst (λ k. AllByRecursion (λ r. is_numbered k r ≡ is_of_client number r.value) rows) (sym found.2)
+    (only_found (of_client number) found.0 rows order (once number rows distinct) found.1)
 
 -- What the index has, where rows go, come and change.
 

@@ -125,12 +125,9 @@ impl Records {
         ensures room { self.new.room ≡ self.old.room }
     {
         let _rows = &self.rows;
-        match self.of_id(id) {
-            Some(record) => {
-                let number = record.state.client.number;
-                self.remove_client(number);
-            }
-            None => {}
+        if let Some(record) = self.of_id(id) {
+            let number = record.state.client.number;
+            self.remove_client(number);
         }
     }
 
@@ -139,9 +136,8 @@ impl Records {
         ensures records { self.new.records ≡ without_number number self.old.records }
         ensures room { self.new.room ≡ self.old.room }
     {
-        match self.by_client.swap_remove(&number) {
-            Some(row) => remove_row(&mut self.rows, row),
-            None => {}
+        if let Some(row) = self.by_client.swap_remove(&number) {
+            remove_row(&mut self.rows, row);
         }
     }
 
@@ -150,12 +146,10 @@ impl Records {
         ensures records { self.new.records ≡ map (after_mark number path) self.old.records }
         ensures room { self.new.room ≡ self.old.room }
     {
-        match self.by_client.get(&number) {
-            Some(row) => match self.rows.find_mut(*row) {
-                Some(record) => record.state.path = path,
-                None => {}
-            },
-            None => {}
+        if let Some(row) = self.by_client.get(&number) {
+            if let Some(record) = self.rows.find_mut(*row) {
+                record.state.path = path;
+            }
         }
     }
 }

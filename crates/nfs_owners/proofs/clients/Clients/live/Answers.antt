@@ -1,4 +1,4 @@
-use Rattle.std.proofs.Common.{◌≡◌, ◌∙◌, Option, Some, None, ap, is_some, option_copied, refl, sym}
+use Rattle.std.proofs.Common.{◌≡◌, ◌∙◌, Option, Some, None, ap, is_some, option_copied, refl}
 use Rattle.std.specs.Borrow.{Bor}
 use Rattle.nfs_owners.specs.ClientRoom.{RoomyClients}
 use Rattle.nfs_owners.specs.Registry.{is_live, is_of_client}

@@ -1,4 +1,4 @@
-use Rattle.std.proofs.Common.{◌≡◌, ◌∙◌, Some, None, cond, ap, option_copied, sym, true, false, rules}
+use Rattle.std.proofs.Common.{◌≡◌, ◌∙◌, Some, None, cond, ap, option_copied, sym, true, false}
 use Rattle.nfs_forms.specs.ClientId.{is_same_client}
 use Rattle.nfs_owners.specs.ClientRoom.{RoomyClients}
 use Rattle.nfs_owners.specs.Registry.{record_of, record_state}

@@ -1,6 +1,6 @@
-use Rattle.std.proofs.Common.{◌≡◌, ◌∙◌, Some, ap, find, map, subst, sym}
-use Rattle.nfs_rows.specs.Rows.{Row, value_in, is_numbered, with_value}
-use Rattle.nfs_rows.proofs.Callers.{with_change, with_value_is}
+use Rattle.std.proofs.Common.{◌∙◌, ap, map, option_copied, subst, sym}
+use Rattle.std.specs.Option.{option_copied_mut}
+use Rattle.nfs_rows.proofs.Callers.{with_value_is}
 use Rattle.nfs_owners.specs.Records.{AreRows, RoomyRecords, records_in}
 use Rattle.nfs_owners.specs.Registry.{after_mark}
 use Rattle.nfs_owners.proofs.RecordRows.{client_found, marked, no_client, none_marked, records_marked, rows_marked}
@@ -24,16 +24,16 @@ returns-in-Some-find_mut-clause-records c =
     ∙ records_marked row c.args.number c.args.path self.rows.rows c.self.invariant.order c.self.invariant.clients is
     ∙ ap (λ (s : RoomyRecords). map (after_mark c.args.number c.args.path) s.records) c.self.view_is
 
-pub returns-in-None-find_mut-clause-records : goal.returns-in-None-find_mut-clause-records
-returns-in-None-find_mut-clause-records c =
+pub returns-in_default-find_mut-clause-records : goal.returns-in_default-find_mut-clause-records
+returns-in_default-find_mut-clause-records c =
     let rows = c.self.inside.rows.rows in
     let is = c.in-Some.ensures.value ∙ c.self.invariant.index c.args.number in
-    none_marked c.args.number c.args.path (records_in rows) (sym (client_found c.in-Some.row.now c.args.number rows c.self.invariant.order is) ∙ sym c.in-None-find_mut.ensures.value)
+    none_marked c.args.number c.args.path (records_in rows) (sym (client_found c.in-Some.row.now c.args.number rows c.self.invariant.order is) ∙ sym c.find_mut.ensures.value ∙ ap option_copied_mut c.in_default-find_mut.is)
     ∙ ap (λ (s : RoomyRecords). map (after_mark c.args.number c.args.path) s.records) c.self.view_is
 
-pub returns-in-None-clause-records : goal.returns-in-None-clause-records
-returns-in-None-clause-records c =
+pub returns-in_default-clause-records : goal.returns-in_default-clause-records
+returns-in_default-clause-records c =
     let rows = c.self.inside.rows.rows in
     sym (ap (λ (s : RoomyRecords). s.records) c.self.view_is)
-    ∙ none_marked c.args.number c.args.path (records_in rows) (no_client c.args.number rows (c.in-None.ensures.value ∙ c.self.invariant.index c.args.number))
+    ∙ none_marked c.args.number c.args.path (records_in rows) (no_client c.args.number rows (sym (ap option_copied c.in_default.is) ∙ c.get.ensures.value ∙ c.self.invariant.index c.args.number))
     ∙ ap (λ (s : RoomyRecords). map (after_mark c.args.number c.args.path) s.records) c.self.view_is

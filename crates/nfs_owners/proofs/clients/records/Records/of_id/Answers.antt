@@ -1,4 +1,4 @@
-use Rattle.std.proofs.Common.{◌≡◌, ◌∙◌, ap, find, rules, subst, sym}
+use Rattle.std.proofs.Common.{◌≡◌, ◌∙◌, ap, find, rules, sym}
 use Rattle.nfs_rows.specs.Rows.{is_named, pair_in, pair_seen, value_in}
 use Rattle.nfs_rows.proofs.Callers.{none_beside, value_beside}
 use Rattle.nfs_owners.specs.Records.{RoomyRecords}

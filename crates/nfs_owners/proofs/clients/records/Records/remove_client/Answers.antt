@@ -1,4 +1,4 @@
-use Rattle.std.proofs.Common.{◌∙◌, ap}
+use Rattle.std.proofs.Common.{◌∙◌, ap, sym}
 use Rattle.nfs_owners.specs.Records.{RoomyRecords, records_in}
 use Rattle.nfs_owners.specs.Registry.{without_number}
 use Rattle.nfs_owners.proofs.RecordRows.{none_of_client, records_less, rows_less}
@@ -15,7 +15,7 @@ returns-in-Some-clause-records c =
     ∙ records_less c.in-Some.row c.args.number c.self.inside.rows.rows c.self.invariant.order c.self.invariant.clients (c.in-Some.ensures.value ∙ c.self.invariant.index c.args.number)
     ∙ ap (λ (s : RoomyRecords). without_number c.args.number s.records) c.self.view_is
 
-pub returns-in-None-clause-records : goal.returns-in-None-clause-records
-returns-in-None-clause-records c =
-    none_of_client c.args.number c.self.inside.rows.rows (c.in-None.ensures.value ∙ c.self.invariant.index c.args.number)
+pub returns-in_default-clause-records : goal.returns-in_default-clause-records
+returns-in_default-clause-records c =
+    none_of_client c.args.number c.self.inside.rows.rows (sym c.in_default.is ∙ c.swap_remove.ensures.value ∙ c.self.invariant.index c.args.number)
     ∙ ap (λ (s : RoomyRecords). without_number c.args.number s.records) c.self.view_is
