@@ -97,6 +97,7 @@ impl<T> Rows<T> {
         ensures* lends { sem 𝓛 (lends_value T.row self.entry number result) }
         ensures value { option_copied_mut result
             ≡ value_in (find (is_numbered number) self.old.rows) }
+        ensures order { StandInOrder self.old.rows }
     {
         let at = place_of(&self.places, number)?;
         self.slab.get_mut(self.places[at].key)
