@@ -2,8 +2,10 @@
 #![tactic(auto)]
 
 mod iter;
+mod name_hash;
 mod place;
 mod rows;
 
 pub use iter::Iter;
+pub use name_hash::hash_of;
 pub use rows::Rows;
