@@ -2,4 +2,8 @@ pub mod Lists
 pub mod ClientLists
 pub mod NextLive
 pub mod OwnerLists
+pub mod Filing
+pub mod OwnerViews
+pub mod Closing
+pub mod Leaving
 pub mod UnknownPaths
