@@ -3,6 +3,7 @@
 
 mod iter;
 mod name_hash;
+mod parts;
 mod place;
 mod rows;
 
