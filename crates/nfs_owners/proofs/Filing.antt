@@ -4,11 +4,11 @@ use Rattle.std.specs.Prelude.{◌&&◌, ◌||◌, ◌==◌, ◌⊎◌, filter, i
 use Rattle.std.specs.List.{AllByRecursion}
 use Rattle.std.proofs.lemmas.Bool.{eqb-true, false_from_ne_true}
 use Rattle.std.specs.declared.hash.RandomState.{RandomState}
-use Rattle.nfs_rows.specs.Rows.{IsAbove, Row, StandInOrder, is_named, is_numbered, is_of_client, newest_of, pair_in, value_in, with_value, without}
+use Rattle.nfs_rows.specs.Rows.{Row, StandInOrder, is_named, is_numbered, is_of_client, newest_of, numbered_after, pair_in, value_in, with_value, without}
 use Rattle.nfs_rows.proofs.Callers.{changed_all, changed_seen, client_is, find_seen, named_is, with_value_is, without_seen}
 use Rattle.nfs_forms.specs.declared.client_id.ClientId.{ClientId}
 use Rattle.nfs_owners.specs.Owner.{has_client, has_name, is_known, owner_of}
-use Rattle.nfs_owners.specs.OwnerRows.{IsFiled, IsNumberedAnew, name_hash, numbered_after, owners_in, with_state_at}
+use Rattle.nfs_owners.specs.OwnerRows.{IsFiled, IsNumberedAnew, name_hash, owners_in, with_state_at}
 use Rattle.nfs_owners.specs.Owners.{AreApart, with_change}
 use Rattle.nfs_owners.specs.declared.owner.Owner.{Owner}
 use Rattle.nfs_owners.specs.declared.owner.OwnerState.{OwnerState}
@@ -133,13 +133,6 @@ same_without p q (r ∷ rows) h = λ i. cond (not (h.0 i)) (r ∷ same_without p
 pub owners_last : (rows : List (Row Owner)) (r : Row Owner) → owners_in (rows ++ r ∷ []) ≡ owners_in rows ++ r.value ∷ []
 owners_last [] r = refl
 owners_last (s ∷ rows) r = ap (λ os. s.value ∷ os) (owners_last rows r)
-
-pub above_newest : (rows : List (Row Owner)) → StandInOrder rows → IsAbove (newest_of rows + 1) rows
-above_newest [] order = tt
-above_newest (r ∷ []) order = (omega arith, tt)
-above_newest (r ∷ s ∷ rows) order =
-    let rest = above_newest (s ∷ rows) order.1 in
-    (omega (arith, order.0.0, rest.0), rest)
 
 -- rows with other numbers
 pub owners_anew : (last : ℕ) (rows : List (Row Owner)) → owners_in (numbered_after last rows) ≡ owners_in rows

@@ -1,9 +1,9 @@
 -- How owners are kept: in rows, in the order in which they were recorded, found by a keyed hash of their names.
-use Rattle.std.specs.Prelude.{◌≡◌, ◌⊎◌, ℕ, ◌+◌, ◌*◌, ◌^◌, true, false, List, [], ◌∷◌, Option, Some, None, if◌then◌else◌, map}
+use Rattle.std.specs.Prelude.{◌≡◌, ◌⊎◌, ℕ, ◌+◌, ◌*◌, ◌^◌, true, false, List, Option, Some, None, if◌then◌else◌, map}
 use Rattle.std.specs.List.{AllByRecursion}
 use Rattle.std.specs.declared.hash.RandomState.{RandomState}
 use Rattle.nfs_rows.specs.NameHash.{hash_of}
-use Rattle.nfs_rows.specs.Rows.{Row, is_numbered}
+use Rattle.nfs_rows.specs.Rows.{Row, is_numbered, numbered_after}
 use Rattle.nfs_forms.specs.declared.client_id.ClientId.{ClientId}
 use Rattle.nfs_owners.specs.Owner.{has_name, is_known}
 use Rattle.nfs_owners.specs.declared.owner.Owner.{Owner}
@@ -49,12 +49,6 @@ with_state_at change number rows =
 
 abbrev pub confirmed : OwnerState → OwnerState
 confirmed s = record s { confirmed = true }
-
--- the rows in their order, with the numbers that follow this one
-abbrev pub numbered_after : ℕ → List (Row Owner) → List (Row Owner)
-numbered_after last [] = []
-numbered_after last (r ∷ rows) =
-    record r { number = last + 1 } ∷ numbered_after (last + 1) rows
 
 -- the rows, or the rows with the numbers from 1 on
 abbrev pub IsNumberedAnew : List (Row Owner) → List (Row Owner) → Type 0

@@ -4,7 +4,7 @@ ghost use Rattle.nfs_rows.specs.Rows.{IsAbove, is_numbered, newest_of, without};
 ghost use Rattle.nfs_owners.specs.Closers.{AreClosers, closed_at, closed_by, with_at};
 ghost use Rattle.nfs_owners.specs.Kept.{closes};
 ghost use Rattle.nfs_owners.specs.Owner.{has_client, owner_of, with_request};
-ghost use Rattle.nfs_owners.specs.OwnerRows.{IsNumberedAnew, IsRowOf, confirmed, numbered_after, owners_in, with_state_at};
+ghost use Rattle.nfs_owners.specs.OwnerRows.{IsNumberedAnew, IsRowOf, confirmed, owners_in, with_state_at};
 ghost use Rattle.nfs_owners.specs.Owners.{AreOwners, without_owners_of};
 ghost use Rattle.nfs_owners.specs.StateOwner.{owner_seen};
 ghost use Rattle.nfs_owners.specs.declared.owner.TheConstants.{OWNER_LIMIT};
@@ -238,7 +238,7 @@ fn next_row(rows: &mut Rows<Owner>, closers: &mut Closers) -> u64
     if rows.newest() < u64::MAX {
         return after_newest(rows);
     }
-    renumber(rows);
+    rows.renumber();
     closers.partial = true;
     after_newest(rows)
 }
@@ -248,12 +248,5 @@ fn after_newest(rows: &Rows<Owner>) -> u64
     requires { newest_of rows.now.rows < 2 ^ 64 - 1 }
     ensures { IsAbove result rows.now.rows }
 {
-    let _rows = rows.len();
     rows.newest() + 1
 }
-
-// Numbers the rows anew, from 1 on.
-fn renumber(rows: &mut Rows<Owner>)
-    ensures rows { rows.new.rows ≡ numbered_after 0 rows.old.rows }
-    ensures room { rows.new.room ≡ rows.old.room }
-{}
