@@ -1,6 +1,6 @@
 -- An index from states that were closed to the rows whose owners closed them.
-use Rattle.std.proofs.Common.{◌≡◌, ◌≢◌, ℕ, ◌<◌, ◌+◌, ◌==◌, length, Bool, true, false, Some, None, Option, List, [], ◌∷◌, ◌++◌, cond, find, refl, sym, ap, ◌∙◌, subst, arith, inl, inr}
-use Rattle.std.specs.Prelude.{◌⊎◌, ◌&&◌, filter, if◌then◌else◌, nat_eq, not, option_map}
+use Rattle.std.proofs.Common.{◌≡◌, ◌≢◌, ℕ, ◌<◌, ◌==◌, length, Bool, true, false, Some, None, Option, List, [], ◌∷◌, ◌++◌, cond, find, refl, sym, ap, ◌∙◌, subst, arith, inl, inr}
+use Rattle.std.specs.Prelude.{◌⊎◌, ◌&&◌, filter, if◌then◌else◌, not, option_map}
 use Rattle.std.specs.List.{AllByRecursion}
 use Rattle.std.proofs.lemmas.Bool.{cases_eq, eqb-true, eqb-false, false_from_ne_true, true_from_ne_false}
 use Rattle.nfs_rows.specs.Rows.{IsAbove, Row, StandInOrder, is_numbered, value_in, without}
@@ -216,7 +216,7 @@ rows_own (r ∷ rows) order = (ap (λ b. cond b (Some r) (find (is_numbered r.nu
     behind : (back : List (Row Owner)) → AllByRecursion (λ s. r.number < s.number) back → AllByRecursion (λ s. find (is_numbered s.number) rows ≡ Some s) back → AllByRecursion (λ s. find (is_numbered s.number) (r ∷ rows) ≡ Some s) back
     behind [] above own = tt
     behind (s ∷ back) above own =
-        (ap (λ b. cond b (Some r) (find (is_numbered s.number) rows)) (false_from_ne_true _ (λ same. omega (arith, above.0, eqb-true r.number s.number same))) ∙ own.0, behind back above.1 own.1)
+        (ap (λ b. cond b (Some r) (find (is_numbered s.number) rows)) (false_from_ne_true (is_numbered s.number r) (λ same. omega (arith, above.0, eqb-true r.number s.number same))) ∙ own.0, behind back above.1 own.1)
 
 pub empty_nothing : (rows : List (Row Owner)) → length rows == 0 ≡ true → nothing ≡ closed_at rows
 empty_nothing [] is = refl

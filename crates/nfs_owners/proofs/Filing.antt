@@ -1,11 +1,11 @@
 -- Rows of owners, and the owners in them.
 use Rattle.std.proofs.Common.{◌≡◌, ℕ, ◌<◌, ◌≤◌, ◌+◌, Bool, true, false, Some, None, Option, List, [], ◌∷◌, ◌++◌, cond, find, length, refl, sym, ap, ◌∙◌, subst, arith, inl, inr}
-use Rattle.std.specs.Prelude.{◌&&◌, ◌||◌, ◌==◌, ◌⊎◌, filter, if◌then◌else◌, map, not}
+use Rattle.std.specs.Prelude.{◌&&◌, ◌||◌, ◌==◌, not}
 use Rattle.std.specs.List.{AllByRecursion}
 use Rattle.std.proofs.lemmas.Bool.{eqb-true, false_from_ne_true}
 use Rattle.std.specs.declared.hash.RandomState.{RandomState}
 use Rattle.nfs_rows.specs.Rows.{Row, StandInOrder, is_named, is_numbered, is_of_client, newest_of, numbered_after, pair_in, value_in, with_value, without}
-use Rattle.nfs_rows.proofs.Callers.{changed_all, changed_seen, client_is, find_seen, named_is, with_value_is, without_seen}
+use Rattle.nfs_rows.proofs.Callers.{changed_all, changed_seen, client_is, find_seen, named_is, with_value_is}
 use Rattle.nfs_forms.specs.declared.client_id.ClientId.{ClientId}
 use Rattle.nfs_owners.specs.Owner.{has_client, has_name, is_known, owner_of}
 use Rattle.nfs_owners.specs.OwnerRows.{IsFiled, IsNumberedAnew, name_hash, owners_in, with_state_at}
@@ -13,7 +13,7 @@ use Rattle.nfs_owners.specs.Owners.{AreApart, with_change}
 use Rattle.nfs_owners.specs.declared.owner.Owner.{Owner}
 use Rattle.nfs_owners.specs.declared.owner.OwnerState.{OwnerState}
 use Rattle.nfs_owners.specs.declared.state_owner.StateOwner.{StateOwner}
-use Rattle.nfs_owners.proofs.Lists.{all_both, all_find, all_push, all_weaken, neither}
+use Rattle.nfs_owners.proofs.Lists.{all_both, all_find, all_weaken, neither}
 use Rattle.nfs_owners.proofs.OwnerLists.{name_exact}
 
 -- a row with a name has its hash

@@ -1,10 +1,10 @@
 -- Which states were closed, while the rows of some owners are passed one by one to be forgotten.
-use Rattle.std.proofs.Common.{◌≡◌, ◌≢◌, ℕ, ◌<◌, ◌==◌, Bool, true, false, Some, None, Option, List, [], ◌∷◌, cond, find, refl, sym, ap, ◌∙◌, subst, arith, inl, inr}
-use Rattle.std.specs.Prelude.{◌⊎◌, ◌||◌, filter, if◌then◌else◌, map, not, option_map}
+use Rattle.std.proofs.Common.{◌≡◌, ◌≢◌, ℕ, ◌<◌, ◌==◌, Bool, true, false, Some, None, Option, List, [], ◌∷◌, cond, find, refl, sym, ap, ◌∙◌, arith, inl, inr}
+use Rattle.std.specs.Prelude.{◌⊎◌, ◌||◌, if◌then◌else◌, map, option_map}
 use Rattle.std.specs.List.{AllByRecursion, list_any}
 use Rattle.std.proofs.lemmas.Bool.{cases_eq, eqb-true, eqb-false, false_from_ne_true, true_from_ne_false}
 use Rattle.nfs_rows.specs.Rows.{Row, StandInOrder, StandSo, is_numbered, pair_of, value_in, without}
-use Rattle.nfs_rows.proofs.Each.{all_weaken, find_none}
+use Rattle.nfs_rows.proofs.Each.{all_weaken}
 use Rattle.nfs_owners.specs.Closers.{closed_at, closed_by, closed_of, with_at}
 use Rattle.nfs_owners.specs.OwnerRows.{owners_in}
 use Rattle.nfs_owners.specs.declared.owner.Owner.{Owner}
@@ -78,7 +78,7 @@ module _ (test : Owner → Bool) (rows : List (Row Owner)) (p : ℕ × Owner) (p
 
   none_listed : (qs : List (ℕ × Owner)) → AllByRecursion (λ q. p.0 < q.0) qs → list_any (λ q. q.0 == p.0) qs ≡ false
   none_listed [] h = refl
-  none_listed (q ∷ qs) h = ap (λ b. b || list_any (λ q. q.0 == p.0) qs) (false_from_ne_true _ (λ same. omega (arith, h.0, eqb-true q.0 p.0 same))) ∙ none_listed qs h.1
+  none_listed (q ∷ qs) h = ap (λ b. b || list_any (λ q. q.0 == p.0) qs) (false_from_ne_true (q.0 == p.0) (λ same. omega (arith, h.0, eqb-true q.0 p.0 same))) ∙ none_listed qs h.1
 
   first : left test rows (p ∷ ps) p.0 ≡ closed_at rows p.0
   first = ap (λ b. Choice p.0 (b || list_any (λ q. q.0 == p.0) ps)) (true_from_ne_false _ (λ differs. eqb-false p.0 p.0 differs refl))

@@ -1,7 +1,6 @@
 -- What a change of rows is to the owners in them.
-use Rattle.std.proofs.Common.{◌≡◌, ℕ, Bool, true, false, Some, None, Option, List, [], ◌∷◌, ◌++◌, is_some, refl, sym, ap, ◌∙◌, subst}
+use Rattle.std.proofs.Common.{◌≡◌, ℕ, false, Some, None, Option, List, [], ◌∷◌, ◌++◌, is_some, refl, sym, ap, ◌∙◌, subst}
 use Rattle.std.specs.Prelude.{if◌then◌else◌}
-use Rattle.std.specs.List.{AllByRecursion}
 use Rattle.nfs_rows.specs.Rows.{Row, is_numbered, without}
 use Rattle.nfs_rows.proofs.Callers.{without_seen}
 use Rattle.nfs_forms.specs.declared.client_id.ClientId.{ClientId}
@@ -10,7 +9,6 @@ use Rattle.nfs_owners.specs.OwnerRows.{IsRowOf, confirmed, owners_in, with_state
 use Rattle.nfs_owners.specs.Owners.{with_change, with_confirmed, with_kept, without_owner, without_owners_of}
 use Rattle.nfs_owners.specs.declared.kept.Kept.{Kept}
 use Rattle.nfs_owners.specs.declared.owner.Owner.{Owner}
-use Rattle.nfs_owners.specs.declared.owner.OwnerState.{OwnerState}
 use Rattle.nfs_owners.specs.declared.state_owner.StateOwner.{StateOwner}
 use Rattle.nfs_owners.proofs.Filing.{all_true, state_seen}
 use Rattle.nfs_owners.proofs.OwnerLists.{unknown_change}

@@ -1,5 +1,5 @@
 -- Which owner's kept request closed a state.
-use Rattle.std.specs.Prelude.{◌≡◌, ℕ, ◌==◌, false, Bool, List, Option, Some, None, if◌then◌else◌, find, nat_eq}
+use Rattle.std.specs.Prelude.{◌≡◌, ℕ, ◌==◌, false, List, Option, Some, None, if◌then◌else◌, find, nat_eq}
 use Rattle.indexmap.specs.IndexMap.{get}
 use Rattle.nfs_rows.specs.Rows.{Row, is_numbered, value_in}
 use Rattle.nfs_xdr.specs.declared.op.Op.{Op}

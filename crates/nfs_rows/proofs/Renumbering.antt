@@ -1,9 +1,9 @@
 -- Places that are numbered anew.
-use Rattle.std.proofs.Common.{◌≡◌, ◌≢◌, ℕ, zero, suc, ◌+◌, ◌<◌, ◌≤◌, Bool, true, false, not, List, [], ◌∷◌, ◌++◌, length, get_or, set, take, refl, sym, ap, ◌∙◌, subst, arith}
+use Rattle.std.proofs.Common.{◌≡◌, ◌≢◌, ℕ, zero, suc, ◌+◌, ◌<◌, ◌≤◌, true, not, List, [], ◌∷◌, ◌++◌, length, get_or, set, take, refl, sym, ap, ◌∙◌, arith}
 use Rattle.std.specs.List.{AllByRecursion}
-use Rattle.slab.specs.Slab.{Slab, get}
-use Rattle.nfs_rows.specs.Rows.{Row, numbered_after}
-use Rattle.nfs_rows.specs.Places.{EndsKept, HasRow, KeysDiffer, NumbersRise, kept, placed_after, row_with, rows_of}
+use Rattle.slab.specs.Slab.{Slab}
+use Rattle.nfs_rows.specs.Rows.{numbered_after}
+use Rattle.nfs_rows.specs.Places.{HasRow, KeysDiffer, NumbersRise, kept, placed_after, row_with, rows_of}
 use Rattle.nfs_rows.specs.declared.place.Place.{Place}
 use Rattle.nfs_rows.proofs.Each.{filter_all, passes_filter}
 use Rattle.nfs_rows.proofs.Shown.{rows_first, value_at}

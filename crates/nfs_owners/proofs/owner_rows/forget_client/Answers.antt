@@ -1,4 +1,4 @@
-use Rattle.std.proofs.Common.{◌≡◌, ◌∙◌, ℕ, Bool, List, [], ◌∷◌, ap, map, subst, sym}
+use Rattle.std.proofs.Common.{◌≡◌, ◌∙◌, ℕ, ◌∷◌, ap, map, subst, sym}
 use Rattle.nfs_rows.specs.Rows.{pair_of}
 use Rattle.nfs_owners.specs.Closers.{AreClosers}
 use Rattle.nfs_owners.specs.Owner.{has_client}

@@ -1,4 +1,3 @@
-use Rattle.std.proofs.Common.{◌≡◌}
 use Rattle.nfs_owners.specs.Closers.{AreClosers, closed_at}
 use Rattle.nfs_owners.specs.Owner.{has_client}
 use Rattle.nfs_owners.proofs.Leaving.{ArePairs, left}

@@ -1,4 +1,4 @@
-use Rattle.std.proofs.Common.{◌≡◌, ◌∙◌, ℕ, suc, ◌+◌, ◌<◌, List, ap, arith, false, length, slice_index_or, slice_set}
+use Rattle.std.proofs.Common.{◌≡◌, ◌∙◌, suc, ◌+◌, ◌<◌, List, ap, arith, false, length, slice_index_or, slice_set}
 use Rattle.nfs_rows.specs.declared.place.Place.{Place}
 use Rattle.nfs_rows.proofs.Renumbering.{length_placed_to, placed_all, placed_step, placed_to}
 use Rattle.nfs_rows.proofs.place.number_each.Goals as goal

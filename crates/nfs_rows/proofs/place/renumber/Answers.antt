@@ -1,6 +1,6 @@
-use Rattle.std.proofs.Common.{◌≡◌, ◌∙◌, ap, arith, drop, length, not, rules}
+use Rattle.std.proofs.Common.{◌∙◌, ap, arith, drop, length, not, rules}
 use Rattle.std.proofs.lemmas.Fn.{filter_same}
-use Rattle.nfs_rows.specs.Places.{kept, placed_after}
+use Rattle.nfs_rows.specs.Places.{placed_after}
 use Rattle.nfs_rows.specs.declared.place.Place.{Place}
 use Rattle.nfs_rows.proofs.Renumbering.{length_placed, take_front}
 use Rattle.nfs_rows.proofs.place.renumber.Goals as goal

@@ -1,4 +1,4 @@
-use Rattle.std.proofs.Common.{◌≡◌, ◌∙◌, ap, find, option_copied, sym}
+use Rattle.std.proofs.Common.{◌∙◌, ap, find, option_copied, sym}
 use Rattle.std.specs.Prelude.{nat_eq}
 use Rattle.indexmap.specs.IndexMap.{get}
 use Rattle.nfs_rows.specs.Rows.{RoomyRows}

@@ -1,6 +1,6 @@
-use Rattle.std.proofs.Common.{◌≡◌, ◌∙◌, ap, find, refl, subst, sym}
+use Rattle.std.proofs.Common.{◌∙◌, ap, refl, subst, sym}
 use Rattle.std.specs.List.{AllByRecursion}
-use Rattle.nfs_rows.specs.Rows.{RoomyRows, is_numbered, value_in, with_value}
+use Rattle.nfs_rows.specs.Rows.{RoomyRows}
 use Rattle.nfs_rows.proofs.Callers.{with_change_none, with_value_is}
 use Rattle.nfs_owners.specs.Closers.{AreClosers, closed_at}
 use Rattle.nfs_owners.specs.OwnerRows.{IsFiled, confirmed, with_state_at}

@@ -1,5 +1,5 @@
-use Rattle.std.proofs.Common.{◌≡◌, ◌∙◌, ap, find, refl, sym, rules, None, Some}
-use Rattle.nfs_rows.specs.Rows.{RoomyRows, is_named, pair_in, pair_seen, value_in}
+use Rattle.std.proofs.Common.{◌∙◌, ap, find, sym, rules}
+use Rattle.nfs_rows.specs.Rows.{RoomyRows, is_named, pair_in, pair_seen}
 use Rattle.nfs_rows.proofs.Callers.{none_beside, value_beside}
 use Rattle.nfs_owners.specs.Owner.{has_name, owner_of}
 use Rattle.nfs_owners.specs.OwnerRows.{name_hash, owners_in}

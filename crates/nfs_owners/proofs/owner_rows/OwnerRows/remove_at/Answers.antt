@@ -1,6 +1,6 @@
-use Rattle.std.proofs.Common.{◌≡◌, ◌∙◌, None, ap, not, subst, sym}
+use Rattle.std.proofs.Common.{◌∙◌, ap, not, subst, sym}
 use Rattle.std.specs.List.{AllByRecursion}
-use Rattle.nfs_rows.specs.Rows.{RoomyRows, is_numbered, without}
+use Rattle.nfs_rows.specs.Rows.{is_numbered}
 use Rattle.nfs_rows.proofs.Each.{all_filter}
 use Rattle.nfs_owners.specs.Closers.{AreClosers, closed_at}
 use Rattle.nfs_owners.specs.OwnerRows.{IsFiled}

@@ -1,8 +1,8 @@
-use Rattle.std.proofs.Common.{◌≡◌, ◌∙◌, ap, find, refl, subst, sym, rules, false, None, Some}
-use Rattle.nfs_rows.specs.Rows.{RoomyRows, is_named, pair_in, pair_seen, value_in}
+use Rattle.std.proofs.Common.{◌≡◌, ◌∙◌, ap, find, subst, sym, rules, false, Some}
+use Rattle.nfs_rows.specs.Rows.{RoomyRows, is_named, pair_in, pair_seen}
 use Rattle.nfs_owners.specs.Owner.{has_name, is_known}
-use Rattle.nfs_owners.specs.OwnerRows.{IsRowOf, name_hash, owners_in}
-use Rattle.nfs_owners.specs.Owners.{AreApart, AreOwners}
+use Rattle.nfs_owners.specs.OwnerRows.{IsRowOf, owners_in}
+use Rattle.nfs_owners.specs.Owners.{AreOwners}
 use Rattle.nfs_owners.specs.StateOwner.{owner_seen}
 use Rattle.nfs_owners.specs.declared.owner.Owner.{Owner}
 use Rattle.nfs_owners.proofs.Filing.{pair_found, row_known, row_unknown}

@@ -1,5 +1,4 @@
 use Rattle.std.proofs.Common.{◌≡◌, ap, ◌∙◌, refl, subst, sym}
-use Rattle.nfs_owners.specs.Owner.{is_known}
 use Rattle.nfs_owners.specs.OwnerRows.{confirmed, owners_in}
 use Rattle.nfs_owners.specs.Owners.{AreOwners, RoomyOwners, with_confirmed}
 use Rattle.nfs_owners.specs.StateOwner.{owner_seen}

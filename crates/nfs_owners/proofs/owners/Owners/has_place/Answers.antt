@@ -1,10 +1,10 @@
-use Rattle.std.proofs.Common.{◌≡◌, Bool, true, false, nat_lt, length, map, refl, sym, ap, ◌∙◌, subst}
+use Rattle.std.proofs.Common.{◌≡◌, Bool, true, false, nat_lt, length, refl, sym, ap, ◌∙◌, subst}
 use Rattle.std.specs.Prelude.{◌||◌}
 use Rattle.std.proofs.lemmas.List.{length-map}
 use Rattle.nfs_owners.specs.declared.owner.Owner.{Owner}
 use Rattle.nfs_owners.specs.declared.owner.TheConstants.{OWNER_LIMIT}
 use Rattle.nfs_owners.specs.Owner.{is_known}
-use Rattle.nfs_owners.specs.Owners.{AreOwners, RoomyOwners, has_place}
+use Rattle.nfs_owners.specs.Owners.{AreOwners, RoomyOwners}
 use Rattle.nfs_owners.proofs.OwnerLists.{few_others}
 use Rattle.nfs_owners.specs.StateOwner.{owner_seen}
 use Rattle.nfs_owners.proofs.owners.Owners.has_place.Goals as goal

@@ -1,4 +1,4 @@
-use Rattle.std.proofs.Common.{◌≡◌, ap, ◌∙◌, subst, sym}
+use Rattle.std.proofs.Common.{ap, ◌∙◌, subst, sym}
 use Rattle.nfs_owners.specs.OwnerRows.{owners_in}
 use Rattle.nfs_owners.specs.Owners.{AreOwners, RoomyOwners, has_place, with_kept}
 use Rattle.nfs_owners.proofs.OwnerLists.{owners_kept}

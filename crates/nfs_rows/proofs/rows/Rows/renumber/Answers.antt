@@ -1,8 +1,7 @@
 use Rattle.std.proofs.Common.{◌≡◌, ◌∙◌, false, true, ap, arith, length, subst, sym}
 use Rattle.std.specs.List.{AllByRecursion}
 use Rattle.nfs_rows.specs.Rows.{RoomyRows, numbered_after}
-use Rattle.nfs_rows.specs.Places.{AreKept, EndsKept, HasRow, KeysDiffer, NumbersRise, kept, placed_after, rows_of}
-use Rattle.nfs_rows.specs.declared.place.Place.{Place}
+use Rattle.nfs_rows.specs.Places.{EndsKept, HasRow, KeysDiffer, NumbersRise, kept, placed_after, rows_of}
 use Rattle.nfs_rows.proofs.Marks.{ends_all}
 use Rattle.nfs_rows.proofs.Renumbering.{kept_placed, keys_placed, length_placed, live_placed, rise_placed, rows_placed, there_placed}
 use Rattle.nfs_rows.proofs.rows.Rows.renumber.Goals as goal
