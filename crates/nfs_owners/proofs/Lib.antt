@@ -3,3 +3,7 @@ pub mod ClientLists
 pub mod OwnerLists
 pub mod RecordRows
 pub mod LiveNumbers
+pub mod Filing
+pub mod OwnerViews
+pub mod Closing
+pub mod Leaving

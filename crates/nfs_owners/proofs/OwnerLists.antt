@@ -142,7 +142,7 @@ fewer_known : (name : StateOwner) (owners : List Owner) → is_known name owners
 fewer_known name [] known = cc
 fewer_known name (o ∷ owners) known = grind (arith, known, fewer_known name owners, length-filter_both (λ o. not (has_name name o)) (has_name name) (λ x. not_not (has_name name x)) owners)
 
-same_unknown : (name : StateOwner) (owners : List Owner) → is_known name owners ≡ false → without_owner name owners ≡ owners
+pub same_unknown : (name : StateOwner) (owners : List Owner) → is_known name owners ≡ false → without_owner name owners ≡ owners
 same_unknown name [] unknown = refl
 same_unknown name (o ∷ owners) unknown = grind (arith, unknown, same_unknown name owners)
 

@@ -9,6 +9,8 @@ pub mod Kept
 pub mod StateOwner
 pub mod Owner
 pub mod Owners
+pub mod Closers
+pub mod OwnerRows
 pub mod OwnerLaws
 pub mod LiveClients
 pub mod LiveChange

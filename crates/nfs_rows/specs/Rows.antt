@@ -1,5 +1,5 @@
 -- What contracts see of rows.
-use Rattle.std.specs.Prelude.{◌≡◌, ℕ, ◌<◌, ◌==◌, Bool, ◌&&◌, not, if◌then◌else◌, List, [], ◌∷◌, filter, map, Option, refl, ⊤}
+use Rattle.std.specs.Prelude.{◌≡◌, ℕ, ◌+◌, ◌<◌, ◌==◌, Bool, ◌&&◌, not, if◌then◌else◌, List, [], ◌∷◌, filter, map, Option, refl, ⊤}
 use Rattle.std.specs.Option.{option_map}
 use Rattle.std.specs.Borrow.{Bor}
 use Rattle.std.specs.Fn.{Shared}
@@ -95,3 +95,9 @@ module _ {V : Type 0} where
   -- the rows that fail the test
   abbrev pub without : (Row V → Bool) → List (Row V) → List (Row V)
   without test rows = filter (λ r. not (test r)) rows
+
+  -- the rows in their order, with the numbers that follow this one
+  abbrev pub numbered_after : ℕ → List (Row V) → List (Row V)
+  numbered_after last [] = []
+  numbered_after last (r ∷ rows) =
+      record r { number = last + 1 } ∷ numbered_after (last + 1) rows

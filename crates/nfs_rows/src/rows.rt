@@ -1,11 +1,11 @@
 ghost use Rattle.std.specs.Prelude.{◌≡◌, ◌<◌, ◌≤◌, ◌==◌, ◌+◌, [], ◌∷◌, ◌++◌, IsOk, OnErr, OnOk, Bool, find, length, map};
 ghost use Rattle.std.specs.Option.{option_copied, option_copied_mut};
 ghost use Rattle.std.specs.Borrow.{sem};
-ghost use Rattle.nfs_rows.specs.Rows.{AnswersAs, IsAbove, StandInOrder, is_named, is_numbered, is_of_client, newest_of, pair_in, pair_of, pair_seen, value_in, without};
+ghost use Rattle.nfs_rows.specs.Rows.{AnswersAs, IsAbove, StandInOrder, is_named, is_numbered, is_of_client, newest_of, numbered_after, pair_in, pair_of, pair_seen, value_in, without};
 
 use crate::iter::Iter;
 use crate::parts::{has_row_of, named_among, stay_clashed, take};
-use crate::place::{Place, drop_marks, place_of};
+use crate::place::{Place, drop_marks, place_of, renumber};
 use indexmap::IndexMap;
 use slab::Slab;
 use std::alloc::{AllocError, Global};
@@ -209,5 +209,14 @@ impl<T> Rows<T> {
         }
         drop_marks(&mut self.places, self.slab.len());
         self.clashed = stay_clashed(&mut self.index, self.clashed, self.slab.len());
+    }
+
+    /// Numbers the rows anew, from 1 on. Then look-ups by hash look at each row, as long as there are rows.
+    pub fn renumber(&mut self)
+        ensures rows { self.new.rows ≡ numbered_after 0 self.old.rows }
+        ensures room { self.new.room ≡ self.old.room }
+    {
+        renumber(&mut self.places);
+        self.clashed = true;
     }
 }
