@@ -8,6 +8,7 @@ mod first_lock;
 mod laws;
 mod lock_state;
 mod locks;
+mod numbers;
 mod owner_order;
 mod report;
 mod reserves;

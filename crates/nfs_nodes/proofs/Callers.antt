@@ -1,5 +1,5 @@
 -- For callers: what stands at its nodes after a change of the lists, or of the nodes that are known.
-use Rattle.std.proofs.Common.{inl, inr, ◌≡◌, ℕ, zero, suc, ◌+◌, ◌*◌, ◌^◌, ◌<◌, ◌≤◌, Bool, true, false, cond, List, [], ◌∷◌, ◌++◌, filter, length, map, nat_eq, position, slice_set, Option, Some, None, refl, sym, ap, subst, ◌∙◌, arith}
+use Rattle.std.proofs.Common.{inl, inr, ◌≡◌, ◌⊎◌, ℕ, zero, suc, ◌+◌, ◌*◌, ◌^◌, ◌<◌, ◌≤◌, Bool, true, false, cond, List, [], ◌∷◌, ◌++◌, filter, length, map, nat_eq, position, slice_set, Option, Some, None, refl, sym, ap, subst, ◌∙◌, arith}
 use Rattle.std.specs.Prelude.{find, slice_get, unwrap_or, ◌||◌}
 use Rattle.std.specs.List.{AllByRecursion, list_any, position_from}
 use Rattle.std.proofs.lemmas.Bool.{cases_Bool, cond-false, cond-true, eqb-true, eqb-false, false_from_ne_true, true≢false}
@@ -236,6 +236,79 @@ module _ {X : Type 0} (number : X → ℕ) where
         position_from-zero (list_any test) lists
         ∙ somewhere_from 0 node lists xs there (some ∙ ap Some (sym this)) h
         ∙ ap (λ m. cond (list_any test xs) (Some m) None) this
+
+-- What is kept of the things that are found, where they are so many.
+module _ {X : Type 0} where
+  length_push : (xs : List X) (y : X) → length (xs ++ y ∷ []) ≡ length xs + 1
+  length_push [] y = refl
+  length_push (x ∷ xs) y = omega (arith, length_push xs y)
+
+  as_many_set : (lists : List (List X)) (node : ℕ) (ys : List X) → length (slice_set lists node ys) ≡ length lists
+  as_many_set [] node ys = refl
+  as_many_set (xs ∷ lists) zero ys = refl
+  as_many_set (xs ∷ lists) (suc node) ys = omega (arith, as_many_set lists node ys)
+
+  as_many_mapped : (f : List X → List X) (lists : List (List X)) → length (map f lists) ≡ length lists
+  as_many_mapped f [] = refl
+  as_many_mapped f (xs ∷ lists) = omega (arith, as_many_mapped f lists)
+
+  as_many : (f : X → X) (xs : List X) → length (map f xs) ≡ length xs
+  as_many f [] = refl
+  as_many f (x ∷ xs) = omega (arith, as_many f xs)
+
+  there_or_not : (lists : List (List X)) (node : ℕ) → ((d : List X) × (slice_get lists node ≡ Some d)) ⊎ ((ys : List X) → slice_set lists node ys ≡ lists)
+  there_or_not [] node = inr (λ ys. refl)
+  there_or_not (xs ∷ lists) zero = inl (xs, refl)
+  there_or_not (xs ∷ lists) (suc node) =
+      elim (there_or_not lists node) [
+        | inl there ↦ inl there
+        | inr none ↦ inr (λ ys. ap (λ more. xs ∷ more) (none ys))
+      ]
+
+  is_below : (lists : List (List X)) (node : ℕ) → node < length lists → (d : List X) × (slice_get lists node ≡ Some d)
+  is_below [] node below = absurd (omega (arith, below))
+  is_below (xs ∷ lists) zero below = (xs, refl)
+  is_below (xs ∷ lists) (suc node) below = is_below lists node (omega (arith, below))
+
+  module _ (number : X → ℕ) (at : Option (List X) → List X) (is_at : (xs : List X) → at (Some xs) ≡ xs) (node count : ℕ) (lists : List (List X)) where
+    pub found_more : (old new : RoomyNodes) (y : X) → HasAt (number y) (Some node) old new → number y < 2 ^ 32 → node < length lists
+        → AllByRecursion (AllByRecursion (λ x. number x < number y)) lists → AreFound number old count lists
+        → AreFound number new (count + 1) (slice_set lists node (at (slice_get lists node) ++ y ∷ []))
+    found_more old new y added fits below above h =
+        let there = is_below lists node below in record {
+          stand = stand_more number old new y node added at is_at fits 0 node lists (omega arith) above h.stand;
+          counted = omega (arith, h.counted, length_push there.0 y, total_at number at is_at new (λ xs. xs ++ y ∷ []) node lists there.0 there.1);
+          few = omega (arith, h.few, as_many_set lists node (at (slice_get lists node) ++ y ∷ []));
+        }
+
+    pub found_fewer_at : (nodes : RoomyNodes) (p : X → Bool) (fewer : ℕ) → node < length lists
+        → ((d : List X) → slice_get lists node ≡ Some d → fewer + length d ≡ count + length (filter p d)) → AreFound number nodes count lists
+        → AreFound number nodes fewer (slice_set lists node (filter p (at (slice_get lists node))))
+    found_fewer_at nodes p fewer below less h =
+        let there = is_below lists node below in record {
+          stand = stand_fewer_at number at is_at nodes p 0 node lists h.stand;
+          counted = omega (arith, h.counted, less there.0 there.1, total_at number at is_at nodes (filter p) node lists there.0 there.1);
+          few = omega (arith, h.few, as_many_set lists node (filter p (at (slice_get lists node))));
+        }
+
+    pub found_changed : (nodes : RoomyNodes) (f : X → X) → ((x : X) → number (f x) ≡ number x) → AreFound number nodes count lists
+        → AreFound number nodes count (slice_set lists node (map f (at (slice_get lists node))))
+    found_changed nodes f same h = record {
+      stand = stand_changed number at is_at nodes f same 0 node lists h.stand;
+      counted = elim (there_or_not lists node) [
+        | inl there ↦ omega (arith, h.counted, as_many f there.0, total_at number at is_at nodes (map f) node lists there.0 there.1)
+        | inr none ↦ omega (arith, h.counted, ap total (none (map f (at (slice_get lists node)))))
+      ];
+      few = omega (arith, h.few, as_many_set lists node (map f (at (slice_get lists node))));
+    }
+
+    pub found_fewer : (nodes : RoomyNodes) (p : X → Bool) (fewer : ℕ) → fewer ≡ total (map (filter p) lists) → AreFound number nodes count lists
+        → AreFound number nodes fewer (map (filter p) lists)
+    found_fewer nodes p fewer is h = record {
+      stand = stand_fewer number at is_at nodes p 0 lists h.stand;
+      counted = is;
+      few = omega (arith, h.few, as_many_mapped (filter p) lists);
+    }
 
 -- what is found in a list, where the test tells whether there is something
 pub found_if_any : {X Y : Type 0} (test : X → Bool) (seen : Option X → Option Y) → seen None ≡ None → (xs : List X) → seen (find test xs) ≡ cond (list_any test xs) (seen (find test xs)) None

@@ -6,6 +6,7 @@ pub mod CompatibleOpens
 pub mod OneFile
 pub mod Names
 pub mod AllOpens
+pub mod Indexed
 pub mod NextDue
 pub mod DelegationOrder
 pub mod ApartDelegations

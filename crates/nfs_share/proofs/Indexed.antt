@@ -1,0 +1,189 @@
+-- The opens and the delegations of all files beside their nodes.
+use Rattle.std.proofs.Common.{inl, inr, ◌≡◌, ℕ, zero, suc, ◌+◌, ◌-◌, ◌<◌, ◌≤◌, ◌^◌, Bool, true, false, cond, not, List, [], ◌∷◌, ◌++◌, length, map, min, replicate, position, slice_index_or, slice_set, Option, Some, None, refl, sym, ap, subst, ◌∙◌, arith}
+use Rattle.std.specs.Prelude.{IfSome, filter, find, nat_lt, slice_get, is_none, is_some, if◌then◌else◌, ◌||◌}
+use Rattle.std.specs.List.{AllByRecursion, list_any}
+use Rattle.std.proofs.Math.Nat.{min-le_left, min-le_right, suc-min-suc}
+use Rattle.std.proofs.lemmas.Bool.{and_parts, cases_Bool, eqb-true, eqb-false, ltb-false, ltb-true, true≢false}
+use Rattle.std.proofs.lemmas.List.{length-map}
+use Rattle.nfs_forms.specs.declared.open_owner.OpenOwner.{OpenOwner}
+use Rattle.nfs_forms.specs.declared.stateid.Stateid.{Stateid}
+use Rattle.nfs_share.specs.AllOpens.{DelegationAt, at_node, delegations_of, lent_at, lent_found, lent_in, list_at, list_or_none, named_at, named_in, opens_of, total_length}
+use Rattle.nfs_share.specs.Delegations.{is_delegation_numbered, is_lent_to, is_stateid_of_delegation}
+use Rattle.nfs_share.specs.OpenNodes.{lent_number, open_number, within_rooms}
+use Rattle.nfs_share.specs.Opens.{FileOpens, after_open, first_open, is_numbered, is_of, is_of_client, is_stateid_of, open_named_by, open_of, with_each, with_opening}
+use Rattle.nfs_share.specs.declared.delegation.Delegation.{Delegation}
+use Rattle.nfs_share.specs.declared.open_state.OpenState.{OpenState}
+use Rattle.nfs_share.specs.declared.share.Share.{Share}
+use Rattle.nfs_share.proofs.OneFile.{no_room_at}
+use Rattle.nfs_nodes.specs.Nodes.{RoomyNodes}
+use Rattle.nfs_nodes.specs.Numbers.{AreFound, StandFrom, total}
+use Rattle.nfs_nodes.proofs.Callers.{found_if_any, none_stand, total_fewer}
+
+module _ {X : Type 0} (get : FileOpens → List X) (same : (a b : ℕ) (f : FileOpens) → get (within_rooms a b f) ≡ get f) where
+  -- what is seen of the files is what they have, whatever room there is
+  pub seen_within : (a b : ℕ) (files : List FileOpens) → map get (map (within_rooms a b) files) ≡ map get files
+  seen_within a b [] = refl
+  seen_within a b (f ∷ files) = λ i. same a b f i ∷ seen_within a b files i
+
+  pub in_view : (a b : ℕ) (files view : List FileOpens) → map (within_rooms a b) files ≡ view → map get files ≡ map get view
+  in_view a b files view is = sym (seen_within a b files) ∙ ap (map get) is
+
+module _ {X : Type 0} (get : FileOpens → List X) where
+  -- what a file has stands at its node
+  pub list_there : (files : List FileOpens) (node : ℕ) (file : FileOpens) → node < length files → file ≡ slice_index_or files node file
+      → slice_get (map get files) node ≡ Some (get file)
+  list_there [] node file below is = absurd (omega (arith, below))
+  list_there (f ∷ files) zero file below is = ap (λ (f : FileOpens). Some (get f)) (sym is)
+  list_there (f ∷ files) (suc node) file below is = list_there files node file (omega (arith, below)) is
+
+module _ {X : Type 0} where
+  pub counted : (lists : List (List X)) → total_length lists ≡ total lists
+  counted [] = refl
+  counted (xs ∷ lists) = omega (arith, counted lists)
+
+  -- how many are left of so many, where there were no fewer
+  pub counted_again : (p : X → Bool) (count gone left : ℕ) (lists : List (List X)) → count ≡ total lists
+      → gone ≡ count - total_length (map (filter p) lists) → left ≡ count - gone → left ≡ total (map (filter p) lists)
+  counted_again p count gone left lists is less rest =
+      omega (arith, is, less, rest, counted (map (filter p) lists), total_fewer p lists)
+
+  -- there are none yet
+  pub none_yet : (number : X → ℕ) (n : ℕ) (lists : List (List X)) (nodes : RoomyNodes) → lists ≡ replicate n [] → length lists < 2 ^ 32 → AreFound number nodes 0 lists
+  none_yet number n lists nodes is few =
+      let both = none_stand number nodes 0 0 lists (subst (λ (s : List (List X)). AllByRecursion (λ (l : List X). l ≡ []) s) (sym is) (all_empty n)) in record {
+        stand = both.0;
+        counted = sym both.1;
+        few = few;
+      }
+    where
+      all_empty : (n : ℕ) → AllByRecursion (λ (l : List X). l ≡ []) (replicate n [])
+      all_empty zero = tt
+      all_empty (suc n) = (refl, all_empty n)
+
+  -- nothing in the list has the number
+  pub none_numbered : (number_of : X → ℕ) (test : ℕ → X → Bool) → ((n : ℕ) (x : X) → test n x ≡ false → number_of x ≡ n → ⊥) → (n : ℕ) (xs : List X) → list_any (test n) xs ≡ false
+      → AllByRecursion (λ x. number_of x ≡ n → ⊥) xs
+  none_numbered number_of test differs n [] none = tt
+  none_numbered number_of test differs n (x ∷ xs) none = by (test n x) refl none
+    where
+      by : (b : Bool) → test n x ≡ b → (b || list_any (test n) xs) ≡ false → (number_of x ≡ n → ⊥) × AllByRecursion (λ x. number_of x ≡ n → ⊥) xs
+      by true is no = absurd (true≢false no)
+      by false is no = (differs n x is, none_numbered number_of test differs n xs no)
+
+pub open_differs : (n : ℕ) (o : OpenState) → is_numbered n o ≡ false → open_number o ≡ n → ⊥
+open_differs n o other = eqb-false o.number n other
+
+pub lent_differs : (n : ℕ) (d : Delegation) → is_delegation_numbered n d ≡ false → lent_number d ≡ n → ⊥
+lent_differs n d other = eqb-false d.number n other
+
+-- room of both kinds
+both_rooms : (a b : ℕ) → 0 < min a b → (0 < a) × (0 < b)
+both_rooms a b h = (omega (arith, h, min-le_left a b), omega (arith, h, min-le_right a b))
+
+least_room : (a b : ℕ) → 0 < a → 0 < b → 0 < min a b
+least_room zero b h k = absurd (omega (arith, h))
+least_room (suc a) zero h k = absurd (omega (arith, k))
+least_room (suc a) (suc b) h k = omega (arith, suc-min-suc a b)
+
+module _ (room : FileOpens → ℕ) where
+  -- there is room at the node
+  abbrev HasAt : ℕ → List FileOpens → Type 0
+  HasAt node files = IfSome (slice_get files node) (λ f. 0 < room f)
+
+  module _ (a b limit : ℕ) (least : (f : FileOpens) → room (within_rooms a b f) ≡ min limit (room f)) where
+    pub has_within : 0 < limit → (files : List FileOpens) (node : ℕ) → HasAt node files → HasAt node (map (within_rooms a b) files)
+    has_within some [] node has = has
+    has_within some (f ∷ files) zero has = subst (λ n. 0 < n) (sym (least f)) (least_room limit (room f) some has)
+    has_within some (f ∷ files) (suc node) has = has_within some files node has
+
+    pub has_without : (files : List FileOpens) (node : ℕ) → node < length files → HasAt node (map (within_rooms a b) files) → (0 < limit) × HasAt node files
+    has_without [] node below has = absurd (omega (arith, below))
+    has_without (f ∷ files) zero below has = both_rooms limit (room f) (subst (λ n. 0 < n) (least f) has)
+    has_without (f ∷ files) (suc node) below has = has_without files node (omega (arith, below)) has
+
+  -- files that have room keep it
+  pub keeps_within : (a b limit a' b' limit' : ℕ) → ((f : FileOpens) → room (within_rooms a b f) ≡ min limit (room f)) → ((f : FileOpens) → room (within_rooms a' b' f) ≡ min limit' (room f))
+      → limit ≤ limit' → (files files' : List FileOpens) (node : ℕ) → length files' ≡ length files → (HasAt node files → HasAt node files')
+      → HasAt node (map (within_rooms a b) files) → HasAt node (map (within_rooms a' b') files')
+  keeps_within a b limit a' b' limit' least least' more files files' node same grows has =
+      elim (cases_Bool (nat_lt node (length files))) [
+        | inl below ↦
+            let both = has_without a b limit least files node (ltb-true _ _ below) has in
+            has_within a' b' limit' least' (omega (arith, both.0, more)) files' node (grows both.1)
+        | inr above ↦ no_room_at room (map (within_rooms a' b') files') node (omega (arith, ltb-false _ _ above, same, length-map files' (within_rooms a' b')))
+      ]
+
+-- the stateid names no open
+pub unnamed : (id : Stateid) (opens : List (List OpenState)) → position (list_any (is_stateid_of id)) opens ≡ None → named_in id opens ≡ None
+unnamed id opens none = ap (named_at id opens) none
+
+-- it names one of this node, if any
+pub named : (id : Stateid) (opens : List (List OpenState)) (node : ℕ) (here : List OpenState) → slice_get opens node ≡ Some here
+    → position (list_any (is_stateid_of id)) opens ≡ cond (list_any (is_stateid_of id) here) (Some node) None
+    → at_node node (open_named_by id here) ≡ named_in id opens
+named id opens node here there is =
+    found_if_any (is_stateid_of id) (at_node node) refl here
+    ∙ by (list_any (is_stateid_of id) here)
+    ∙ sym (ap (named_at id opens) is)
+  where
+    by : (b : Bool) → cond b (at_node node (open_named_by id here)) None ≡ named_at id opens (cond b (Some node) None)
+    by true = ap (λ l. at_node node (open_named_by id l)) (sym (ap list_or_none there))
+    by false = refl
+
+pub only_open : (id : Stateid) (o : OpenState) → is_stateid_of id o ≡ true → open_number o ≡ id.number
+only_open id o names = eqb-true o.number id.number (and_parts (is_of_client id.client o) (is_numbered id.number o) names).1
+
+-- the same of delegations that pass a test
+pub none_lent_in : (test : Delegation → Bool) (all : List (List Delegation)) → position (list_any test) all ≡ None → lent_in test all ≡ None
+none_lent_in test all none = ap (lent_found test all) none
+
+pub lent_in_one : (test : Delegation → Bool) (all : List (List Delegation)) (node : ℕ) (here : List Delegation) → slice_get all node ≡ Some here
+    → position (list_any test) all ≡ cond (list_any test here) (Some node) None → lent_at node (find test here) ≡ lent_in test all
+lent_in_one test all node here there is =
+    found_if_any test (lent_at node) refl here
+    ∙ by (list_any test here)
+    ∙ sym (ap (lent_found test all) is)
+  where
+    by : (b : Bool) → cond b (lent_at node (find test here)) None ≡ lent_found test all (cond b (Some node) None)
+    by true = ap (λ l. lent_at node (find test l)) (sym (ap list_or_none there))
+    by false = refl
+
+pub only_lent : (id : Stateid) (d : Delegation) → is_stateid_of_delegation id d ≡ true → lent_number d ≡ id.number
+only_lent id d names = eqb-true d.number id.number (and_parts (is_lent_to id.client d) (is_delegation_numbered id.number d) names).1
+
+pub only_numbered : (n : ℕ) (d : Delegation) → is_delegation_numbered n d ≡ true → lent_number d ≡ n
+only_numbered n d names = eqb-true d.number n names
+
+-- an OPEN of an owner that has an open joins that, and else makes one
+pub joins : (owner : OpenOwner) (share : Share) (number : ℕ) (opens : List OpenState) → is_none (open_of owner opens) ≡ false
+    → with_opening owner share number opens ≡ with_each (is_of owner) (after_open share) opens
+joins owner share number opens has = by (open_of owner opens) has
+  where
+    by : (found : Option OpenState) → is_none found ≡ false
+        → (if is_some found then with_each (is_of owner) (after_open share) opens else opens ++ first_open owner share number ∷ []) ≡ with_each (is_of owner) (after_open share) opens
+    by None has = absurd (true≢false has)
+    by (Some o) has = refl
+
+pub makes : (owner : OpenOwner) (share : Share) (number : ℕ) (opens : List OpenState) → is_none (open_of owner opens) ≡ true
+    → with_opening owner share number opens ≡ opens ++ first_open owner share number ∷ []
+makes owner share number opens none = by (open_of owner opens) none
+  where
+    by : (found : Option OpenState) → is_none found ≡ true
+        → (if is_some found then with_each (is_of owner) (after_open share) opens else opens ++ first_open owner share number ∷ []) ≡ opens ++ first_open owner share number ∷ []
+    by None none = refl
+    by (Some o) none = absurd (true≢false (sym none))
+
+pub makes_none : (owner : OpenOwner) (opens : List OpenState) → is_none (open_of owner opens) ≡ true → is_some (open_of owner opens) ≡ false
+makes_none owner opens none = by (open_of owner opens) none
+  where
+    by : (found : Option OpenState) → is_none found ≡ true → is_some found ≡ false
+    by None none = refl
+    by (Some o) none = absurd (true≢false (sym none))
+
+-- a change of some leaves the numbers
+pub same_numbers : {X : Type 0} (number : X → ℕ) (test : X → Bool) (change : X → X) → ((x : X) → number (change x) ≡ number x) → (x : X) → number (if test x then change x else x) ≡ number x
+same_numbers number test change same x = by (test x)
+  where
+    by : (b : Bool) → number (if b then change x else x) ≡ number x
+    by true = same x
+    by false = refl
