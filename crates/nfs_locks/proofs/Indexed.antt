@@ -1,6 +1,6 @@
 -- The lock states of all files beside their nodes.
-use Rattle.std.proofs.Common.{inl, inr, ◌≡◌, ℕ, zero, suc, ◌+◌, ◌<◌, ◌≤◌, ◌^◌, Bool, true, false, cond, List, [], ◌∷◌, length, map, min, replicate, position, slice_index_or, slice_set, Option, Some, None, refl, sym, ap, subst, ◌∙◌, arith}
-use Rattle.std.specs.Prelude.{IfSome, filter, find, option_map, slice_get, IsTrue, unwrap_or}
+use Rattle.std.proofs.Common.{inl, inr, ◌≡◌, ℕ, zero, suc, ◌+◌, ◌-◌, ◌<◌, ◌≤◌, ◌^◌, Bool, true, false, cond, not, List, [], ◌∷◌, length, map, min, replicate, position, slice_index_or, slice_set, Option, Some, None, refl, sym, ap, subst, ◌∙◌, arith}
+use Rattle.std.specs.Prelude.{IfSome, filter, find, option_map, slice_get, IsTrue, unwrap_or, if◌then◌else◌, ◌||◌}
 use Rattle.std.specs.List.{AllByRecursion, list_any}
 use Rattle.std.proofs.Math.Nat.{min-le_left, min-le_right, min-zero, zero-min, suc-min-suc}
 use Rattle.std.proofs.lemmas.Bool.{and_parts, eqb-true, eqb-false, true≢false}
@@ -8,12 +8,14 @@ use Rattle.std.proofs.lemmas.List.{length-map}
 use Rattle.nfs_forms.specs.declared.stateid.Stateid.{Stateid}
 use Rattle.nfs_locks.specs.AllLocks.{HasLockRoom, HasLockRoomAt, at_node, lock_count, lock_named_in, locks_in, locks_of, locks_or_none, named_at, stored_in}
 use Rattle.nfs_locks.specs.LockNodes.{number_of, within_room}
-use Rattle.nfs_locks.specs.Locks.{ByteLocks, is_lock_of_client, is_numbered, is_stateid_of, lock_named_by}
+use Rattle.nfs_locks.specs.Locks.{ByteLocks, is_lock_of_client, is_numbered, after_change, is_stateid_of, lock_named_by}
 use Rattle.nfs_locks.specs.StoredLocks.{StoredLock, StoredLocks, byte_locks, lock_seen, locks_seen, stored_lock}
-use Rattle.nfs_locks.proofs.Files.{seen_twice}
+use Rattle.nfs_locks.specs.declared.lock_state.LockState.{LockState}
+use Rattle.nfs_ranges.specs.declared.piece.Piece.{Piece}
+use Rattle.nfs_locks.proofs.Files.{changed_at, seen_twice}
 use Rattle.nfs_nodes.specs.Nodes.{RoomyNodes}
 use Rattle.nfs_nodes.specs.Numbers.{AreFound, StandFrom, total}
-use Rattle.nfs_nodes.proofs.Callers.{found_if_any, none_stand, total_fewer}
+use Rattle.nfs_nodes.proofs.Callers.{fewer_kept, found_fewer_at, found_if_any, none_stand, total_fewer, total_has}
 
 -- what is seen of the files is what they have, whatever room there is
 pub seen_within : (room : ℕ) (files : List StoredLocks) → locks_in (map (within_room room) files) ≡ locks_in files
@@ -60,6 +62,11 @@ room_without room f has =
     let both = both_rooms room f.room has.0 in
     (both.0, (both.1, has.1))
 
+pub room_there : (room : ℕ) (files : List StoredLocks) (node : ℕ) → node < length files → HasLockRoomAt node (map (within_room room) files) → 0 < room
+room_there room [] node below has = absurd (omega (arith, below))
+room_there room (f ∷ files) zero below has = (room_without room f has).0
+room_there room (f ∷ files) (suc node) below has = room_there room files node (omega (arith, below)) has
+
 -- the lock states of a file stand at its node
 pub locks_there : (files : List StoredLocks) (node : ℕ) (file : StoredLocks) → node < length files → file ≡ slice_index_or files node file
     → slice_get (locks_in files) node ≡ Some (locks_seen file.states)
@@ -105,11 +112,13 @@ only id l names = eqb-true l.number id.number (and_parts (is_lock_of_client id.c
 pub none_numbered : (number : ℕ) (locks : List ByteLocks) → list_any (is_numbered number) locks ≡ false → AllByRecursion (λ l. number_of l ≡ number → ⊥) locks
 none_numbered number [] none = tt
 none_numbered number (l ∷ locks) none =
-    by (is_numbered number l) refl none
+    by (is_numbered number l) refl none (λ rest. none_numbered number locks rest)
   where
-    by : (b : Bool) → is_numbered number l ≡ b → (b || list_any (is_numbered number) locks) ≡ false → (number_of l ≡ number → ⊥) × AllByRecursion (λ l. number_of l ≡ number → ⊥) locks
-    by true is no = absurd (true≢false no)
-    by false is no = (eqb-false l.number number is, none_numbered number locks no)
+    by : (b : Bool) → is_numbered number l ≡ b → (b || list_any (is_numbered number) locks) ≡ false
+        → (list_any (is_numbered number) locks ≡ false → AllByRecursion (λ l. number_of l ≡ number → ⊥) locks)
+        → (number_of l ≡ number → ⊥) × AllByRecursion (λ l. number_of l ≡ number → ⊥) locks
+    by true is nothing rest = absurd (true≢false nothing)
+    by false is nothing rest = (eqb-false l.number number is, rest nothing)
 
 -- there are none yet
 pub none_yet : (n : ℕ) (files : List StoredLocks) (nodes : RoomyNodes) → stored_in files ≡ replicate n [] → length files < 2 ^ 32 → AreFound number_of nodes 0 (locks_in files)
@@ -125,3 +134,32 @@ none_yet n files nodes is few =
     all_empty : (n : ℕ) → AllByRecursion (λ (l : List ByteLocks). l ≡ []) (map (map byte_locks) (replicate n []))
     all_empty zero = tt
     all_empty (suc n) = (refl, all_empty n)
+
+-- what is left of the lock states of a file is no more
+pub fewer_left : (p : ByteLocks → Bool) (old new : List LockState) → locks_seen new ≡ filter p (locks_seen old) → length new ≤ length old
+fewer_left p old new is =
+    omega (arith, length-map old lock_seen, length-map new lock_seen, ap length is, fewer_kept p (locks_seen old))
+
+-- some lock states of one file are gone
+pub gone_at : (p : ByteLocks → Bool) (files : List StoredLocks) (node : ℕ) (old new : StoredLocks) (count gone : ℕ) (nodes : RoomyNodes)
+    → node < length files → old ≡ slice_index_or files node old → locks_seen new.states ≡ filter p (locks_seen old.states)
+    → gone + length (locks_seen new.states) ≡ length (locks_seen old.states) → AreFound number_of nodes count (locks_in files)
+    → (gone ≤ count) × AreFound number_of nodes (count - gone) (locks_in (slice_set files node new))
+gone_at p files node old new count gone nodes below is left many h =
+    let there = locks_there files node old below is in
+    let within : gone ≤ count = omega (arith, many, h.counted, total_has (locks_in files) node (locks_seen old.states) there) in
+    (within,
+      subst (AreFound number_of nodes (count - gone)) (sym (changed_at (filter p) files node old new below is left))
+      (found_fewer_at number_of locks_or_none (λ xs. refl) node count (locks_in files) nodes p (count - gone) (omega (arith, below, as_many_locks files))
+      (λ d here.
+      let same : d ≡ locks_seen old.states = ap (λ o. unwrap_or o []) (sym here ∙ there) in
+      omega (arith, within, many, ap length left, ap length same, ap (λ l. length (filter p l)) same))
+      h))
+
+-- a change of lock states leaves their numbers
+pub same_number : (number : ℕ) (change : Piece) (l : ByteLocks) → number_of (if is_numbered number l then after_change change l else l) ≡ number_of l
+same_number number change l = by (is_numbered number l)
+  where
+    by : (b : Bool) → number_of (if b then after_change change l else l) ≡ number_of l
+    by true = refl
+    by false = refl

@@ -203,7 +203,7 @@ impl Locks {
     pub fn remove_owner(&mut self, owner: &LockOwner)
         ensures { locks_in self.new ≡ map (without (is_lock_of owner.now)) (locks_in self.old) }
     {
-        remove_owner_in(&mut self.files, owner);
+        remove_owner_each(&mut self.files, owner);
         self.count -= places_left(&self.files, self.count);
     }
 
@@ -212,7 +212,7 @@ impl Locks {
         ensures { locks_in self.new
             ≡ map (without (is_lock_of_client client)) (locks_in self.old) }
     {
-        remove_client_in(&mut self.files, client);
+        remove_client_each(&mut self.files, client);
         self.count -= places_left(&self.files, self.count);
     }
 }
@@ -242,12 +242,26 @@ fn places_left(files: &[FileLocks], limit: usize) -> usize
     left
 }
 
+fn remove_owner_each(files: &mut Vec<FileLocks>, owner: &LockOwner)
+    ensures { locks_in files.new.items
+        ≡ map (without (is_lock_of owner.now)) (locks_in files.old.items) }
+{
+    remove_owner_in(files, owner);
+}
+
 fn remove_owner_in(files: &mut [FileLocks], owner: &LockOwner)
     ensures { locks_in files.new ≡ map (without (is_lock_of owner.now)) (locks_in files.old) }
 {
     for file in files.iter_mut() {
         file.remove_owner(owner);
     }
+}
+
+fn remove_client_each(files: &mut Vec<FileLocks>, client: ClientId)
+    ensures { locks_in files.new.items
+        ≡ map (without (is_lock_of_client client)) (locks_in files.old.items) }
+{
+    remove_client_in(files, client);
 }
 
 fn remove_client_in(files: &mut [FileLocks], client: ClientId)

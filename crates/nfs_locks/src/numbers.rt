@@ -17,7 +17,7 @@ pub(crate) fn reserve_number(
     nodes: &mut Nodes,
     count: usize,
 ) -> Result<(), AllocError>
-    requires { StandFrom number_of nodes.old 0 (locks_in files.now) }
+    requires stand { StandFrom number_of nodes.old 0 (locks_in files.now) }
     ensures stand { StandFrom number_of nodes.new 0 (locks_in files.now) }
     ensures room { OnOk result (0 < nodes.new.room) }
     ensures grows { nodes.old.room ≤ nodes.new.room }
@@ -31,27 +31,28 @@ pub(crate) fn reserve_number(
 
 // Forgets the numbers of lock states that there are no more.
 fn forget_others(files: &[FileLocks], nodes: &mut Nodes)
-    requires { StandFrom number_of nodes.old 0 (locks_in files.now) }
+    requires stand { StandFrom number_of nodes.old 0 (locks_in files.now) }
     ensures stand { StandFrom number_of nodes.new 0 (locks_in files.now) }
     ensures grows { nodes.old.room ≤ nodes.new.room }
 {
-    let mut place = nodes.len();
-    while place > 0 {
-        place -= 1;
-        forget_other(files, nodes, place);
+    // The last entry takes the place of one that is removed.
+    let len = nodes.len();
+    for passed in 0..len {
+        forget_other(files, nodes, len - 1 - passed);
     }
 }
 
 // Forgets the number at this place, if its node has no lock state with it.
 fn forget_other(files: &[FileLocks], nodes: &mut Nodes, place: usize)
-    requires { StandFrom number_of nodes.old 0 (locks_in files.now) }
+    requires stand { StandFrom number_of nodes.old 0 (locks_in files.now) }
     ensures stand { StandFrom number_of nodes.new 0 (locks_in files.now) }
     ensures grows { nodes.old.room ≤ nodes.new.room }
 {
     if let Some((number, node)) = nodes.at(place) {
-        if !has_number_at(files, node, number) {
-            nodes.remove(number, node);
+        if has_number_at(files, node, number) {
+            return;
         }
+        nodes.remove(number, node);
     }
 }
 

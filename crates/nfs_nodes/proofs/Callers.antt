@@ -28,13 +28,19 @@ module _ {X : Type 0} where
         | false ↦ all_kept P p xs h.1
       ]
 
-  fewer_kept : (p : X → Bool) (xs : List X) → length (filter p xs) ≤ length xs
+  pub fewer_kept : (p : X → Bool) (xs : List X) → length (filter p xs) ≤ length xs
   fewer_kept p [] = omega arith
   fewer_kept p (x ∷ xs) = by (p x) (fewer_kept p xs)
     where
       by : (b : Bool) → length (filter p xs) ≤ length xs → length (cond b (x ∷ filter p xs) (filter p xs)) ≤ suc (length xs)
       by true less = omega (arith, less)
       by false less = omega (arith, less)
+
+  -- one list has no more things than all
+  pub total_has : (lists : List (List X)) (node : ℕ) (d : List X) → slice_get lists node ≡ Some d → length d ≤ total lists
+  total_has [] node d there = absurd (true≢false (cc))
+  total_has (xs ∷ lists) zero d there = omega (arith, ap (λ o. length (unwrap_or o [])) there)
+  total_has (xs ∷ lists) (suc node) d there = omega (arith, total_has lists node d there)
 
   -- how many things there are, after a change of each list, or of one
   pub total_fewer : (p : X → Bool) (lists : List (List X)) → total (map (filter p) lists) ≤ total lists
@@ -265,7 +271,7 @@ module _ {X : Type 0} where
         | inr none ↦ inr (λ ys. ap (λ more. xs ∷ more) (none ys))
       ]
 
-  is_below : (lists : List (List X)) (node : ℕ) → node < length lists → (d : List X) × (slice_get lists node ≡ Some d)
+  pub is_below : (lists : List (List X)) (node : ℕ) → node < length lists → (d : List X) × (slice_get lists node ≡ Some d)
   is_below [] node below = absurd (omega (arith, below))
   is_below (xs ∷ lists) zero below = (xs, refl)
   is_below (xs ∷ lists) (suc node) below = is_below lists node (omega (arith, below))

@@ -1,23 +1,23 @@
 -- The opens and the delegations of all files beside their nodes.
 use Rattle.std.proofs.Common.{inl, inr, ◌≡◌, ℕ, zero, suc, ◌+◌, ◌-◌, ◌<◌, ◌≤◌, ◌^◌, Bool, true, false, cond, not, List, [], ◌∷◌, ◌++◌, length, map, min, replicate, position, slice_index_or, slice_set, Option, Some, None, refl, sym, ap, subst, ◌∙◌, arith}
-use Rattle.std.specs.Prelude.{IfSome, filter, find, nat_lt, slice_get, is_none, is_some, if◌then◌else◌, ◌||◌}
+use Rattle.std.specs.Prelude.{IfSome, filter, find, nat_lt, slice_get, unwrap_or, is_none, is_some, if◌then◌else◌, ◌||◌}
 use Rattle.std.specs.List.{AllByRecursion, list_any}
 use Rattle.std.proofs.Math.Nat.{min-le_left, min-le_right, suc-min-suc}
 use Rattle.std.proofs.lemmas.Bool.{and_parts, cases_Bool, eqb-true, eqb-false, ltb-false, ltb-true, true≢false}
 use Rattle.std.proofs.lemmas.List.{length-map}
 use Rattle.nfs_forms.specs.declared.open_owner.OpenOwner.{OpenOwner}
 use Rattle.nfs_forms.specs.declared.stateid.Stateid.{Stateid}
-use Rattle.nfs_share.specs.AllOpens.{DelegationAt, at_node, delegations_of, lent_at, lent_found, lent_in, list_at, list_or_none, named_at, named_in, opens_of, total_length}
-use Rattle.nfs_share.specs.Delegations.{is_delegation_numbered, is_lent_to, is_stateid_of_delegation}
+use Rattle.nfs_share.specs.AllOpens.{DelegationAt, at_node, delegations_in, delegations_of, lent_at, lent_found, lent_in, list_at, list_or_none, named_at, named_in, opens_in, opens_of, total_length}
+use Rattle.nfs_share.specs.Delegations.{is_delegation_numbered, is_lent_to, is_stateid_of_delegation, with_recall}
 use Rattle.nfs_share.specs.OpenNodes.{lent_number, open_number, within_rooms}
 use Rattle.nfs_share.specs.Opens.{FileOpens, after_open, first_open, is_numbered, is_of, is_of_client, is_stateid_of, open_named_by, open_of, with_each, with_opening}
 use Rattle.nfs_share.specs.declared.delegation.Delegation.{Delegation}
 use Rattle.nfs_share.specs.declared.open_state.OpenState.{OpenState}
 use Rattle.nfs_share.specs.declared.share.Share.{Share}
-use Rattle.nfs_share.proofs.OneFile.{no_room_at}
-use Rattle.nfs_nodes.specs.Nodes.{RoomyNodes}
+use Rattle.nfs_share.proofs.OneFile.{changed_at, no_room_at}
+use Rattle.nfs_nodes.specs.Nodes.{Forgets, RoomyNodes}
 use Rattle.nfs_nodes.specs.Numbers.{AreFound, StandFrom, total}
-use Rattle.nfs_nodes.proofs.Callers.{found_if_any, none_stand, total_fewer}
+use Rattle.nfs_nodes.proofs.Callers.{fewer_kept, found_fewer_at, found_if_any, none_stand, stand_without, total_fewer, total_has}
 
 module _ {X : Type 0} (get : FileOpens → List X) (same : (a b : ℕ) (f : FileOpens) → get (within_rooms a b f) ≡ get f) where
   -- what is seen of the files is what they have, whatever room there is
@@ -27,6 +27,42 @@ module _ {X : Type 0} (get : FileOpens → List X) (same : (a b : ℕ) (f : File
 
   pub in_view : (a b : ℕ) (files view : List FileOpens) → map (within_rooms a b) files ≡ view → map get files ≡ map get view
   in_view a b files view is = sym (seen_within a b files) ∙ ap (map get) is
+
+-- what the file at a node has, and what there is where there is no such node
+module _ {X : Type 0} (get : FileOpens → List X) (same : (a b : ℕ) (f : FileOpens) → get (within_rooms a b f) ≡ get f) (a b : ℕ) (view : List FileOpens) where
+  pub file_there : (files : List FileOpens) (node : ℕ) (file : FileOpens) → map (within_rooms a b) files ≡ view → node < length files → file ≡ slice_index_or files node file
+      → get file ≡ list_at node (map get view)
+  file_there files node file seen below is = by files node below is ∙ ap (list_at node) (in_view get same a b files view seen)
+    where
+      by : (files : List FileOpens) (node : ℕ) → node < length files → file ≡ slice_index_or files node file → get file ≡ list_at node (map get files)
+      by [] node below is = absurd (omega (arith, below))
+      by (f ∷ files) zero below is = ap get is
+      by (f ∷ files) (suc node) below is = by files node (omega (arith, below)) is
+
+  pub no_file_there : (files : List FileOpens) (node : ℕ) → map (within_rooms a b) files ≡ view → length files ≤ node → [] ≡ list_at node (map get view)
+  no_file_there files node seen above = by files node above ∙ ap (list_at node) (in_view get same a b files view seen)
+    where
+      by : (files : List FileOpens) (node : ℕ) → length files ≤ node → [] ≡ list_at node (map get files)
+      by [] node above = refl
+      by (f ∷ files) zero above = absurd (omega (arith, above))
+      by (f ∷ files) (suc node) above = by files node (omega (arith, above))
+
+pub as_long : (files : List FileOpens) (node : ℕ) (f : FileOpens) → length (slice_set files node f) ≡ length files
+as_long [] node f = refl
+as_long (g ∷ files) zero f = refl
+as_long (g ∷ files) (suc node) f = omega (arith, as_long files node f)
+
+pub opens_within : (a b : ℕ) (files : List FileOpens) → opens_in (map (within_rooms a b) files) ≡ opens_in files
+opens_within a b files = seen_within (λ f. f.opens) (λ a b f. refl) a b files
+
+pub opens_view : (a b : ℕ) (files view : List FileOpens) → map (within_rooms a b) files ≡ view → opens_in files ≡ opens_in view
+opens_view a b files view is = in_view (λ f. f.opens) (λ a b f. refl) a b files view is
+
+pub lent_within : (a b : ℕ) (files : List FileOpens) → delegations_in (map (within_rooms a b) files) ≡ delegations_in files
+lent_within a b files = seen_within (λ f. f.delegations) (λ a b f. refl) a b files
+
+pub lent_view : (a b : ℕ) (files view : List FileOpens) → map (within_rooms a b) files ≡ view → delegations_in files ≡ delegations_in view
+lent_view a b files view is = in_view (λ f. f.delegations) (λ a b f. refl) a b files view is
 
 module _ {X : Type 0} (get : FileOpens → List X) where
   -- what a file has stands at its node
@@ -64,11 +100,12 @@ module _ {X : Type 0} where
   pub none_numbered : (number_of : X → ℕ) (test : ℕ → X → Bool) → ((n : ℕ) (x : X) → test n x ≡ false → number_of x ≡ n → ⊥) → (n : ℕ) (xs : List X) → list_any (test n) xs ≡ false
       → AllByRecursion (λ x. number_of x ≡ n → ⊥) xs
   none_numbered number_of test differs n [] none = tt
-  none_numbered number_of test differs n (x ∷ xs) none = by (test n x) refl none
+  none_numbered number_of test differs n (x ∷ xs) none = by (test n x) refl none (λ rest. none_numbered number_of test differs n xs rest)
     where
-      by : (b : Bool) → test n x ≡ b → (b || list_any (test n) xs) ≡ false → (number_of x ≡ n → ⊥) × AllByRecursion (λ x. number_of x ≡ n → ⊥) xs
-      by true is no = absurd (true≢false no)
-      by false is no = (differs n x is, none_numbered number_of test differs n xs no)
+      by : (b : Bool) → test n x ≡ b → (b || list_any (test n) xs) ≡ false → (list_any (test n) xs ≡ false → AllByRecursion (λ x. number_of x ≡ n → ⊥) xs)
+          → (number_of x ≡ n → ⊥) × AllByRecursion (λ x. number_of x ≡ n → ⊥) xs
+      by true is nothing rest = absurd (true≢false nothing)
+      by false is nothing rest = (differs n x is, rest nothing)
 
 pub open_differs : (n : ℕ) (o : OpenState) → is_numbered n o ≡ false → open_number o ≡ n → ⊥
 open_differs n o other = eqb-false o.number n other
@@ -186,4 +223,52 @@ same_numbers number test change same x = by (test x)
   where
     by : (b : Bool) → number (if b then change x else x) ≡ number x
     by true = same x
+    by false = refl
+
+-- Some of one file's are gone, whose number is forgotten.
+module _ {X : Type 0} (get : FileOpens → List X) (number_of : X → ℕ) (test : ℕ → X → Bool) (differs : (n : ℕ) (x : X) → test n x ≡ false → number_of x ≡ n → ⊥) where
+  none_left : (n : ℕ) (xs : List X) → AllByRecursion (λ x. number_of x ≡ n → ⊥) (filter (λ x. not (test n x)) xs)
+  none_left n [] = tt
+  none_left n (x ∷ xs) = by (test n x) refl (none_left n xs)
+    where
+      by : (b : Bool) → test n x ≡ b → AllByRecursion (λ x. number_of x ≡ n → ⊥) (filter (λ x. not (test n x)) xs)
+          → AllByRecursion (λ x. number_of x ≡ n → ⊥) (cond (not b) (x ∷ filter (λ x. not (test n x)) xs) (filter (λ x. not (test n x)) xs))
+      by true is rest = rest
+      by false is rest = (differs n x is, rest)
+
+  pub gone_at : (n : ℕ) (files : List FileOpens) (node : ℕ) (old new : FileOpens) (count gone : ℕ) (nodes nodes' : RoomyNodes) → node < length files → old ≡ slice_index_or files node old
+      → get new ≡ filter (λ x. not (test n x)) (get old) → gone + length (get new) ≡ length (get old) → Forgets n node nodes nodes' → AreFound number_of nodes count (map get files)
+      → (gone ≤ count) × AreFound number_of nodes' (count - gone) (map get (slice_set files node new))
+  gone_at n files node old new count gone nodes nodes' below is left many forgets h =
+      let p : X → Bool = λ x. not (test n x) in
+      let there = list_there get files node old below is in
+      let within : gone ≤ count = omega (arith, many, h.counted, total_has (map get files) node (get old) there) in
+      let changed = changed_at get (filter p) files node old new below is left in
+      let found = subst (AreFound number_of nodes (count - gone)) (sym changed)
+      (found_fewer_at number_of list_or_none (λ xs. refl) node count (map get files) nodes p (count - gone) (omega (arith, below, length-map files get))
+      (λ d here.
+      let same : d ≡ get old = ap (λ o. unwrap_or o []) (sym here ∙ there) in
+      omega (arith, within, many, ap length left, ap length same, ap (λ l. length (filter p l)) same))
+      h) in
+      (within, record {
+        stand = stand_without number_of nodes nodes' n node forgets 0 (map get (slice_set files node new))
+            (λ place here there' at.
+            let same : here ≡ get new = ap (λ o. unwrap_or o []) (sym there' ∙ ap (slice_get (map get (slice_set files node new))) (omega (arith, at)) ∙ set_there files node new below) in
+            subst (AllByRecursion (λ x. number_of x ≡ n → ⊥)) (sym (same ∙ left)) (none_left n (get old)))
+            found.stand;
+        counted = found.counted;
+        few = found.few;
+      })
+    where
+      set_there : (files : List FileOpens) (node : ℕ) (new : FileOpens) → node < length files → slice_get (map get (slice_set files node new)) node ≡ Some (get new)
+      set_there [] node new below = absurd (omega (arith, below))
+      set_there (f ∷ files) zero new below = refl
+      set_there (f ∷ files) (suc node) new below = set_there files node new (omega (arith, below))
+
+-- a delegation that is called back keeps its number
+pub recalled_same : (moment : ℕ) (d : Delegation) → lent_number (with_recall moment d) ≡ lent_number d
+recalled_same moment d = by (is_none d.recalled)
+  where
+    by : (b : Bool) → lent_number (if b then record d { recalled = Some moment } else d) ≡ lent_number d
+    by true = refl
     by false = refl

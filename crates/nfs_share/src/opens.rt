@@ -141,7 +141,7 @@ impl Opens {
         ensures { result
             ≡ nat_lt (open_count (map (without (is_of owner.now)) (opens_in self.now))) limit }
     {
-        places_left_without(&self.files, owner, limit) > 0
+        has_place_without(&self.files, owner, limit)
     }
 
     /// Makes room for an open of the node's file.
@@ -227,7 +227,7 @@ impl Opens {
         ensures room { (node : ℕ) → HasRoomAt node self.old → HasRoomAt node self.new }
         ensures lending { (at : ℕ) → HasLendingRoomAt at self.old → HasLendingRoomAt at self.new }
     {
-        remove_owner_in(&mut self.files, owner);
+        remove_owner_each(&mut self.files, owner);
         self.count -= places_left(&self.files, self.count);
     }
 
@@ -238,7 +238,7 @@ impl Opens {
         ensures delegations { delegations_in self.new
             ≡ map (without_lent (is_lent_to client)) (delegations_in self.old) }
     {
-        remove_client_in(&mut self.files, client);
+        remove_client_each(&mut self.files, client);
         self.count -= places_left(&self.files, self.count);
         self.lent_count -= lending_places_left(&self.files, self.lent_count);
     }
@@ -435,6 +435,14 @@ fn places_left(files: &[FileShare], limit: usize) -> usize
     left
 }
 
+// Whether there are fewer opens of other owners than this limit.
+fn has_place_without(files: &[FileShare], owner: &OpenOwner, limit: usize) -> bool
+    ensures { result
+        ≡ nat_lt (open_count (map (without (is_of owner.now)) (opens_in files.now))) limit }
+{
+    places_left_without(files, owner, limit) > 0
+}
+
 // How many places of this limit the opens of other owners leave.
 fn places_left_without(files: &[FileShare], owner: &OpenOwner, limit: usize) -> usize
     ensures { result ≡ limit - open_count (map (without (is_of owner.now)) (opens_in files.now)) }
@@ -446,6 +454,17 @@ fn places_left_without(files: &[FileShare], owner: &OpenOwner, limit: usize) -> 
     left
 }
 
+fn remove_owner_each(files: &mut Vec<FileShare>, owner: &OpenOwner)
+    ensures opens { opens_in files.new.items
+        ≡ map (without (is_of owner.now)) (opens_in files.old.items) }
+    ensures delegations { delegations_in files.new.items ≡ delegations_in files.old.items }
+    ensures room { (node : ℕ) → HasRoomAt node files.old.items → HasRoomAt node files.new.items }
+    ensures lending { (at : ℕ) → HasLendingRoomAt at files.old.items
+        → HasLendingRoomAt at files.new.items }
+{
+    remove_owner_in(files, owner);
+}
+
 fn remove_owner_in(files: &mut [FileShare], owner: &OpenOwner)
     ensures opens { opens_in files.new ≡ map (without (is_of owner.now)) (opens_in files.old) }
     ensures delegations { delegations_in files.new ≡ delegations_in files.old }
@@ -455,6 +474,15 @@ fn remove_owner_in(files: &mut [FileShare], owner: &OpenOwner)
     for file in files.iter_mut() {
         file.remove_owner(owner);
     }
+}
+
+fn remove_client_each(files: &mut Vec<FileShare>, client: ClientId)
+    ensures opens { opens_in files.new.items
+        ≡ map (without (is_of_client client)) (opens_in files.old.items) }
+    ensures delegations { delegations_in files.new.items
+        ≡ map (without_lent (is_lent_to client)) (delegations_in files.old.items) }
+{
+    remove_client_in(files, client);
 }
 
 fn remove_client_in(files: &mut [FileShare], client: ClientId)
