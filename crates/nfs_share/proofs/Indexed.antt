@@ -1,9 +1,11 @@
 -- The opens and the delegations of all files beside their nodes.
 use Rattle.std.proofs.Common.{inl, inr, ◌≡◌, ℕ, zero, suc, ◌+◌, ◌-◌, ◌<◌, ◌≤◌, ◌^◌, Bool, true, false, cond, not, List, [], ◌∷◌, ◌++◌, length, map, min, replicate, position, slice_index_or, slice_set, Option, Some, None, refl, sym, ap, subst, ◌∙◌, arith}
 use Rattle.std.specs.Prelude.{IfSome, filter, find, nat_lt, slice_get, unwrap_or, is_none, is_some, if◌then◌else◌, ◌||◌}
+use Rattle.std.specs.Borrow.{Bor}
+use Rattle.std.specs.Option.{option_copied}
 use Rattle.std.specs.List.{AllByRecursion, list_any}
 use Rattle.std.proofs.Math.Nat.{min-le_left, min-le_right, suc-min-suc}
-use Rattle.std.proofs.lemmas.Bool.{and_parts, cases_Bool, eqb-true, eqb-false, ltb-false, ltb-true, true≢false}
+use Rattle.std.proofs.lemmas.Bool.{and_parts, cases_Bool, eqb-true, eqb-false, le-ltb, lt-ltb, ltb-false, ltb-true, true≢false}
 use Rattle.std.proofs.lemmas.List.{length-map}
 use Rattle.nfs_forms.specs.declared.open_owner.OpenOwner.{OpenOwner}
 use Rattle.nfs_forms.specs.declared.stateid.Stateid.{Stateid}
@@ -71,6 +73,16 @@ module _ {X : Type 0} (get : FileOpens → List X) where
   list_there [] node file below is = absurd (omega (arith, below))
   list_there (f ∷ files) zero file below is = ap (λ (f : FileOpens). Some (get f)) (sym is)
   list_there (f ∷ files) (suc node) file below is = list_there files node file (omega (arith, below)) is
+
+  pub list_at_there : (files : List FileOpens) (node : ℕ) (file : FileOpens) → node < length files → file ≡ slice_index_or files node file → list_at node (map get files) ≡ get file
+  list_at_there [] node file below is = absurd (omega (arith, below))
+  list_at_there (f ∷ files) zero file below is = ap get (sym is)
+  list_at_there (f ∷ files) (suc node) file below is = list_at_there files node file (omega (arith, below)) is
+
+  pub none_at_there : (files : List FileOpens) (node : ℕ) → length files ≤ node → [] ≡ list_at node (map get files)
+  none_at_there [] node above = refl
+  none_at_there (f ∷ files) zero above = absurd (omega (arith, above))
+  none_at_there (f ∷ files) (suc node) above = none_at_there files node (omega (arith, above))
 
 module _ {X : Type 0} where
   pub counted : (lists : List (List X)) → total_length lists ≡ total lists
@@ -272,3 +284,32 @@ recalled_same moment d = by (is_none d.recalled)
     by : (b : Bool) → lent_number (if b then record d { recalled = Some moment } else d) ≡ lent_number d
     by true = refl
     by false = refl
+
+-- what is left is no more
+pub fewer_left : {X : Type 0} (p : X → Bool) (old new : List X) → new ≡ filter p old → length new ≤ length old
+fewer_left p old new is = omega (arith, ap length is, fewer_kept p old)
+
+-- an OPEN makes one more open, or none
+pub one_more : (owner : OpenOwner) (share : Share) (number : ℕ) (old new : List OpenState) → new ≡ with_opening owner share number old
+    → nat_lt (length old) (length new) ≡ is_none (open_of owner old)
+one_more owner share number old new is = ap (λ l. nat_lt (length old) (length l)) is ∙ by (open_of owner old)
+  where
+    longer : (xs : List OpenState) (x : OpenState) → length (xs ++ x ∷ []) ≡ length xs + 1
+    longer [] x = refl
+    longer (y ∷ xs) x = omega (arith, longer xs x)
+    by : (found : Option OpenState) → nat_lt (length old) (length (if is_some found then with_each (is_of owner) (after_open share) old else old ++ first_open owner share number ∷ [])) ≡ is_none found
+    by None = lt-ltb (length old) _ (omega (arith, longer old (first_open owner share number)))
+    by (Some o) = le-ltb (length old) _ (omega (arith, length-map old (λ o. if is_of owner o then after_open share o else o)))
+
+-- one is found where one passes
+pub any_found : {X : Type 0} (test : X → Bool) (xs : List X) → is_some (find test xs) ≡ list_any test xs
+any_found test [] = refl
+any_found test (x ∷ xs) = by (test x) (any_found test xs)
+  where
+    by : (b : Bool) → is_some (find test xs) ≡ list_any test xs → is_some (cond b (Some x) (find test xs)) ≡ (b || list_any test xs)
+    by true rest = refl
+    by false rest = rest
+
+pub lent_or_none : {X : Type 0} (found : Option (Bor X)) → is_some found ≡ is_some (option_copied found)
+lent_or_none None = refl
+lent_or_none (Some x) = refl

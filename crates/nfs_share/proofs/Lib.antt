@@ -4,7 +4,6 @@ pub mod OpensLaws
 pub mod EachElement
 pub mod CompatibleOpens
 pub mod OneFile
-pub mod Names
 pub mod AllOpens
 pub mod Indexed
 pub mod NextDue

@@ -100,7 +100,7 @@ fn has_number_at(files: &[FileShare], node: u32, number: u32) -> bool
     ensures { result ≡ list_any (is_numbered number) (opens_of node (opens_in files.now)) }
 {
     match files.get(node as usize) {
-        Some(file) => file.find(number).is_some(),
+        Some(file) => has_number(file, number),
         None => false,
     }
 }
@@ -158,4 +158,11 @@ fn has_delegation_number_at(files: &[FileShare], node: u32, number: u32) -> bool
         Some(file) => file.has_delegation_numbered(number),
         None => false,
     }
+}
+
+// Whether the file has an open with this number.
+fn has_number(file: &FileShare, number: u32) -> bool
+    ensures { result ≡ list_any (is_numbered number) file.now.opens }
+{
+    file.find(number).is_some()
 }
