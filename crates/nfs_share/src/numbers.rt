@@ -57,7 +57,7 @@ pub(crate) fn reserve_number(
     nodes: &mut Nodes,
     count: usize,
 ) -> Result<(), AllocError>
-    requires { StandFrom open_number nodes.old 0 (opens_in files.now) }
+    requires stand { StandFrom open_number nodes.old 0 (opens_in files.now) }
     ensures stand { StandFrom open_number nodes.new 0 (opens_in files.now) }
     ensures room { OnOk result (0 < nodes.new.room) }
     ensures grows { nodes.old.room ≤ nodes.new.room }
@@ -71,27 +71,28 @@ pub(crate) fn reserve_number(
 
 // Forgets the numbers of opens that there are no more.
 fn forget_others(files: &[FileShare], nodes: &mut Nodes)
-    requires { StandFrom open_number nodes.old 0 (opens_in files.now) }
+    requires stand { StandFrom open_number nodes.old 0 (opens_in files.now) }
     ensures stand { StandFrom open_number nodes.new 0 (opens_in files.now) }
     ensures grows { nodes.old.room ≤ nodes.new.room }
 {
-    let mut place = nodes.len();
-    while place > 0 {
-        place -= 1;
-        forget_other(files, nodes, place);
+    // The last entry takes the place of one that is removed.
+    let len = nodes.len();
+    for passed in 0..len {
+        forget_other(files, nodes, len - 1 - passed);
     }
 }
 
 // Forgets the number at this place, if its node has no open with it.
 fn forget_other(files: &[FileShare], nodes: &mut Nodes, place: usize)
-    requires { StandFrom open_number nodes.old 0 (opens_in files.now) }
+    requires stand { StandFrom open_number nodes.old 0 (opens_in files.now) }
     ensures stand { StandFrom open_number nodes.new 0 (opens_in files.now) }
     ensures grows { nodes.old.room ≤ nodes.new.room }
 {
     if let Some((number, node)) = nodes.at(place) {
-        if !has_number_at(files, node, number) {
-            nodes.remove(number, node);
+        if has_number_at(files, node, number) {
+            return;
         }
+        nodes.remove(number, node);
     }
 }
 
@@ -112,7 +113,7 @@ pub(crate) fn reserve_delegation_number(
     nodes: &mut Nodes,
     count: usize,
 ) -> Result<(), AllocError>
-    requires { StandFrom lent_number nodes.old 0 (delegations_in files.now) }
+    requires stand { StandFrom lent_number nodes.old 0 (delegations_in files.now) }
     ensures stand { StandFrom lent_number nodes.new 0 (delegations_in files.now) }
     ensures room { OnOk result (0 < nodes.new.room) }
     ensures grows { nodes.old.room ≤ nodes.new.room }
@@ -126,27 +127,28 @@ pub(crate) fn reserve_delegation_number(
 
 // Forgets the numbers of delegations that there are no more.
 fn forget_other_delegations(files: &[FileShare], nodes: &mut Nodes)
-    requires { StandFrom lent_number nodes.old 0 (delegations_in files.now) }
+    requires stand { StandFrom lent_number nodes.old 0 (delegations_in files.now) }
     ensures stand { StandFrom lent_number nodes.new 0 (delegations_in files.now) }
     ensures grows { nodes.old.room ≤ nodes.new.room }
 {
-    let mut place = nodes.len();
-    while place > 0 {
-        place -= 1;
-        forget_other_delegation(files, nodes, place);
+    // The last entry takes the place of one that is removed.
+    let len = nodes.len();
+    for passed in 0..len {
+        forget_other_delegation(files, nodes, len - 1 - passed);
     }
 }
 
 // Forgets the number at this place, if its node has no delegation with it.
 fn forget_other_delegation(files: &[FileShare], nodes: &mut Nodes, place: usize)
-    requires { StandFrom lent_number nodes.old 0 (delegations_in files.now) }
+    requires stand { StandFrom lent_number nodes.old 0 (delegations_in files.now) }
     ensures stand { StandFrom lent_number nodes.new 0 (delegations_in files.now) }
     ensures grows { nodes.old.room ≤ nodes.new.room }
 {
     if let Some((number, node)) = nodes.at(place) {
-        if !has_delegation_number_at(files, node, number) {
-            nodes.remove(number, node);
+        if has_delegation_number_at(files, node, number) {
+            return;
         }
+        nodes.remove(number, node);
     }
 }
 

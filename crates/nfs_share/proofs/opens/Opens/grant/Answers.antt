@@ -26,8 +26,8 @@ pub overflow_add-self : goal.overflow_add-self
 overflow_add-self c =
     omega (arith, counts_more open_number c.self.inside.nodes c.self.inside.count (opens_in c.self.inside.files.items) c.self.invariant.0)
 
-pub invariant_of-self-then-is_new : goal.invariant_of-self-then-is_new
-invariant_of-self-then-is_new c =
+pub invariant_of-self : goal.invariant_of-self
+invariant_of-self c =
     (subst (AreFound open_number c.add.new.self (c.self.inside.count + 1)) (sym (changed_at (λ f. f.opens) (λ opens. opens ++ first_open c.args.owner c.args.share c.args.number ∷ []) c.self.inside.files.items c.args.node c.index_mut.result.now c.grant_in-is_new.new.file (omega (arith, c.if-at-len.true, c.len.ensures)) c.index_mut.ensures.value (c.grant_in-is_new.ensures.opens ∙ makes c.args.owner c.args.share c.args.number c.index_mut.result.now.opens (sym c.grant_in-is_new.ensures.made ∙ c.if-is_new.true))))
     (found_more open_number list_or_none (λ xs. refl) c.args.node c.self.inside.count (opens_in c.self.inside.files.items) c.self.inside.nodes c.add.new.self (first_open c.args.owner c.args.share c.args.number) c.add.ensures (omega (arith, c.ranges.number.fits))
     (omega (arith, as_many (λ f. f.opens) c.self.inside.files.items, c.if-at-len.true, c.len.ensures)) ((subst (λ opens. IsNewestAt c.args.node c.args.owner c.args.number opens) (sym (opens_view c.self.inside.nodes.room c.self.inside.lent.room c.self.inside.files.items c.args.self.now c.self.view_is)) c.requires.newest) (ap (λ opens. is_some (open_of c.args.owner opens)) (list_at_there (λ f. f.opens) c.self.inside.files.items c.args.node c.index_mut.result.now (omega (arith, c.if-at-len.true, c.len.ensures)) c.index_mut.ensures.value) ∙ makes_none c.args.owner c.index_mut.result.now.opens (sym c.grant_in-is_new.ensures.made ∙ c.if-is_new.true))) c.self.invariant.0),
