@@ -147,14 +147,15 @@ pub gone_at : (p : ByteLocks → Bool) (files : List StoredLocks) (node : ℕ) (
     → (gone ≤ count) × AreFound number_of nodes (count - gone) (locks_in (slice_set files node new))
 gone_at p files node old new count gone nodes below is left many h =
     let there = locks_there files node old below is in
-    let within : gone ≤ count = omega (arith, many, h.counted, total_has (locks_in files) node (locks_seen old.states) there) in
-    (within,
+    let within : gone ≤ count = omega (arith, many, h.counted, total_has (locks_in files) node (locks_seen old.states) there) in (
+      within,
       subst (AreFound number_of nodes (count - gone)) (sym (changed_at (filter p) files node old new below is left))
-      (found_fewer_at number_of locks_or_none (λ xs. refl) node count (locks_in files) nodes p (count - gone) (omega (arith, below, as_many_locks files))
-      (λ d here.
-      let same : d ≡ locks_seen old.states = ap (λ o. unwrap_or o []) (sym here ∙ there) in
-      omega (arith, within, many, ap length left, ap length same, ap (λ l. length (filter p l)) same))
-      h))
+          (found_fewer_at number_of locks_or_none (λ xs. refl) node count (locks_in files) nodes p (count - gone) (omega (arith, below, as_many_locks files))
+          (λ d here.
+          let same : d ≡ locks_seen old.states = ap (λ o. unwrap_or o []) (sym here ∙ there) in
+          omega (arith, within, many, ap length left, ap length same, ap (λ l. length (filter p l)) same))
+          h),
+    )
 
 -- a change of lock states leaves their numbers
 pub same_number : (number : ℕ) (change : Piece) (l : ByteLocks) → number_of (if is_numbered number l then after_change change l else l) ≡ number_of l

@@ -164,10 +164,11 @@ module _ {X : Type 0} (number : X → ℕ) where
       stand_more at is_at fits from place [] here above h = tt
       stand_more at is_at fits from zero (xs ∷ lists) here above h =
           let stands = stand_at from xs above.0 h.0 in
-          let last : node_of (number y) new ≡ Some from = known_too ∙ ap Some (omega (arith, here)) in
-          (subst (λ ys. StandAt number new from (ys ++ y ∷ [])) (sym (is_at xs))
-              (all_push _ xs y stands.0 last, rise_push 0 xs y above.0 (omega arith) fits stands.1),
-            stand_others (from + 1) lists above.1 h.1)
+          let last : node_of (number y) new ≡ Some from = known_too ∙ ap Some (omega (arith, here)) in (
+            subst (λ ys. StandAt number new from (ys ++ y ∷ [])) (sym (is_at xs))
+                (all_push _ xs y stands.0 last, rise_push 0 xs y above.0 (omega arith) fits stands.1),
+            stand_others (from + 1) lists above.1 h.1,
+          )
       stand_more at is_at fits from (suc place) (xs ∷ lists) here above h =
           (stand_at from xs above.0 h.0, stand_more at is_at fits (from + 1) place lists (omega (arith, here)) above.1 h.1)
 
@@ -182,9 +183,10 @@ module _ {X : Type 0} (number : X → ℕ) where
       pub stand_without : (from : ℕ) (lists : List (List X)) → ((place : ℕ) (xs : List X) → slice_get lists place ≡ Some xs → from + place ≡ node → AllByRecursion (λ x. number x ≡ n → ⊥) xs)
           → StandFrom number old from lists → StandFrom number new from lists
       stand_without from [] none h = tt
-      stand_without from (xs ∷ lists) none h =
-          ((stand_without_in from xs (λ here. none zero xs refl (omega (arith, here))) h.0.0, h.0.1),
-            stand_without (from + 1) lists (λ place ys there here. none (suc place) ys there (omega (arith, here))) h.1)
+      stand_without from (xs ∷ lists) none h = (
+        (stand_without_in from xs (λ here. none zero xs refl (omega (arith, here))) h.0.0, h.0.1),
+        stand_without (from + 1) lists (λ place ys there here. none (suc place) ys there (omega (arith, here))) h.1,
+      )
 
   -- The first list with a thing that passes a test, where all that passes has one number.
   module _ (nodes : RoomyNodes) (test : X → Bool) (n : ℕ) (only : (x : X) → test x ≡ true → number x ≡ n) where

@@ -9,7 +9,7 @@ use Rattle.std.proofs.lemmas.Bool.{and_parts, cases_Bool, eqb-true, eqb-false, l
 use Rattle.std.proofs.lemmas.List.{length-map}
 use Rattle.nfs_forms.specs.declared.open_owner.OpenOwner.{OpenOwner}
 use Rattle.nfs_forms.specs.declared.stateid.Stateid.{Stateid}
-use Rattle.nfs_share.specs.AllOpens.{DelegationAt, at_node, delegations_in, delegations_of, lent_at, lent_found, lent_in, list_at, list_or_none, named_at, named_in, opens_in, opens_of, total_length}
+use Rattle.nfs_share.specs.AllOpens.{at_node, delegations_in, lent_at, lent_found, lent_in, list_at, list_or_none, named_at, named_in, opens_in, total_length}
 use Rattle.nfs_share.specs.Delegations.{is_delegation_numbered, is_lent_to, is_stateid_of_delegation, with_recall}
 use Rattle.nfs_share.specs.OpenNodes.{lent_number, open_number, within_rooms}
 use Rattle.nfs_share.specs.Opens.{FileOpens, after_open, first_open, is_numbered, is_of, is_of_client, is_stateid_of, open_named_by, open_of, with_each, with_opening}
@@ -18,7 +18,7 @@ use Rattle.nfs_share.specs.declared.open_state.OpenState.{OpenState}
 use Rattle.nfs_share.specs.declared.share.Share.{Share}
 use Rattle.nfs_share.proofs.OneFile.{changed_at, no_room_at}
 use Rattle.nfs_nodes.specs.Nodes.{Forgets, RoomyNodes}
-use Rattle.nfs_nodes.specs.Numbers.{AreFound, StandFrom, total}
+use Rattle.nfs_nodes.specs.Numbers.{AreFound, total}
 use Rattle.nfs_nodes.proofs.Callers.{fewer_kept, found_fewer_at, found_if_any, none_stand, stand_without, total_fewer, total_has}
 
 module _ {X : Type 0} (get : FileOpens → List X) (same : (a b : ℕ) (f : FileOpens) → get (within_rooms a b f) ≡ get f) where
@@ -261,16 +261,18 @@ module _ {X : Type 0} (get : FileOpens → List X) (number_of : X → ℕ) (test
       (λ d here.
       let same : d ≡ get old = ap (λ o. unwrap_or o []) (sym here ∙ there) in
       omega (arith, within, many, ap length left, ap length same, ap (λ l. length (filter p l)) same))
-      h) in
-      (within, record {
-        stand = stand_without number_of nodes nodes' n node forgets 0 (map get (slice_set files node new))
-            (λ place here there' at.
-            let same : here ≡ get new = ap (λ o. unwrap_or o []) (sym there' ∙ ap (slice_get (map get (slice_set files node new))) (omega (arith, at)) ∙ set_there files node new below) in
-            subst (AllByRecursion (λ x. number_of x ≡ n → ⊥)) (sym (same ∙ left)) (none_left n (get old)))
-            found.stand;
-        counted = found.counted;
-        few = found.few;
-      })
+      h) in (
+        within,
+        record {
+          stand = stand_without number_of nodes nodes' n node forgets 0 (map get (slice_set files node new))
+              (λ place here there' at.
+              let same : here ≡ get new = ap (λ o. unwrap_or o []) (sym there' ∙ ap (slice_get (map get (slice_set files node new))) (omega (arith, at)) ∙ set_there files node new below) in
+              subst (AllByRecursion (λ x. number_of x ≡ n → ⊥)) (sym (same ∙ left)) (none_left n (get old)))
+              found.stand;
+          counted = found.counted;
+          few = found.few;
+        },
+      )
     where
       set_there : (files : List FileOpens) (node : ℕ) (new : FileOpens) → node < length files → slice_get (map get (slice_set files node new)) node ≡ Some (get new)
       set_there [] node new below = absurd (omega (arith, below))
@@ -297,6 +299,7 @@ one_more owner share number old new is = ap (λ l. nat_lt (length old) (length l
     longer : (xs : List OpenState) (x : OpenState) → length (xs ++ x ∷ []) ≡ length xs + 1
     longer [] x = refl
     longer (y ∷ xs) x = omega (arith, longer xs x)
+
     by : (found : Option OpenState) → nat_lt (length old) (length (if is_some found then with_each (is_of owner) (after_open share) old else old ++ first_open owner share number ∷ [])) ≡ is_none found
     by None = lt-ltb (length old) _ (omega (arith, longer old (first_open owner share number)))
     by (Some o) = le-ltb (length old) _ (omega (arith, length-map old (λ o. if is_of owner o then after_open share o else o)))

@@ -8,11 +8,20 @@ use Rattle.nfs_locks.proofs.numbers.close_in.Goals as goal
 
 pub overflow_sub-result : goal.overflow_sub-result
 overflow_sub-result c =
-    omega (arith, c.len.ensures, c.len-before.ensures,
-    fewer_left (λ l. not (is_under c.args.open_number l)) c.args.file.now.states c.close.new.self.states c.close.ensures)
+    omega (
+      arith,
+      c.len.ensures,
+      c.len-before.ensures,
+      fewer_left (λ l. not (is_under c.args.open_number l)) c.args.file.now.states c.close.new.self.states c.close.ensures,
+    )
 
 pub returns-clause-gone : goal.returns-clause-gone
 returns-clause-gone c =
-    omega (arith, c.len.ensures, c.len-before.ensures,
-    fewer_left (λ l. not (is_under c.args.open_number l)) c.args.file.now.states c.close.new.self.states c.close.ensures,
-    length-map c.args.file.now.states lock_seen, length-map c.close.new.self.states lock_seen)
+    omega (
+      arith,
+      c.len.ensures,
+      c.len-before.ensures,
+      fewer_left (λ l. not (is_under c.args.open_number l)) c.args.file.now.states c.close.new.self.states c.close.ensures,
+      length-map c.args.file.now.states lock_seen,
+      length-map c.close.new.self.states lock_seen,
+    )

@@ -1,4 +1,4 @@
-use Rattle.std.proofs.Common.{ap, arith}
+use Rattle.std.proofs.Common.{arith}
 use Rattle.std.specs.Prelude.{not}
 use Rattle.nfs_share.specs.Opens.{is_numbered}
 use Rattle.nfs_share.proofs.Indexed.{fewer_left}

@@ -1,4 +1,4 @@
-use Rattle.std.proofs.Common.{ap, ◌∙◌}
+use Rattle.std.proofs.Common.{◌∙◌}
 use Rattle.std.specs.Prelude.{nat_lt}
 use Rattle.nfs_share.proofs.Indexed.{one_more}
 use Rattle.nfs_share.proofs.numbers.grant_in.Goals as goal

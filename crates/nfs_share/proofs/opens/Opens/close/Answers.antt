@@ -12,9 +12,10 @@ overflow_sub-self c =
     (gone_at (λ f. f.opens) open_number is_numbered open_differs c.args.number c.self.inside.files.items c.args.node c.index_mut.result.now c.close_in.new.file c.self.inside.count c.close_in.result c.self.inside.nodes c.self.inside.nodes (omega (arith, c.if-at-len.true, c.len.ensures)) c.index_mut.ensures.value c.close_in.ensures.opens c.close_in.ensures.gone (λ n m known differs. known) c.self.invariant.0).0
 
 pub invariant_of-self : goal.invariant_of-self
-invariant_of-self c =
-    ((gone_at (λ f. f.opens) open_number is_numbered open_differs c.args.number c.self.inside.files.items c.args.node c.index_mut.result.now c.close_in.new.file c.self.inside.count c.close_in.result c.self.inside.nodes c.remove.new.self (omega (arith, c.if-at-len.true, c.len.ensures)) c.index_mut.ensures.value c.close_in.ensures.opens c.close_in.ensures.gone c.remove.ensures.nodes c.self.invariant.0).1,
-    subst (AreFound lent_number c.self.inside.lent c.self.inside.lent_count) (sym (same_at (λ f. f.delegations) c.self.inside.files.items c.args.node c.index_mut.result.now c.close_in.new.file (omega (arith, c.if-at-len.true, c.len.ensures)) c.index_mut.ensures.value c.close_in.ensures.delegations)) c.self.invariant.1)
+invariant_of-self c = (
+  (gone_at (λ f. f.opens) open_number is_numbered open_differs c.args.number c.self.inside.files.items c.args.node c.index_mut.result.now c.close_in.new.file c.self.inside.count c.close_in.result c.self.inside.nodes c.remove.new.self (omega (arith, c.if-at-len.true, c.len.ensures)) c.index_mut.ensures.value c.close_in.ensures.opens c.close_in.ensures.gone c.remove.ensures.nodes c.self.invariant.0).1,
+  subst (AreFound lent_number c.self.inside.lent c.self.inside.lent_count) (sym (same_at (λ f. f.delegations) c.self.inside.files.items c.args.node c.index_mut.result.now c.close_in.new.file (omega (arith, c.if-at-len.true, c.len.ensures)) c.index_mut.ensures.value c.close_in.ensures.delegations)) c.self.invariant.1,
+)
 
 pub returns-then-at-len-clause-opens : goal.returns-then-at-len-clause-opens
 returns-then-at-len-clause-opens c =

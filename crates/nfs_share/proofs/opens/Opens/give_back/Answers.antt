@@ -12,9 +12,10 @@ overflow_sub-self c =
     (gone_at (λ f. f.delegations) lent_number is_delegation_numbered lent_differs c.args.number c.self.inside.files.items c.args.node c.index_mut.result.now c.give_back_in.new.file c.self.inside.lent_count c.give_back_in.result c.self.inside.lent c.self.inside.lent (omega (arith, c.if-at-len.true, c.len.ensures)) c.index_mut.ensures.value c.give_back_in.ensures.delegations c.give_back_in.ensures.gone (λ n m known differs. known) c.self.invariant.1).0
 
 pub invariant_of-self : goal.invariant_of-self
-invariant_of-self c =
-    (subst (AreFound open_number c.self.inside.nodes c.self.inside.count) (sym (same_at (λ f. f.opens) c.self.inside.files.items c.args.node c.index_mut.result.now c.give_back_in.new.file (omega (arith, c.if-at-len.true, c.len.ensures)) c.index_mut.ensures.value c.give_back_in.ensures.opens)) c.self.invariant.0,
-    (gone_at (λ f. f.delegations) lent_number is_delegation_numbered lent_differs c.args.number c.self.inside.files.items c.args.node c.index_mut.result.now c.give_back_in.new.file c.self.inside.lent_count c.give_back_in.result c.self.inside.lent c.remove.new.self (omega (arith, c.if-at-len.true, c.len.ensures)) c.index_mut.ensures.value c.give_back_in.ensures.delegations c.give_back_in.ensures.gone c.remove.ensures.nodes c.self.invariant.1).1)
+invariant_of-self c = (
+  subst (AreFound open_number c.self.inside.nodes c.self.inside.count) (sym (same_at (λ f. f.opens) c.self.inside.files.items c.args.node c.index_mut.result.now c.give_back_in.new.file (omega (arith, c.if-at-len.true, c.len.ensures)) c.index_mut.ensures.value c.give_back_in.ensures.opens)) c.self.invariant.0,
+  (gone_at (λ f. f.delegations) lent_number is_delegation_numbered lent_differs c.args.number c.self.inside.files.items c.args.node c.index_mut.result.now c.give_back_in.new.file c.self.inside.lent_count c.give_back_in.result c.self.inside.lent c.remove.new.self (omega (arith, c.if-at-len.true, c.len.ensures)) c.index_mut.ensures.value c.give_back_in.ensures.delegations c.give_back_in.ensures.gone c.remove.ensures.nodes c.self.invariant.1).1,
+)
 
 pub returns-then-at-len-clause-delegations : goal.returns-then-at-len-clause-delegations
 returns-then-at-len-clause-delegations c =

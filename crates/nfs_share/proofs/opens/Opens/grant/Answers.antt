@@ -27,17 +27,19 @@ overflow_add-self c =
     omega (arith, counts_more open_number c.self.inside.nodes c.self.inside.count (opens_in c.self.inside.files.items) c.self.invariant.0)
 
 pub invariant_of-self : goal.invariant_of-self
-invariant_of-self c =
-    (subst (AreFound open_number c.add.new.self (c.self.inside.count + 1)) (sym (changed_at (λ f. f.opens) (λ opens. opens ++ first_open c.args.owner c.args.share c.args.number ∷ []) c.self.inside.files.items c.args.node c.index_mut.result.now c.grant_in-is_new.new.file (omega (arith, c.if-at-len.true, c.len.ensures)) c.index_mut.ensures.value (c.grant_in-is_new.ensures.opens ∙ makes c.args.owner c.args.share c.args.number c.index_mut.result.now.opens (sym c.grant_in-is_new.ensures.made ∙ c.if-is_new.true))))
-    (found_more open_number list_or_none (λ xs. refl) c.args.node c.self.inside.count (opens_in c.self.inside.files.items) c.self.inside.nodes c.add.new.self (first_open c.args.owner c.args.share c.args.number) c.add.ensures (omega (arith, c.ranges.number.fits))
-    (omega (arith, as_many (λ f. f.opens) c.self.inside.files.items, c.if-at-len.true, c.len.ensures)) ((subst (λ opens. IsNewestAt c.args.node c.args.owner c.args.number opens) (sym (opens_view c.self.inside.nodes.room c.self.inside.lent.room c.self.inside.files.items c.args.self.now c.self.view_is)) c.requires.newest) (ap (λ opens. is_some (open_of c.args.owner opens)) (list_at_there (λ f. f.opens) c.self.inside.files.items c.args.node c.index_mut.result.now (omega (arith, c.if-at-len.true, c.len.ensures)) c.index_mut.ensures.value) ∙ makes_none c.args.owner c.index_mut.result.now.opens (sym c.grant_in-is_new.ensures.made ∙ c.if-is_new.true))) c.self.invariant.0),
-    subst (AreFound lent_number c.self.inside.lent c.self.inside.lent_count) (sym (same_at (λ f. f.delegations) c.self.inside.files.items c.args.node c.index_mut.result.now c.grant_in-is_new.new.file (omega (arith, c.if-at-len.true, c.len.ensures)) c.index_mut.ensures.value c.grant_in-is_new.ensures.delegations)) c.self.invariant.1)
+invariant_of-self c = (
+  subst (AreFound open_number c.add.new.self (c.self.inside.count + 1)) (sym (changed_at (λ f. f.opens) (λ opens. opens ++ first_open c.args.owner c.args.share c.args.number ∷ []) c.self.inside.files.items c.args.node c.index_mut.result.now c.grant_in-is_new.new.file (omega (arith, c.if-at-len.true, c.len.ensures)) c.index_mut.ensures.value (c.grant_in-is_new.ensures.opens ∙ makes c.args.owner c.args.share c.args.number c.index_mut.result.now.opens (sym c.grant_in-is_new.ensures.made ∙ c.if-is_new.true))))
+      (found_more open_number list_or_none (λ xs. refl) c.args.node c.self.inside.count (opens_in c.self.inside.files.items) c.self.inside.nodes c.add.new.self (first_open c.args.owner c.args.share c.args.number) c.add.ensures (omega (arith, c.ranges.number.fits))
+      (omega (arith, as_many (λ f. f.opens) c.self.inside.files.items, c.if-at-len.true, c.len.ensures)) ((subst (λ opens. IsNewestAt c.args.node c.args.owner c.args.number opens) (sym (opens_view c.self.inside.nodes.room c.self.inside.lent.room c.self.inside.files.items c.args.self.now c.self.view_is)) c.requires.newest) (ap (λ opens. is_some (open_of c.args.owner opens)) (list_at_there (λ f. f.opens) c.self.inside.files.items c.args.node c.index_mut.result.now (omega (arith, c.if-at-len.true, c.len.ensures)) c.index_mut.ensures.value) ∙ makes_none c.args.owner c.index_mut.result.now.opens (sym c.grant_in-is_new.ensures.made ∙ c.if-is_new.true))) c.self.invariant.0),
+  subst (AreFound lent_number c.self.inside.lent c.self.inside.lent_count) (sym (same_at (λ f. f.delegations) c.self.inside.files.items c.args.node c.index_mut.result.now c.grant_in-is_new.new.file (omega (arith, c.if-at-len.true, c.len.ensures)) c.index_mut.ensures.value c.grant_in-is_new.ensures.delegations)) c.self.invariant.1,
+)
 
 pub invariant_of-self-else-is_new : goal.invariant_of-self-else-is_new
-invariant_of-self-else-is_new c =
-    (subst (AreFound open_number c.self.inside.nodes c.self.inside.count) (sym (changed_at (λ f. f.opens) (with_each (is_of c.args.owner) (after_open c.args.share)) c.self.inside.files.items c.args.node c.index_mut.result.now c.grant_in-is_new.new.file (omega (arith, c.if-at-len.true, c.len.ensures)) c.index_mut.ensures.value (c.grant_in-is_new.ensures.opens ∙ joins c.args.owner c.args.share c.args.number c.index_mut.result.now.opens (sym c.grant_in-is_new.ensures.made ∙ c.if-is_new.false))))
-    (found_changed open_number list_or_none (λ xs. refl) c.args.node c.self.inside.count (opens_in c.self.inside.files.items) c.self.inside.nodes (λ o. if is_of c.args.owner o then after_open c.args.share o else o) (same_numbers open_number (is_of c.args.owner) (after_open c.args.share) (λ o. refl)) c.self.invariant.0),
-    subst (AreFound lent_number c.self.inside.lent c.self.inside.lent_count) (sym (same_at (λ f. f.delegations) c.self.inside.files.items c.args.node c.index_mut.result.now c.grant_in-is_new.new.file (omega (arith, c.if-at-len.true, c.len.ensures)) c.index_mut.ensures.value c.grant_in-is_new.ensures.delegations)) c.self.invariant.1)
+invariant_of-self-else-is_new c = (
+  subst (AreFound open_number c.self.inside.nodes c.self.inside.count) (sym (changed_at (λ f. f.opens) (with_each (is_of c.args.owner) (after_open c.args.share)) c.self.inside.files.items c.args.node c.index_mut.result.now c.grant_in-is_new.new.file (omega (arith, c.if-at-len.true, c.len.ensures)) c.index_mut.ensures.value (c.grant_in-is_new.ensures.opens ∙ joins c.args.owner c.args.share c.args.number c.index_mut.result.now.opens (sym c.grant_in-is_new.ensures.made ∙ c.if-is_new.false))))
+      (found_changed open_number list_or_none (λ xs. refl) c.args.node c.self.inside.count (opens_in c.self.inside.files.items) c.self.inside.nodes (λ o. if is_of c.args.owner o then after_open c.args.share o else o) (same_numbers open_number (is_of c.args.owner) (after_open c.args.share) (λ o. refl)) c.self.invariant.0),
+  subst (AreFound lent_number c.self.inside.lent c.self.inside.lent_count) (sym (same_at (λ f. f.delegations) c.self.inside.files.items c.args.node c.index_mut.result.now c.grant_in-is_new.new.file (omega (arith, c.if-at-len.true, c.len.ensures)) c.index_mut.ensures.value c.grant_in-is_new.ensures.delegations)) c.self.invariant.1,
+)
 
 pub returns-then-is_new-clause-opens : goal.returns-then-is_new-clause-opens
 returns-then-is_new-clause-opens c =

@@ -27,11 +27,12 @@ overflow_add-self c =
     omega (arith, counts_more lent_number c.self.inside.lent c.self.inside.lent_count (delegations_in c.self.inside.files.items) c.self.invariant.1)
 
 pub invariant_of-self : goal.invariant_of-self
-invariant_of-self c =
-    (subst (AreFound open_number c.self.inside.nodes c.self.inside.count) (sym (same_at (λ f. f.opens) c.self.inside.files.items c.args.node c.index_mut.result.now c.lend.new.self (omega (arith, c.if-at-len.true, c.len.ensures)) c.index_mut.ensures.value c.lend.ensures.opens)) c.self.invariant.0,
-    subst (AreFound lent_number c.add.new.self (c.self.inside.lent_count + 1)) (sym (changed_at (λ f. f.delegations) (λ (all : List Delegation). all ++ first_delegation c.args.client c.args.kind c.args.number ∷ []) c.self.inside.files.items c.args.node c.index_mut.result.now c.lend.new.self (omega (arith, c.if-at-len.true, c.len.ensures)) c.index_mut.ensures.value c.lend.ensures.delegations))
-    (found_more lent_number list_or_none (λ xs. refl) c.args.node c.self.inside.lent_count (delegations_in c.self.inside.files.items) c.self.inside.lent c.add.new.self (first_delegation c.args.client c.args.kind c.args.number) c.add.ensures (omega (arith, c.ranges.number.fits))
-    (omega (arith, as_many (λ f. f.delegations) c.self.inside.files.items, c.if-at-len.true, c.len.ensures)) (subst (IsAboveAllLent c.args.number) (sym (lent_view c.self.inside.nodes.room c.self.inside.lent.room c.self.inside.files.items c.args.self.now c.self.view_is)) c.requires.newest) c.self.invariant.1))
+invariant_of-self c = (
+  subst (AreFound open_number c.self.inside.nodes c.self.inside.count) (sym (same_at (λ f. f.opens) c.self.inside.files.items c.args.node c.index_mut.result.now c.lend.new.self (omega (arith, c.if-at-len.true, c.len.ensures)) c.index_mut.ensures.value c.lend.ensures.opens)) c.self.invariant.0,
+  subst (AreFound lent_number c.add.new.self (c.self.inside.lent_count + 1)) (sym (changed_at (λ f. f.delegations) (λ (all : List Delegation). all ++ first_delegation c.args.client c.args.kind c.args.number ∷ []) c.self.inside.files.items c.args.node c.index_mut.result.now c.lend.new.self (omega (arith, c.if-at-len.true, c.len.ensures)) c.index_mut.ensures.value c.lend.ensures.delegations))
+      (found_more lent_number list_or_none (λ xs. refl) c.args.node c.self.inside.lent_count (delegations_in c.self.inside.files.items) c.self.inside.lent c.add.new.self (first_delegation c.args.client c.args.kind c.args.number) c.add.ensures (omega (arith, c.ranges.number.fits))
+      (omega (arith, as_many (λ f. f.delegations) c.self.inside.files.items, c.if-at-len.true, c.len.ensures)) (subst (IsAboveAllLent c.args.number) (sym (lent_view c.self.inside.nodes.room c.self.inside.lent.room c.self.inside.files.items c.args.self.now c.self.view_is)) c.requires.newest) c.self.invariant.1),
+)
 
 pub returns-then-at-len-clause-delegations : goal.returns-then-at-len-clause-delegations
 returns-then-at-len-clause-delegations c =

@@ -6,9 +6,10 @@ use Rattle.nfs_share.proofs.Indexed.{lent_within, none_yet, opens_within}
 use Rattle.nfs_share.proofs.opens.Opens.new.Goals as goal
 
 pub invariant_of-result : goal.invariant_of-result
-invariant_of-result c =
-    (none_yet open_number c.loop.counter (opens_in c.loop.files.items) c.new-2.result c.loop.invariant.opens (omega (arith, as_many (λ f. f.opens) c.loop.files.items, c.loop.invariant.counted, c.loop.auto.counter-end, c.ranges.nodes.fits)),
-    none_yet lent_number c.loop.counter (delegations_in c.loop.files.items) c.new-3.result c.loop.invariant.delegations (omega (arith, as_many (λ f. f.delegations) c.loop.files.items, c.loop.invariant.counted, c.loop.auto.counter-end, c.ranges.nodes.fits)))
+invariant_of-result c = (
+  none_yet open_number c.loop.counter (opens_in c.loop.files.items) c.new-2.result c.loop.invariant.opens (omega (arith, as_many (λ f. f.opens) c.loop.files.items, c.loop.invariant.counted, c.loop.auto.counter-end, c.ranges.nodes.fits)),
+  none_yet lent_number c.loop.counter (delegations_in c.loop.files.items) c.new-3.result c.loop.invariant.delegations (omega (arith, as_many (λ f. f.delegations) c.loop.files.items, c.loop.invariant.counted, c.loop.auto.counter-end, c.ranges.nodes.fits)),
+)
 
 pub returns-clause-opens : goal.returns-clause-opens
 returns-clause-opens c =

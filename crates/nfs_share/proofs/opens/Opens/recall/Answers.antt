@@ -31,7 +31,8 @@ returns-then-node-len-clause-opening c at has =
     (subst (HasRoomAt at) (sym c.self.view_is) has)
 
 pub invariant_of-self : goal.invariant_of-self
-invariant_of-self c =
-    (subst (AreFound open_number c.self.inside.nodes c.self.inside.count) (sym (same_at (λ f. f.opens) c.self.inside.files.items c.args.node c.index_mut.result.now c.recall.new.self (omega (arith, c.if-node-len.true, c.len.ensures)) c.index_mut.ensures.value (ap (λ (f : FileOpens). f.opens) c.recall.ensures))) c.self.invariant.0,
-    subst (AreFound lent_number c.self.inside.lent c.self.inside.lent_count) (sym (changed_at (λ f. f.delegations) (with_recalls c.args.file_use c.args.moment) c.self.inside.files.items c.args.node c.index_mut.result.now c.recall.new.self (omega (arith, c.if-node-len.true, c.len.ensures)) c.index_mut.ensures.value (ap (λ (f : FileOpens). f.delegations) c.recall.ensures)))
-    (found_changed lent_number list_or_none (λ xs. refl) c.args.node c.self.inside.lent_count (delegations_in c.self.inside.files.items) c.self.inside.lent (λ d. if conflicts c.args.file_use d then with_recall c.args.moment d else d) (same_numbers lent_number (conflicts c.args.file_use) (with_recall c.args.moment) (recalled_same c.args.moment)) c.self.invariant.1))
+invariant_of-self c = (
+  subst (AreFound open_number c.self.inside.nodes c.self.inside.count) (sym (same_at (λ f. f.opens) c.self.inside.files.items c.args.node c.index_mut.result.now c.recall.new.self (omega (arith, c.if-node-len.true, c.len.ensures)) c.index_mut.ensures.value (ap (λ (f : FileOpens). f.opens) c.recall.ensures))) c.self.invariant.0,
+  subst (AreFound lent_number c.self.inside.lent c.self.inside.lent_count) (sym (changed_at (λ f. f.delegations) (with_recalls c.args.file_use c.args.moment) c.self.inside.files.items c.args.node c.index_mut.result.now c.recall.new.self (omega (arith, c.if-node-len.true, c.len.ensures)) c.index_mut.ensures.value (ap (λ (f : FileOpens). f.delegations) c.recall.ensures)))
+      (found_changed lent_number list_or_none (λ xs. refl) c.args.node c.self.inside.lent_count (delegations_in c.self.inside.files.items) c.self.inside.lent (λ d. if conflicts c.args.file_use d then with_recall c.args.moment d else d) (same_numbers lent_number (conflicts c.args.file_use) (with_recall c.args.moment) (recalled_same c.args.moment)) c.self.invariant.1),
+)

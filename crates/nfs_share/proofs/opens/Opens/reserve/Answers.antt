@@ -3,7 +3,7 @@ use Rattle.std.proofs.lemmas.Bool.{false≢true}
 use Rattle.nfs_share.specs.AllOpens.{HasLendingRoomAt, HasRoomAt, opens_in}
 use Rattle.nfs_share.specs.OpenNodes.{lent_number, open_number}
 use Rattle.nfs_share.specs.Opens.{FileOpens}
-use Rattle.nfs_share.proofs.Indexed.{as_long, counted, has_within, has_without, keeps_within, lent_view, lent_within, opens_view, opens_within}
+use Rattle.nfs_share.proofs.Indexed.{as_long, has_within, has_without, keeps_within, lent_view, lent_within, opens_view, opens_within}
 use Rattle.nfs_share.proofs.OneFile.{no_room_at, room_at, room_of, rooms_grow, same_at}
 use Rattle.nfs_nodes.specs.Numbers.{AreFound, StandFrom}
 use Rattle.std.proofs.lemmas.List.{length-map}
@@ -83,13 +83,15 @@ returns-else-node-len-clause-room c =
     subst (HasRoomAt c.args.node) c.self.view_is (no_room_at (λ f. f.room) (map (within_rooms c.self.inside.nodes.room c.self.inside.lent.room) c.self.inside.files.items) c.args.node (omega (arith, c.if-node-len.false, c.len.ensures, length-map c.self.inside.files.items (within_rooms c.self.inside.nodes.room c.self.inside.lent.room))))
 
 pub invariant_of-self-in-Continue-branch-2 : goal.invariant_of-self-in-Continue-branch-2
-invariant_of-self-in-Continue-branch-2 c =
-    (subst (AreFound open_number c.reserve_number.new.nodes c.self.inside.count) (sym (same_at (λ f. f.opens) c.self.inside.files.items c.args.node c.index_mut.result.now c.reserve.new.self (omega (arith, c.if-node-len.true, c.len.ensures)) c.index_mut.ensures.value c.reserve.ensures.opens))
-    (record { stand = subst (λ (files : List FileOpens). StandFrom open_number c.reserve_number.new.nodes 0 (opens_in files)) c.deref.ensures.value c.reserve_number.ensures.stand; counted = c.self.invariant.0.counted; few = c.self.invariant.0.few }),
-    subst (AreFound lent_number c.self.inside.lent c.self.inside.lent_count) (sym (same_at (λ f. f.delegations) c.self.inside.files.items c.args.node c.index_mut.result.now c.reserve.new.self (omega (arith, c.if-node-len.true, c.len.ensures)) c.index_mut.ensures.value c.reserve.ensures.delegations)) c.self.invariant.1)
+invariant_of-self-in-Continue-branch-2 c = (
+  subst (AreFound open_number c.reserve_number.new.nodes c.self.inside.count) (sym (same_at (λ f. f.opens) c.self.inside.files.items c.args.node c.index_mut.result.now c.reserve.new.self (omega (arith, c.if-node-len.true, c.len.ensures)) c.index_mut.ensures.value c.reserve.ensures.opens))
+      (record { stand = subst (λ (files : List FileOpens). StandFrom open_number c.reserve_number.new.nodes 0 (opens_in files)) c.deref.ensures.value c.reserve_number.ensures.stand; counted = c.self.invariant.0.counted; few = c.self.invariant.0.few }),
+  subst (AreFound lent_number c.self.inside.lent c.self.inside.lent_count) (sym (same_at (λ f. f.delegations) c.self.inside.files.items c.args.node c.index_mut.result.now c.reserve.new.self (omega (arith, c.if-node-len.true, c.len.ensures)) c.index_mut.ensures.value c.reserve.ensures.delegations)) c.self.invariant.1,
+)
 
 pub invariant_of-self-in_err-reserve : goal.invariant_of-self-in_err-reserve
-invariant_of-self-in_err-reserve c =
-    (subst (AreFound open_number c.reserve_number.new.nodes c.self.inside.count) (sym (same_at (λ f. f.opens) c.self.inside.files.items c.args.node c.index_mut.result.now c.reserve.new.self (omega (arith, c.if-node-len.true, c.len.ensures)) c.index_mut.ensures.value c.reserve.ensures.opens))
-    (record { stand = subst (λ (files : List FileOpens). StandFrom open_number c.reserve_number.new.nodes 0 (opens_in files)) c.deref.ensures.value c.reserve_number.ensures.stand; counted = c.self.invariant.0.counted; few = c.self.invariant.0.few }),
-    subst (AreFound lent_number c.self.inside.lent c.self.inside.lent_count) (sym (same_at (λ f. f.delegations) c.self.inside.files.items c.args.node c.index_mut.result.now c.reserve.new.self (omega (arith, c.if-node-len.true, c.len.ensures)) c.index_mut.ensures.value c.reserve.ensures.delegations)) c.self.invariant.1)
+invariant_of-self-in_err-reserve c = (
+  subst (AreFound open_number c.reserve_number.new.nodes c.self.inside.count) (sym (same_at (λ f. f.opens) c.self.inside.files.items c.args.node c.index_mut.result.now c.reserve.new.self (omega (arith, c.if-node-len.true, c.len.ensures)) c.index_mut.ensures.value c.reserve.ensures.opens))
+      (record { stand = subst (λ (files : List FileOpens). StandFrom open_number c.reserve_number.new.nodes 0 (opens_in files)) c.deref.ensures.value c.reserve_number.ensures.stand; counted = c.self.invariant.0.counted; few = c.self.invariant.0.few }),
+  subst (AreFound lent_number c.self.inside.lent c.self.inside.lent_count) (sym (same_at (λ f. f.delegations) c.self.inside.files.items c.args.node c.index_mut.result.now c.reserve.new.self (omega (arith, c.if-node-len.true, c.len.ensures)) c.index_mut.ensures.value c.reserve.ensures.delegations)) c.self.invariant.1,
+)
