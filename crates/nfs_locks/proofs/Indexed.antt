@@ -1,12 +1,12 @@
 -- The lock states of all files beside their nodes.
-use Rattle.std.proofs.Common.{inl, inr, ◌≡◌, ℕ, zero, suc, ◌+◌, ◌-◌, ◌<◌, ◌≤◌, ◌^◌, Bool, true, false, cond, not, List, [], ◌∷◌, length, map, min, replicate, position, slice_index_or, slice_set, Option, Some, None, refl, sym, ap, subst, ◌∙◌, arith}
-use Rattle.std.specs.Prelude.{IfSome, filter, find, option_map, slice_get, IsTrue, unwrap_or, if◌then◌else◌, ◌||◌}
+use Rattle.std.proofs.Common.{◌≡◌, ℕ, zero, suc, ◌+◌, ◌-◌, ◌<◌, ◌≤◌, ◌^◌, Bool, true, false, cond, List, [], ◌∷◌, length, map, min, replicate, position, slice_index_or, slice_set, Some, None, refl, sym, ap, subst, ◌∙◌, arith}
+use Rattle.std.specs.Prelude.{IfSome, filter, slice_get, unwrap_or, if◌then◌else◌, ◌||◌}
 use Rattle.std.specs.List.{AllByRecursion, list_any}
-use Rattle.std.proofs.Math.Nat.{min-le_left, min-le_right, min-zero, zero-min, suc-min-suc}
+use Rattle.std.proofs.Math.Nat.{min-le_left, min-le_right, suc-min-suc}
 use Rattle.std.proofs.lemmas.Bool.{and_parts, eqb-true, eqb-false, true≢false}
 use Rattle.std.proofs.lemmas.List.{length-map}
 use Rattle.nfs_forms.specs.declared.stateid.Stateid.{Stateid}
-use Rattle.nfs_locks.specs.AllLocks.{HasLockRoom, HasLockRoomAt, at_node, lock_count, lock_named_in, locks_in, locks_of, locks_or_none, named_at, stored_in}
+use Rattle.nfs_locks.specs.AllLocks.{HasLockRoom, HasLockRoomAt, at_node, lock_count, lock_named_in, locks_in, locks_or_none, named_at, stored_in}
 use Rattle.nfs_locks.specs.LockNodes.{number_of, within_room}
 use Rattle.nfs_locks.specs.Locks.{ByteLocks, is_lock_of_client, is_numbered, after_change, is_stateid_of, lock_named_by}
 use Rattle.nfs_locks.specs.StoredLocks.{StoredLock, StoredLocks, byte_locks, lock_seen, locks_seen, stored_lock}
@@ -14,7 +14,7 @@ use Rattle.nfs_locks.specs.declared.lock_state.LockState.{LockState}
 use Rattle.nfs_ranges.specs.declared.piece.Piece.{Piece}
 use Rattle.nfs_locks.proofs.Files.{changed_at, seen_twice}
 use Rattle.nfs_nodes.specs.Nodes.{RoomyNodes}
-use Rattle.nfs_nodes.specs.Numbers.{AreFound, StandFrom, total}
+use Rattle.nfs_nodes.specs.Numbers.{AreFound, total}
 use Rattle.nfs_nodes.proofs.Callers.{fewer_kept, found_fewer_at, found_if_any, none_stand, total_fewer, total_has}
 
 -- what is seen of the files is what they have, whatever room there is

@@ -1,8 +1,7 @@
-use Rattle.std.proofs.Common.{◌∙◌, Bool, ◌&&◌, List, ap}
+use Rattle.std.proofs.Common.{◌∙◌, Bool, ◌&&◌, ap}
 use Rattle.std.specs.List.{list_any}
 use Rattle.nfs_locks.specs.AllLocks.{locks_in}
 use Rattle.nfs_locks.specs.Locks.{ByteLocks, holds_bytes, is_lock_of}
-use Rattle.nfs_locks.specs.StoredLocks.{StoredLocks}
 use Rattle.nfs_locks.proofs.Files.{any_file}
 use Rattle.nfs_locks.proofs.Indexed.{in_view}
 use Rattle.nfs_locks.proofs.locks.Locks.holds.Goals as goal

@@ -1,9 +1,9 @@
-use Rattle.std.proofs.Common.{◌∙◌, Bool, ◌&&◌, List, ap, sym}
+use Rattle.std.proofs.Common.{◌∙◌, Bool, ◌&&◌, ap, sym}
 use Rattle.std.specs.List.{list_any}
 use Rattle.std.proofs.lemmas.Bool.{ltb-false, ltb-true}
 use Rattle.nfs_locks.specs.AllLocks.{is_full_for, locks_in, locks_of}
 use Rattle.nfs_locks.specs.Locks.{ByteLocks, is_numbered, would_be_full}
-use Rattle.nfs_locks.specs.StoredLocks.{StoredLocks, lock_seen}
+use Rattle.nfs_locks.specs.StoredLocks.{lock_seen}
 use Rattle.nfs_locks.proofs.Elements.{any_seen}
 use Rattle.nfs_locks.proofs.Files.{locks_at, no_locks_at}
 use Rattle.nfs_locks.proofs.Indexed.{in_view}

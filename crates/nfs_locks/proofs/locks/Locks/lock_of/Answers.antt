@@ -1,8 +1,8 @@
-use Rattle.std.proofs.Common.{◌∙◌, List, ap, option_map, sym}
+use Rattle.std.proofs.Common.{◌∙◌, ap, option_map, sym}
 use Rattle.std.proofs.lemmas.Bool.{ltb-true}
 use Rattle.nfs_locks.specs.AllLocks.{locks_in, locks_of}
 use Rattle.nfs_locks.specs.Locks.{is_lock_of, lock_of}
-use Rattle.nfs_locks.specs.StoredLocks.{StoredLocks, lock_seen}
+use Rattle.nfs_locks.specs.StoredLocks.{lock_seen}
 use Rattle.nfs_locks.proofs.Elements.{find_seen}
 use Rattle.nfs_locks.proofs.Files.{locks_at}
 use Rattle.nfs_locks.proofs.Indexed.{in_view}

@@ -1,9 +1,8 @@
-use Rattle.std.proofs.Common.{◌∙◌, List, ap, option_map, subst, sym}
+use Rattle.std.proofs.Common.{◌∙◌, ap, option_map, subst, sym}
 use Rattle.std.proofs.lemmas.Bool.{ltb-true}
 use Rattle.nfs_locks.specs.AllLocks.{locks_in, locks_of}
 use Rattle.nfs_locks.specs.Report.{IsReport}
 use Rattle.nfs_locks.specs.ReportSeen.{report_seen}
-use Rattle.nfs_locks.specs.StoredLocks.{StoredLocks}
 use Rattle.nfs_locks.proofs.Files.{locks_at}
 use Rattle.nfs_locks.proofs.Indexed.{in_view}
 use Rattle.nfs_locks.proofs.locks.Locks.report.Goals as goal

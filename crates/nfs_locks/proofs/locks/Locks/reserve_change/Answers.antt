@@ -1,7 +1,7 @@
-use Rattle.std.proofs.Common.{List, map, ap, subst, sym, ◌∙◌, arith}
+use Rattle.std.proofs.Common.{List, map, subst, sym, ◌∙◌, arith}
 use Rattle.std.specs.List.{AllByRecursion}
 use Rattle.std.proofs.lemmas.Bool.{false≢true}
-use Rattle.nfs_locks.specs.AllLocks.{HasRangeRoom, HasRoomFor, stored_in}
+use Rattle.nfs_locks.specs.AllLocks.{HasRangeRoom, HasRoomFor}
 use Rattle.nfs_locks.specs.LockNodes.{number_of}
 use Rattle.nfs_locks.specs.StoredLocks.{StoredLock, byte_locks}
 use Rattle.nfs_locks.proofs.Files.{holds_at, holds_of, holds_of_none, same_at}
