@@ -1,5 +1,6 @@
 pub mod Elements
 pub mod Files
+pub mod Indexed
 pub mod Compatible
 pub mod Meetings
 pub mod Unique

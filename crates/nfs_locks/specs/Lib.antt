@@ -3,6 +3,7 @@ pub mod StoredLocks
 pub mod KeptLocks
 pub mod AllLocks
 pub mod LockFound
+pub mod LockNodes
 pub mod Report
 pub mod ReportSeen
 pub mod Laws

@@ -97,6 +97,13 @@ impl FileLocks {
         self.named_by(stateid).is_some()
     }
 
+    /// Whether a lock state has this number.
+    pub fn has_number(&self, number: u32) -> bool
+        ensures { result ≡ list_any (λ l. is_numbered number (lock_seen l)) self.now.states }
+    {
+        self.states.iter().any(|state| state.number == number)
+    }
+
     /// The lock state of this owner, if there is one.
     pub fn lock_of(&self, owner: &LockOwner) -> Option<&LockState>
         ensures { option_copied result

@@ -7,6 +7,7 @@ mod first_lock;
 mod laws;
 mod lock_state;
 mod locks;
+mod numbers;
 mod owner_hash;
 mod owner_order;
 mod removals;

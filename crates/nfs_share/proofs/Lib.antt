@@ -4,8 +4,8 @@ pub mod OpensLaws
 pub mod EachElement
 pub mod CompatibleOpens
 pub mod OneFile
-pub mod Names
 pub mod AllOpens
+pub mod Indexed
 pub mod NextDue
 pub mod DelegationOrder
 pub mod ApartDelegations

@@ -5,5 +5,6 @@ pub mod Opens
 pub mod Delegations
 pub mod AllOpens
 pub mod OpenFound
+pub mod OpenNodes
 pub mod Laws
 pub mod ShareError

@@ -7,6 +7,7 @@ mod delegation;
 mod file_share;
 mod laws;
 mod modes;
+mod numbers;
 mod open_state;
 mod opens;
 mod share;
