@@ -101,7 +101,7 @@ impl FileLocks {
     pub fn has_number(&self, number: u32) -> bool
         ensures { result ≡ list_any (λ l. is_numbered number (lock_seen l)) self.now.states }
     {
-        self.states.iter().any(|state| state.number == number)
+        self.numbered(number).is_some()
     }
 
     /// The lock state of this owner, if there is one.

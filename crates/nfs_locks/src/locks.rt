@@ -55,7 +55,6 @@ impl Locks {
     pub fn new(alloc: Global, nodes: u32, names: RandomState) -> Result<Locks, AllocError>
         ensures { IfOk result (λ locks. stored_in locks ≡ replicate nodes []) }
     {
-        let _ = names;
         let mut files = Vec::new(alloc);
         files.reserve(nodes as usize)?;
         for _ in 0..nodes {
