@@ -1,0 +1,6 @@
+pub mod Each
+pub mod Marks
+pub mod Shown
+pub mod Lending
+pub mod Clearing
+pub mod Leading

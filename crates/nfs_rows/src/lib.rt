@@ -1,0 +1,9 @@
+//! Rows in the order in which they came, found by their numbers, and by a hash of their names.
+#![tactic(auto)]
+
+mod iter;
+mod place;
+mod rows;
+
+pub use iter::Iter;
+pub use rows::Rows;

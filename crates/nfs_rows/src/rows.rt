@@ -1,0 +1,299 @@
+ghost use Rattle.std.specs.Prelude.{Bool, ◌≡◌, ◌<◌, ◌≤◌, ◌==◌, ◌+◌, [], ◌∷◌, ◌++◌, IsOk, OnErr, OnOk, find, length, map};
+ghost use Rattle.std.specs.Option.{option_copied, option_copied_mut};
+ghost use Rattle.std.specs.Borrow.{sem};
+ghost use Rattle.nfs_rows.specs.Rows.{is_named, is_numbered, is_of_client, newest_of, pair_in, pair_of, pair_seen, value_in, without, AnswersAs, IsAbove, StandInOrder};
+
+use crate::iter::Iter;
+use crate::place::{Place, drop_marks, mark, place_of};
+use indexmap::IndexMap;
+use slab::Slab;
+use std::alloc::{AllocError, Global};
+use std::marker::Model;
+
+/// Rows in the order in which they came. Each has a number above those of the rows before it, the hash of its name, and
+/// a client.
+#[derive(Drop)]
+pub struct Rows<T> {
+    slab: Slab<T>,
+    // Where the rows are, in the order of their numbers; the last one isn't a mark.
+    places: Vec<Place>,
+    // The number of the row with a hash, as long as no two rows had one.
+    index: IndexMap<u64, u64>,
+    // Two rows have had one hash, and there have been rows since.
+    clashed: bool,
+    // How many additions were promised to take no memory.
+    room: usize,
+}
+
+impl<T> Model for Rows<T> {
+    ghost use Rattle.nfs_rows.specs.Rows.{RoomyRows, code_of_rows};
+    ghost use Rattle.nfs_rows.specs.Places.{AreKept, EndsKept, HasRoom, rows_at};
+
+    ghost Value = { RoomyRows T };
+
+    ghost coded = { code_of_rows T.code };
+
+    ghost view = { λ r. record {
+      rows = rows_at r.slab r.places.items;
+      room = r.room;
+    } };
+
+    ghost invariant = { λ r. AreKept r.slab r.places.items r.index r.clashed
+        × EndsKept r.places.items × HasRoom r.slab r.places r.index r.room };
+}
+
+impl<T> Rows<T> {
+    ghost use Rattle.nfs_rows.specs.Lends.{lends_value};
+
+    /// No rows, taking no memory.
+    pub fn new(alloc: Global) -> Rows<T>
+        ensures { result.rows ≡ [] }
+    {
+        Rows {
+            slab: Slab::new(alloc),
+            places: Vec::new(alloc),
+            index: IndexMap::new(alloc),
+            clashed: false,
+            room: 0,
+        }
+    }
+
+    /// How many rows there are.
+    pub fn len(&self) -> usize
+        ensures len { result ≡ length self.now.rows }
+        ensures order { StandInOrder self.now.rows }
+    {
+        let _places = &self.places;
+        self.slab.len()
+    }
+
+    /// Whether there are none.
+    pub fn is_empty(&self) -> bool
+        ensures { result ≡ (length self.now.rows == 0) }
+    {
+        self.slab.is_empty()
+    }
+
+    /// The number of the newest row, or 0 where there is none.
+    pub fn newest(&self) -> u64
+        ensures { result ≡ newest_of self.now.rows }
+    {
+        match self.places.last() {
+            Some(place) => place.number,
+            None => 0,
+        }
+    }
+
+    /// The row with this number, if there is one.
+    pub fn find(&self, number: u64) -> Option<&T>
+        ensures { option_copied result ≡ value_in (find (is_numbered number) self.now.rows) }
+    {
+        let at = place_of(&self.places, number)?;
+        self.slab.get(self.places[at].key)
+    }
+
+    /// The row with this number for a change, if there is one. Its number, hash and client stay, and so do other rows.
+    pub fn find_mut(&mut self, number: u64) -> Option<&mut T>
+        ensures* lends { sem 𝓛 (lends_value T.row self.entry number result) }
+        ensures value { option_copied_mut result
+            ≡ value_in (find (is_numbered number) self.old.rows) }
+    {
+        let at = place_of(&self.places, number)?;
+        self.slab.get_mut(self.places[at].key)
+    }
+
+    /// The first row that has the hash and passes the test, with its number, if there is one. As long as no two rows have
+    /// had one hash, it looks at one row, and else at each.
+    pub fn find_named<F: Fn(&T) -> bool>(&self, hash: u64, test: F) -> Option<(u64, &T)>
+        requires { F.IsAlwaysCallable test }
+        ensures { (p : T → Bool) → AnswersAs F.Fn test p
+            → pair_seen result ≡ pair_in (find (is_named hash p) self.now.rows) }
+    {
+        if self.clashed {
+            return named_among(&self.slab, &self.places, hash, test);
+        }
+        let number = *self.index.get(&hash)?;
+        let value = self.find(number)?;
+        if test(value) {
+            Some((number, value))
+        } else {
+            None
+        }
+    }
+
+    /// The values of the rows with their numbers, in the order in which the rows came.
+    pub fn iter(&self) -> Iter<'_, T>
+        ensures { result ≡ map pair_of self.now.rows }
+    {
+        Iter {
+            slab: &self.slab,
+            places: &self.places,
+        }
+    }
+
+    /// Makes room, so that the next row takes no memory.
+    pub fn reserve(&mut self) -> Result<(), AllocError>
+        ensures rows { self.new.rows ≡ self.old.rows }
+        ensures room { OnOk result (0 < self.new.room) }
+        ensures grows { self.old.room ≤ self.new.room }
+        ensures ready { 0 < self.old.room → IsOk result }
+        ensures err { OnErr result (self.new ≡ self.old) }
+    {
+        if self.room > 0 {
+            return Ok(());
+        }
+        self.slab.reserve(1)?;
+        self.places.reserve(1)?;
+        self.index.reserve(1)?;
+        self.room = 1;
+        Ok(())
+    }
+
+    /// Adds a row, whose number has to be above those of all others. It takes no memory.
+    pub fn add(&mut self, number: u64, hash: u64, client: u32, value: T)
+        requires room { 0 < self.old.room }
+        requires newest { IsAbove number self.old.rows }
+        ensures rows { self.new.rows ≡ self.old.rows ++ (record {
+          number = number;
+          hash = hash;
+          client = client;
+          value = value;
+        }) ∷ [] }
+        ensures room { self.old.room ≡ self.new.room + 1 }
+    {
+        self.room -= 1;
+        let key = self.slab.insert_reserved(value);
+        self.places.push_reserved(Place {
+            number,
+            hash,
+            client,
+            key,
+            gone: false,
+        });
+        match self.index.insert(hash, number) {
+            Ok(None) => {}
+            _ => self.clashed = true,
+        }
+    }
+
+    /// Removes the row with this number, and answers what it was.
+    pub fn remove(&mut self, number: u64) -> Option<T>
+        ensures value { result ≡ value_in (find (is_numbered number) self.old.rows) }
+        ensures rows { self.new.rows ≡ without (is_numbered number) self.old.rows }
+        ensures room { self.new.room ≡ self.old.room }
+    {
+        let at = place_of(&self.places, number)?;
+        let value = take(&mut self.slab, &mut self.places, &mut self.index, at);
+        drop_marks(&mut self.places, self.slab.len());
+        self.clashed = stay_clashed(&mut self.index, self.clashed, self.slab.len());
+        Some(value)
+    }
+
+    /// Removes the rows of this client that pass the test. It looks at no row of another client.
+    pub fn remove_of_client<F: Fn(&T) -> bool>(&mut self, client: u32, test: F)
+    where
+        T: Drop,
+        requires { F.IsAlwaysCallable test }
+        ensures rows { (p : T → Bool) → AnswersAs F.Fn test p
+            → self.new.rows ≡ without (is_of_client client p) self.old.rows }
+        ensures room { self.new.room ≡ self.old.room }
+    {
+        for at in 0..self.places.len() {
+            let place = self.places[at];
+            if has_row_of(&self.slab, place, client, &test) {
+                let _value = take(&mut self.slab, &mut self.places, &mut self.index, at);
+            }
+        }
+        drop_marks(&mut self.places, self.slab.len());
+        self.clashed = stay_clashed(&mut self.index, self.clashed, self.slab.len());
+    }
+}
+
+ghost use Rattle.std.specs.Prelude.{List, ℕ, None, Some, false, true};
+ghost use Rattle.indexmap.specs.IndexMap.{spare};
+ghost use Rattle.nfs_rows.specs.declared.place.Place.{Place};
+ghost use Rattle.nfs_rows.specs.Places.{AreKept, HasRoom, HasRow, HasRowAt, IsIndexed, has_row, kept, key_at, marked, number_at, rows_at};
+ghost use Rattle.slab.specs.Slab.{Updates};
+ghost use Rattle.std.specs.List.{AllByRecursion};
+
+// Takes the row out that is at this place, and leaves a mark.
+fn take<T>(
+    slab: &mut Slab<T>,
+    places: &mut Vec<Place>,
+    index: &mut IndexMap<u64, u64>,
+    at: usize,
+) -> T
+    requires kept { AreKept slab.old places.old.items index.old true }
+    requires there { HasRowAt at places.old.items }
+    ensures kept { (clashed : Bool) → AreKept slab.old places.old.items index.old clashed
+        → AreKept slab.new places.new.items index.new clashed }
+    ensures places { places.new.items ≡ marked at places.old.items }
+    ensures rows { rows_at slab.new places.new.items
+        ≡ without (is_numbered (number_at at places.old.items))
+        (rows_at slab.old places.old.items) }
+    ensures value { value_in (find (is_numbered (number_at at places.old.items))
+        (rows_at slab.old places.old.items)) ≡ Some result }
+    ensures updates { Updates slab.old slab.new (key_at at places.old.items) None }
+    ensures room { (room : ℕ) → HasRoom slab.old places.old index.old room
+        → HasRoom slab.new places.new index.new room }
+{
+    let place = mark(places, at);
+    index.swap_remove(&place.hash);
+    slab.remove(place.key)
+}
+
+// Whether a row of the client that passes the test is at this place.
+fn has_row_of<T, F: Fn(&T) -> bool>(slab: &Slab<T>, place: Place, client: u32, test: &F) -> bool
+    requires { F.IsAlwaysCallable test.now }
+    ensures there { result ≡ true → place.gone ≡ false }
+    ensures passes { (p : T → Bool) → AnswersAs F.Fn test.now p
+        → result ≡ has_row (is_of_client client p) slab.now place }
+{
+    if place.gone || place.client != client {
+        return false;
+    }
+    match slab.get(place.key) {
+        Some(value) => test(value),
+        None => false,
+    }
+}
+
+// Whether look-ups by hash have to look at each row, where this was so before, and there are so many rows. Without rows the
+// index begins anew.
+fn stay_clashed(index: &mut IndexMap<u64, u64>, clashed: bool, rows: usize) -> bool
+    ensures indexed { (places : List Place) → length places ≡ rows
+        → (clashed ≡ false → IsIndexed index.old places)
+        → result ≡ false → IsIndexed index.new places }
+    ensures spare { spare index.old ≤ spare index.new }
+{
+    if clashed && rows == 0 {
+        index.clear();
+        return false;
+    }
+    clashed
+}
+
+// The first row at these places that has the hash and passes the test, with its number.
+fn named_among<'a, T, F: Fn(&T) -> bool>(
+    slab: &'a Slab<T>,
+    places: &[Place],
+    hash: u64,
+    test: F,
+) -> Option<(u64, &'a T)>
+    requires callable { F.IsAlwaysCallable test }
+    requires there { AllByRecursion (HasRow slab.now) (kept places.now) }
+    ensures { (p : T → Bool) → AnswersAs F.Fn test p
+        → pair_seen result ≡ pair_in (find (is_named hash p) (rows_at slab.now places.now)) }
+{
+    for place in places {
+        if place.gone || place.hash != hash {
+            continue;
+        }
+        if let Some(value) = slab.get(place.key) {
+            if test(value) {
+                return Some((place.number, value));
+            }
+        }
+    }
+    None
+}
