@@ -3,4 +3,5 @@ pub mod Marks
 pub mod Shown
 pub mod Lending
 pub mod Clearing
+pub mod Callers
 pub mod Leading

@@ -2,6 +2,7 @@
 #![tactic(auto)]
 
 mod iter;
+mod parts;
 mod place;
 mod rows;
 

@@ -1,9 +1,10 @@
 use Rattle.std.proofs.Common.{◌∙◌, None, Some, ap, find, inr, subst, sym}
 use Rattle.std.specs.Option.{option_copied_mut}
-use Rattle.nfs_rows.specs.Rows.{RoomyRows, is_numbered, value_in, with_value}
-use Rattle.nfs_rows.specs.Places.{IsPlaceOf}
+use Rattle.nfs_rows.specs.Rows.{RoomyRows, StandInOrder, is_numbered, value_in, with_value}
+use Rattle.nfs_rows.specs.Places.{IsPlaceOf, kept}
 use Rattle.nfs_rows.proofs.Lending.{same_end}
-use Rattle.nfs_rows.proofs.Shown.{kept_changed, none_found, one_found, room_changed, rows_changed}
+use Rattle.nfs_rows.proofs.Marks.{rise_kept}
+use Rattle.nfs_rows.proofs.Shown.{kept_changed, order_rows, none_found, one_found, room_changed, rows_changed}
 use Rattle.nfs_rows.proofs.rows.Rows.find_mut.Goals as goal
 
 pub returns-in_err-at : goal.returns-in_err-at
@@ -16,6 +17,7 @@ returns-in_err-at g c =
         value = ap option_copied_mut c.from_residual.ensures
             ∙ sym (ap value_in (none_found c.self.inside.slab c.args.number ps others))
             ∙ ap (λ (r : RoomyRows g.row.T.Denot). value_in (find (is_numbered c.args.number) r.rows)) c.self.view_is;
+        order = subst (λ (r : RoomyRows g.row.T.Denot). StandInOrder r.rows) c.self.view_is (order_rows c.self.inside.slab (kept c.self.inside.places.items) (rise_kept c.self.inside.places.items c.self.invariant.0.rise));
       },
     )
 
@@ -53,5 +55,6 @@ returns g c =
         value = c.get_mut.ensures.value
             ∙ sym (one_found slab c.args.number ps at place are.rise are.there found c.index.ensures)
             ∙ ap (λ (r : RoomyRows g.row.T.Denot). value_in (find (is_numbered c.args.number) r.rows)) c.self.view_is;
+        order = subst (λ (r : RoomyRows g.row.T.Denot). StandInOrder r.rows) c.self.view_is (order_rows c.self.inside.slab (kept c.self.inside.places.items) (rise_kept c.self.inside.places.items c.self.invariant.0.rise));
       },
     )

@@ -2,8 +2,8 @@ use Rattle.std.proofs.Common.{◌∙◌, ap, false, get_or, sym}
 use Rattle.nfs_rows.specs.Rows.{pair_in}
 use Rattle.nfs_rows.specs.declared.place.Place.{Place}
 use Rattle.nfs_rows.proofs.Shown.{named_no, named_yes, walk_found, walk_none, walk_past}
-use Rattle.nfs_rows.proofs.rows.named_among.Goals as goal
-use Rattle.nfs_rows.proofs.rows.named_among.Goals.{in-Some+else-test, in_default}
+use Rattle.nfs_rows.proofs.parts.named_among.Goals as goal
+use Rattle.nfs_rows.proofs.parts.named_among.Goals.{in-Some+else-test, in_default}
 
 abbrev d : Place
 d = record { number = 0; hash = 0; client = 0; key = 0; gone = false }

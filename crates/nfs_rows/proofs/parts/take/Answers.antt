@@ -4,7 +4,7 @@ use Rattle.nfs_rows.specs.declared.place.Place.{Place}
 use Rattle.nfs_rows.proofs.Marks.{key_is}
 use Rattle.nfs_rows.specs.Places.{AreKept, rows_at}
 use Rattle.nfs_rows.proofs.Shown.{taken_found, taken_kept, taken_rows, taken_value}
-use Rattle.nfs_rows.proofs.rows.take.Goals as goal
+use Rattle.nfs_rows.proofs.parts.take.Goals as goal
 
 pub remove-requires : goal.remove-requires
 remove-requires g c =

@@ -1,7 +1,7 @@
 use Rattle.std.proofs.Common.{◌≡◌, Bool, drop, find}
 use Rattle.nfs_rows.specs.Rows.{AnswersAs, is_named}
 use Rattle.nfs_rows.specs.Places.{rows_at}
-use Rattle.nfs_rows.proofs.rows.named_among.Given as goal
+use Rattle.nfs_rows.proofs.parts.named_among.Given as goal
 
 -- the first such row of all is that of those that are left
 abbrev pub invariant-loop-place : goal.invariant-loop-place
