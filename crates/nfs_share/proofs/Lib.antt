@@ -9,3 +9,8 @@ pub mod AllOpens
 pub mod NextDue
 pub mod DelegationOrder
 pub mod ApartDelegations
+pub mod AtMostOne
+pub mod KeptOpens
+pub mod Counting
+pub mod ShareSums
+pub mod Tallies

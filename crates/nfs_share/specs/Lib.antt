@@ -7,3 +7,7 @@ pub mod AllOpens
 pub mod OpenFound
 pub mod Laws
 pub mod ShareError
+pub mod NameHash
+pub mod ShareCounts
+pub mod Tally
+pub mod KeptOpens

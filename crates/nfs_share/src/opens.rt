@@ -9,6 +9,7 @@ ghost use Rattle.nfs_share.specs.Opens.{after_downgrade, is_denied, is_numbered,
 use crate::{Delegation, DelegationKind, FileShare, FileUse, Modes, OpenState, Share};
 use nfs_forms::{ClientId, Moment, OpenOwner, Stateid};
 use std::alloc::{AllocError, Global};
+use std::hash::RandomState;
 use std::marker::Model;
 
 /// The opens and the delegations of all files, by the numbers of their nodes. A node that there isn't has none, and a
@@ -44,15 +45,15 @@ impl Model for Opens {
 }
 
 impl Opens {
-    /// No opens and no delegations of any of these nodes.
-    pub fn new(alloc: Global, nodes: u32) -> Result<Opens, AllocError>
+    /// No opens and no delegations of any of these nodes. Owners are found by hashes with this seed.
+    pub fn new(alloc: Global, nodes: u32, names: RandomState) -> Result<Opens, AllocError>
         ensures opens { IfOk result (λ opens. opens_in opens ≡ replicate nodes []) }
         ensures delegations { IfOk result (λ opens. delegations_in opens ≡ replicate nodes []) }
     {
         let mut files = Vec::new(alloc);
         files.reserve(nodes as usize)?;
         for _ in 0..nodes {
-            files.push_reserved(FileShare::new(alloc));
+            files.push_reserved(FileShare::new(alloc, names));
         }
         Ok(Opens { files })
     }
