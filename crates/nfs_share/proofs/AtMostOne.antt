@@ -101,6 +101,14 @@ module _ {X : Type 0} where
           (it ∙ sym passes, both_fail one other xs (others_fail other y xs fewer.0 it) (others_fail one y xs few.0 passes))
       by false fails there rest = (head_fails (other y) refl there ∙ sym fails, rest there)
 
+  pub find_alike : (one other : X → Bool) (xs : List X) → AllByRecursion (λ x. other x ≡ one x) xs → find other xs ≡ find one xs
+  find_alike one other [] h = refl
+  find_alike one other (x ∷ xs) h = λ i. cond (h.0 i) (Some x) (find_alike one other xs h.1 i)
+
+  pub left_alike : (one other : X → Bool) (xs : List X) → AllByRecursion (λ x. other x ≡ one x) xs → filter (λ x. not (other x)) xs ≡ filter (λ x. not (one x)) xs
+  left_alike one other [] h = refl
+  left_alike one other (x ∷ xs) h = λ i. cond (not (h.0 i)) (x ∷ left_alike one other xs h.1 i) (left_alike one other xs h.1 i)
+
   -- The one that passes both is the one that passes the second, if it passes the first.
   pub both_found : (first second : X → Bool) (xs : List X) → AtMostOne second xs → find (λ x. first x && second x) xs ≡ option_filter first (find second xs)
   both_found first second [] few = refl

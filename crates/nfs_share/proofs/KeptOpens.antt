@@ -1,6 +1,6 @@
 -- Opens in rows, found by number, by owner and by client.
-use Rattle.std.proofs.Common.{◌≡◌, ℕ, ◌<◌, Bool, true, false, not, cond, ◌&&◌, List, [], ◌∷◌, ◌++◌, length, find, map, Option, Some, None, refl, sym, ap, subst, ◌∙◌, arith}
-use Rattle.std.specs.Prelude.{◌==◌}
+use Rattle.std.proofs.Common.{◌≡◌, ℕ, ◌+◌, ◌^◌, ◌<◌, Bool, true, false, not, cond, ◌&&◌, List, [], ◌∷◌, ◌++◌, length, find, map, Option, Some, None, refl, sym, ap, subst, ◌∙◌, arith}
+use Rattle.std.specs.Prelude.{⊤, ◌==◌}
 use Rattle.std.specs.List.{AllByRecursion}
 use Rattle.std.specs.Str.{bytes_eq}
 use Rattle.std.specs.declared.hash.RandomState.{RandomState}
@@ -15,10 +15,11 @@ use Rattle.nfs_rows.proofs.Each.{all_append, all_filter, all_weaken, so_filter, 
 use Rattle.nfs_rows.proofs.Callers.{all_seen, changed_all, changed_seen, with_change_none, with_value_is, without_seen}
 use Rattle.nfs_share.specs.declared.open_state.OpenState.{OpenState}
 use Rattle.nfs_share.specs.KeptOpens.{AreKept, IsBefore, IsOpen, hash_of_owner, opens_kept, with_change}
-use Rattle.nfs_share.specs.Opens.{IsAbove, is_numbered, is_of, is_of_client, open_of, with_each, without}
+use Rattle.nfs_share.specs.Opens.{IsAbove, is_numbered, is_of, is_of_client, open_of, open_with_number, with_each, without}
 use Rattle.nfs_share.proofs.OpensLaws.{is_same_owner_self}
+use Rattle.nfs_share.proofs.EachElement.{all_always}
 use Rattle.nfs_share.proofs.Tallies.{equal_clients}
-use Rattle.nfs_share.proofs.AtMostOne.{AtMostOne, all_found, alone, none_passes, so_change, so_weaken}
+use Rattle.nfs_share.proofs.AtMostOne.{AtMostOne, all_found, alone, find_alike, none_passes, so_change, so_weaken}
 
 -- owners that are the same are equal
 
@@ -28,6 +29,11 @@ equal_owners a b same =
     let client = equal_clients a.client b.client each.0 in
     let name = (bytes_eq-Decides a.name b.name).0 each.1 in
     λ i. record { client = client i; name = name i }
+
+-- there are as many opens as rows
+pub kept_length : (rows : List (Row OpenState)) → length rows ≡ length (opens_kept rows)
+kept_length [] = refl
+kept_length (r ∷ rows) = omega (arith, kept_length rows)
 
 -- a row more is an open more
 pub kept_append : (rows : List (Row OpenState)) (r : Row OpenState) → opens_kept (rows ++ r ∷ []) ≡ opens_kept rows ++ r.value ∷ []
@@ -74,6 +80,13 @@ module _ (names : RandomState) (rows : List (Row OpenState)) (are : AreKept name
   the_owners owner o found =
       alone (is_of owner) (is_numbered o.number) (opens_kept rows) o (one_of owner) (one_numbered o.number) found (true_from_ne_false _ (λ no. eqb-false o.number o.number no refl))
 
+  -- it is found by its number
+  pub numbered_owner : (owner : OpenOwner) (o : OpenState) → Some o ≡ open_of owner (opens_kept rows) → Some o ≡ open_with_number o.number (opens_kept rows)
+  numbered_owner owner o found = found ∙ sym (find_alike (is_of owner) (is_numbered o.number) (opens_kept rows) (the_owners owner o found))
+
+  pub owner_is : (owner : OpenOwner) (o : OpenState) → Some o ≡ open_of owner (opens_kept rows) → o.owner ≡ owner
+  owner_is owner o found = equal_owners o.owner owner (all_found (λ p. ⊤) (is_of owner) (opens_kept rows) o (all_always (opens_kept rows)) found).1
+
   pub owners_row : (owner : OpenOwner) (o : OpenState) → Some o ≡ open_of owner (opens_kept rows) → AllByRecursion (λ r. is_row o.number r ≡ is_of owner r.value) rows
   owners_row owner o found =
       all_seen (λ r. r.value) (λ r. is_row o.number r ≡ is_numbered o.number r.value) (λ p. is_numbered o.number p ≡ is_of owner p) (λ r. is_row o.number r ≡ is_of owner r.value)
@@ -114,6 +127,18 @@ module _ (names : RandomState) (rows : List (Row OpenState)) (are : AreKept name
       before : (os : List OpenState) → IsAbove r.value.number os → AllByRecursion (λ o. is_of r.value.owner o ≡ false) os → AllByRecursion (λ o. IsBefore o r.value) os
       before [] h k = tt
       before (o ∷ os) h k = ((h.0, k.0), before os h.1 k.1)
+
+-- there is one less without the last
+pub few_marks : {Y : Type 0} (seen : OpenState → Y) (rows more : List (Row OpenState)) (r : Row OpenState) (n : ℕ) → more ≡ rows ++ r ∷ [] → n ≡ length more → n < 2 ^ 64 → length (map seen (opens_kept rows)) + 1 < 2 ^ 64
+few_marks seen rows more r n is len few = omega (arith, each rows, ap length is, one_more rows, len, few)
+  where
+    each : (rs : List (Row OpenState)) → length (map seen (opens_kept rs)) ≡ length rs
+    each [] = refl
+    each (s ∷ rs) = omega (arith, each rs)
+
+    one_more : (rs : List (Row OpenState)) → length (rs ++ r ∷ []) ≡ length rs + 1
+    one_more [] = refl
+    one_more (s ∷ rs) = omega (arith, one_more rs)
 
 -- a number above those of the opens is above those of the rows
 pub above_rows : (names : RandomState) (number : ℕ) (rows : List (Row OpenState)) → AllByRecursion (IsOpen names) rows → IsAbove number (opens_kept rows) → AllByRecursion (λ r. r.number < number) rows

@@ -14,3 +14,4 @@ pub mod KeptOpens
 pub mod Counting
 pub mod ShareSums
 pub mod Tallies
+pub mod Tables

@@ -76,7 +76,7 @@ impl OpenTable {
     pub fn named_by(&self, stateid: Stateid) -> Option<&OpenState>
         ensures { option_copied result ≡ open_named_by stateid self.now.opens }
     {
-        let open = self.find(stateid.number)?;
+        let open = self.rows.find(u64::from(stateid.number))?;
         if open.is_of_client(stateid.client) {
             Some(open)
         } else {
@@ -100,8 +100,8 @@ impl OpenTable {
         ensures { result ≡ length (without (is_of owner.now) self.now.opens) }
     {
         match self.open_of(owner) {
-            Some(_) => self.len() - 1,
-            None => self.len(),
+            Some(_) => self.rows.len() - 1,
+            None => self.rows.len(),
         }
     }
 
@@ -239,6 +239,7 @@ impl OpenTable {
         ensures opens { self.new.opens ≡ without (is_of owner.now) self.old.opens }
         ensures room { self.old.room ≤ self.new.room }
     {
+        let _names = self.names;
         let Some(open) = self.open_of(owner) else { return };
         let number = open.number;
         self.close(number);

@@ -26,5 +26,5 @@ returns-in-None c =
     let owner = c.args.owner.now in
     let opens = c.args.self.now.opens in
     let counts = c.self.invariant.counts_are ∙ ap (λ (t : RoomyOpens). counts_of (map share_of t.opens)) c.self.view_is in
-    c.union.ensures (map share_of (without (is_of owner) opens))
+    c.union-in-None.ensures (map share_of (without (is_of owner) opens))
     (counts ∙ ap (λ os. counts_of (map share_of os)) (sym (drop_none (is_of owner) opens (none_passes (is_of owner) opens (sym (ap option_copied c.in-None.is) ∙ c.open_of.ensures)))))
