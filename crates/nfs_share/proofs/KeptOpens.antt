@@ -1,5 +1,5 @@
 -- Opens in rows, found by number, by owner and by client.
-use Rattle.std.proofs.Common.{◌≡◌, ℕ, ◌+◌, ◌^◌, ◌<◌, Bool, true, false, not, cond, ◌&&◌, List, [], ◌∷◌, ◌++◌, length, find, map, Option, Some, None, refl, sym, ap, subst, ◌∙◌, arith}
+use Rattle.std.proofs.Common.{◌≡◌, ℕ, ◌+◌, ◌^◌, ◌<◌, Bool, true, false, not, List, [], ◌∷◌, ◌++◌, length, find, map, Option, Some, None, refl, sym, ap, subst, ◌∙◌, arith}
 use Rattle.std.specs.Prelude.{⊤, ◌==◌}
 use Rattle.std.specs.List.{AllByRecursion}
 use Rattle.std.specs.Str.{bytes_eq}
@@ -15,7 +15,7 @@ use Rattle.nfs_rows.proofs.Each.{all_append, all_filter, all_weaken, so_filter, 
 use Rattle.nfs_rows.proofs.Callers.{all_seen, changed_all, changed_seen, with_change_none, with_value_is, without_seen}
 use Rattle.nfs_share.specs.declared.open_state.OpenState.{OpenState}
 use Rattle.nfs_share.specs.KeptOpens.{AreKept, IsBefore, IsOpen, hash_of_owner, opens_kept, with_change}
-use Rattle.nfs_share.specs.Opens.{IsAbove, is_numbered, is_of, is_of_client, open_of, open_with_number, with_each, without}
+use Rattle.nfs_share.specs.Opens.{IsAbove, is_numbered, is_of, is_of_client, open_of, open_with_number}
 use Rattle.nfs_share.proofs.OpensLaws.{is_same_owner_self}
 use Rattle.nfs_share.proofs.EachElement.{all_always}
 use Rattle.nfs_share.proofs.Tallies.{equal_clients}

@@ -1,14 +1,14 @@
 -- What each client has, after a change of what there is.
-use Rattle.std.proofs.Common.{◌≡◌, ℕ, suc, ◌+◌, ◌-◌, ◌<◌, ◌≤◌, ◌^◌, Bool, true, false, not, cond, ◌&&◌, List, [], ◌∷◌, length, filter, Option, Some, None, refl, sym, ap, subst, ◌∙◌, arith}
+use Rattle.std.proofs.Common.{◌≡◌, ℕ, suc, ◌+◌, ◌-◌, ◌<◌, ◌^◌, Bool, true, false, not, cond, ◌&&◌, List, [], ◌∷◌, length, filter, Option, Some, None, refl, sym, ap, subst, ◌∙◌, arith}
 use Rattle.std.specs.Prelude.{Err, IsOk, IsSome, Ok, OnOk, Result, ◌==◌}
-use Rattle.std.proofs.lemmas.Bool.{and_from, and_parts, eq-eqb, eqb-true, eqb-false, false_from_ne_true}
+use Rattle.std.proofs.lemmas.Bool.{and_from, and_parts, eq-eqb, eqb-true, false_from_ne_true}
 use Rattle.nfs_forms.specs.ClientId.{is_same_client}
 use Rattle.nfs_forms.specs.declared.client_id.ClientId.{ClientId}
 use Rattle.nfs_share.specs.ShareCounts.{how_many}
 use Rattle.nfs_share.specs.Tally.{IsTally, Mark, count_of, entry_of, is_own, mark_of}
 use Rattle.nfs_share.specs.declared.count.Count.{Count}
 use Rattle.nfs_share.specs.declared.tally.Tally.{Tally}
-use Rattle.nfs_share.proofs.AtMostOne.{not_false, same_some}
+use Rattle.nfs_share.proofs.AtMostOne.{not_false}
 use Rattle.nfs_share.proofs.Counting.{SameCounts, how_many_alike, how_many_left, how_many_less, how_many_split, how_many_within}
 
 pub equal_clients : (a b : ClientId) → is_same_client a b ≡ true → a ≡ b

@@ -41,11 +41,7 @@ pub(crate) fn advance_in(opens: &mut Rows<OpenState>, number: u32)
 }
 
 /// Downgrades the open with this number to the share, if there is one, and returns all that the open does and denies then.
-pub(crate) fn downgrade_in(
-    opens: &mut Rows<OpenState>,
-    number: u32,
-    share: Share,
-) -> Option<Share>
+pub(crate) fn downgrade_in(opens: &mut Rows<OpenState>, number: u32, share: Share) -> Option<Share>
     ensures rows { opens.new ≡ record opens.old {
       rows = with_change number (after_downgrade share) opens.old.rows;
     } }

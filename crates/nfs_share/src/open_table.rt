@@ -195,7 +195,13 @@ impl OpenTable {
         let (number, before, stateid) = (open.number, open.share(), open.next_stateid());
         let _count = self.rows.len();
         let after = join_in(&mut self.rows, number, share)?;
-        recount(&mut self.counts, &mut self.of_client, owner.client, before, after);
+        recount(
+            &mut self.counts,
+            &mut self.of_client,
+            owner.client,
+            before,
+            after,
+        );
         Some(stateid)
     }
 
@@ -214,10 +220,14 @@ impl OpenTable {
           opens = with_each (is_numbered number) (after_downgrade share) self.old.opens;
         } }
     {
-        let Some(open) = self.find(number) else { return };
+        let Some(open) = self.find(number) else {
+            return
+        };
         let (client, before) = (open.owner.client, open.share());
         let _count = self.rows.len();
-        let Some(after) = downgrade_in(&mut self.rows, number, share) else { return };
+        let Some(after) = downgrade_in(&mut self.rows, number, share) else {
+            return
+        };
         recount(&mut self.counts, &mut self.of_client, client, before, after);
     }
 
@@ -240,7 +250,9 @@ impl OpenTable {
         ensures room { self.old.room ≤ self.new.room }
     {
         let _names = self.names;
-        let Some(open) = self.open_of(owner) else { return };
+        let Some(open) = self.open_of(owner) else {
+            return
+        };
         let number = open.number;
         self.close(number);
     }

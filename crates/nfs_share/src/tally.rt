@@ -65,9 +65,7 @@ impl Tally {
         ensures room { room_of self.old ≤ room_of self.new + 1 }
     {
         let own = self.own(client).plus(marked);
-        let _before = self
-            .of_client
-            .insert((client.epoch, client.number), own);
+        let _before = self.of_client.insert((client.epoch, client.number), own);
         self.all = self.all.plus(marked);
     }
 

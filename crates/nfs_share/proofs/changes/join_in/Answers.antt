@@ -1,4 +1,4 @@
-use Rattle.std.proofs.Common.{◌∙◌, Some, ap, sym}
+use Rattle.std.proofs.Common.{◌∙◌, ap, sym}
 use Rattle.std.specs.Option.{option_copied_mut}
 use Rattle.nfs_share.specs.Opens.{after_open, share_of}
 use Rattle.nfs_share.specs.declared.open_state.OpenState.{OpenState}

@@ -1,4 +1,3 @@
-use Rattle.std.proofs.Common.{◌≡◌}
 use Rattle.nfs_share.proofs.Tables.{Counts}
 use Rattle.nfs_share.proofs.open_table.counts_in.Given as goal
 

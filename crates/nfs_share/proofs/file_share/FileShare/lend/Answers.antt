@@ -1,4 +1,4 @@
-use Rattle.std.proofs.Common.{◌≡◌, ap, subst, sym}
+use Rattle.std.proofs.Common.{subst, sym}
 use Rattle.nfs_share.specs.Delegations.{IsAboveLent, StandInOrder, first_delegation}
 use Rattle.nfs_share.specs.Opens.{FileOpens}
 use Rattle.nfs_share.proofs.DelegationOrder.{push_in_order}

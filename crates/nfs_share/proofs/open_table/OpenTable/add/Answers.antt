@@ -1,6 +1,6 @@
-use Rattle.std.proofs.Common.{◌<◌, ◌+◌, ◌^◌, ◌∷◌, ◌∙◌, None, ap, arith, length, map, refl, subst, sym}
+use Rattle.std.proofs.Common.{◌∷◌, ◌∙◌, ap, map, refl, subst, sym}
 use Rattle.nfs_rows.specs.Rows.{Row}
-use Rattle.nfs_share.specs.KeptOpens.{IsOpen, RoomyOpens, bars_reading, hash_of_owner, mark_in, opens_kept}
+use Rattle.nfs_share.specs.KeptOpens.{IsOpen, RoomyOpens, bars_reading, mark_in, opens_kept}
 use Rattle.nfs_share.specs.Opens.{IsAbove, open_of, share_of}
 use Rattle.nfs_share.specs.ShareCounts.{counts_of}
 use Rattle.nfs_share.specs.Tally.{IsTally, mark_of}

@@ -1,4 +1,4 @@
-use Rattle.std.proofs.Common.{◌≡◌, ◌∷◌, ◌∙◌, None, Some, ap, find, map, subst, sym}
+use Rattle.std.proofs.Common.{◌≡◌, ◌∷◌, ◌∙◌, Some, ap, find, map, subst, sym}
 use Rattle.nfs_rows.specs.Rows.{is_numbered as is_row, value_in, without as rows_without}
 use Rattle.nfs_share.specs.KeptOpens.{RoomyOpens, bars_reading, mark_in, opens_kept}
 use Rattle.nfs_share.specs.Opens.{is_numbered, open_with_number, share_of, without}

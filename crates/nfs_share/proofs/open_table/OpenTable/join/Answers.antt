@@ -1,14 +1,12 @@
-use Rattle.std.proofs.Common.{◌≡◌, ◌∷◌, ◌∙◌, None, Some, ap, map, refl, subst, sym}
+use Rattle.std.proofs.Common.{◌≡◌, ◌∷◌, ◌∙◌, Some, ap, map, refl, subst, sym}
 use Rattle.std.specs.Option.{option_copied}
 use Rattle.nfs_rows.specs.Rows.{RoomyRows}
 use Rattle.nfs_rows.proofs.Callers.{changed_seen}
-use Rattle.nfs_rows.proofs.Each.{change_none}
 use Rattle.nfs_share.specs.KeptOpens.{RoomyOpens, bars_reading, mark_in, opens_kept}
 use Rattle.nfs_share.specs.Opens.{after_open, is_numbered, is_of, open_of, open_with_number, share_of, with_each, without}
 use Rattle.nfs_share.specs.ShareCounts.{counts_of}
 use Rattle.nfs_share.specs.Tally.{IsTally, Mark, mark_of}
 use Rattle.nfs_share.specs.declared.open_state.OpenState.{OpenState}
-use Rattle.nfs_share.proofs.AtMostOne.{none_passes}
 use Rattle.nfs_share.proofs.KeptOpens.{numbered_owner, owner_is, owners_row}
 use Rattle.nfs_share.proofs.Tables.{by_number, counts_apart, few_left, if_none, if_some, some_or_none, table_changed, tally_apart}
 use Rattle.nfs_share.proofs.open_table.OpenTable.join.Goals as goal

@@ -1,4 +1,4 @@
-use Rattle.std.proofs.Common.{◌≡◌, ◌∷◌, ◌∙◌, None, Some, ap, map, refl, subst, sym}
+use Rattle.std.proofs.Common.{◌≡◌, ◌∷◌, ◌∙◌, Some, ap, map, refl, subst, sym}
 use Rattle.std.specs.Option.{option_copied}
 use Rattle.nfs_rows.specs.Rows.{RoomyRows}
 use Rattle.nfs_rows.proofs.Callers.{changed_seen}
@@ -6,7 +6,7 @@ use Rattle.nfs_rows.proofs.Each.{change_none}
 use Rattle.nfs_share.specs.KeptOpens.{RoomyOpens, bars_reading, mark_in, opens_kept}
 use Rattle.nfs_share.specs.Opens.{after_downgrade, is_numbered, open_with_number, share_of, with_each, without}
 use Rattle.nfs_share.specs.ShareCounts.{counts_of}
-use Rattle.nfs_share.specs.Tally.{IsTally, Mark, mark_of}
+use Rattle.nfs_share.specs.Tally.{IsTally, mark_of}
 use Rattle.nfs_share.specs.declared.open_state.OpenState.{OpenState}
 use Rattle.nfs_share.proofs.AtMostOne.{none_passes}
 use Rattle.nfs_share.proofs.KeptOpens.{numbers}

@@ -1,4 +1,4 @@
-use Rattle.std.proofs.Common.{◌∷◌, ◌∙◌, Some, None, ap, map, subst, sym}
+use Rattle.std.proofs.Common.{◌∷◌, ◌∙◌, ap, map, subst, sym}
 use Rattle.std.specs.Option.{option_copied}
 use Rattle.nfs_rows.proofs.Each.{drop_none}
 use Rattle.nfs_share.specs.KeptOpens.{RoomyOpens}

@@ -1,4 +1,4 @@
-use Rattle.std.proofs.Common.{◌∙◌, ◌-◌, ap, filter, inl, not, refl, sym}
+use Rattle.std.proofs.Common.{◌∙◌, ◌-◌, ap, filter, inl, not, refl}
 use Rattle.indexmap.specs.IndexMap.{get}
 use Rattle.nfs_share.specs.Tally.{is_own, is_same_key, key_of}
 use Rattle.nfs_share.specs.declared.count.Count.{Count}
