@@ -9,3 +9,9 @@ pub mod Indexed
 pub mod NextDue
 pub mod DelegationOrder
 pub mod ApartDelegations
+pub mod AtMostOne
+pub mod KeptOpens
+pub mod Counting
+pub mod ShareSums
+pub mod Tallies
+pub mod Tables

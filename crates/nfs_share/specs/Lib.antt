@@ -8,3 +8,6 @@ pub mod OpenFound
 pub mod OpenNodes
 pub mod Laws
 pub mod ShareError
+pub mod ShareCounts
+pub mod Tally
+pub mod KeptOpens

@@ -1,12 +1,13 @@
-ghost use Rattle.std.specs.Prelude.{◌≡◌, ◌≤◌, ◌<◌, ◌+◌, ◌↔◌, IfErr, IfNone, IfOk, IsErrOf, IsFalse, IsOk, IsTrue, OnErr, OnOk, OnSome, Some, filter, find, length, nat_le, [], ◌∷◌, ◌++◌, option_map};
+ghost use Rattle.std.specs.Prelude.{◌≡◌, ◌≤◌, ◌<◌, ◌+◌, ◌↔◌, IfErr, IfOk, IsErrOf, IsFalse, IsOk, IsTrue, OnErr, OnOk, Some, filter, find, length, nat_le, [], ◌∷◌, ◌++◌, option_map};
 ghost use Rattle.std.specs.List.{list_any};
 ghost use Rattle.std.specs.Option.{option_copied};
 ghost use Rattle.nfs_share.specs.Delegations.{IsAboveLent, IsNextDueOf, bars, can_delegate, conflicts, delegation_named_by, delegation_stateid, delegation_with_number, first_delegation, has_conflict, has_delegation, is_delegation_numbered, is_due_from, is_lent_to, is_stateid_of_delegation, with_recalls, without_lent};
-ghost use Rattle.nfs_share.specs.Opens.{CanDowngrade, IsNewestFor, with_next_seqid, after_downgrade, is_denied, is_numbered, is_of, is_of_client, is_refused, is_stateid_of, open_named_by, after_open, next_stateid_of, open_with_number, open_of, share_of, stateid_of, with_each, with_opening, without};
+ghost use Rattle.nfs_share.specs.Opens.{CanDowngrade, IsNewestFor, with_next_seqid, after_downgrade, is_denied, is_numbered, is_of, is_of_client, is_refused, is_stateid_of, open_named_by, open_with_number, open_of, share_of, stateid_of, with_each, with_opening, without};
 ghost use Rattle.nfs_share.specs.ShareError.{IsHeldFor, IsWhyNotLent, IsWhyNotOpened};
 ghost use Rattle.nfs_share.specs.declared.delegation.FileUse.TheVariants as uses;
 
-use crate::changes::{advance_each, downgrade_each, join_each, recall_each};
+use crate::changes::recall_each;
+use crate::open_table::OpenTable;
 use crate::{Delegation, DelegationKind, FileUse, Modes, OpenState, Share, ShareError};
 use nfs_forms::{ClientId, Moment, OpenOwner, Stateid};
 use std::alloc::{AllocError, Global};
@@ -18,7 +19,7 @@ use std::marker::Model;
 /// joins the open that the owner has.
 #[derive(Drop)]
 pub struct FileShare {
-    opens: Vec<OpenState>,
+    opens: OpenTable,
     delegations: Vec<Delegation>,
 }
 
@@ -31,9 +32,9 @@ impl Model for FileShare {
     ghost Value = { FileOpens };
 
     ghost view = { λ f. record {
-      opens = f.opens.items;
+      opens = f.opens.opens;
       delegations = f.delegations.items;
-      room = vec_capacity f.opens - vec_len f.opens;
+      room = f.opens.room;
       lending_room = vec_capacity f.delegations - vec_len f.delegations;
     } };
 
@@ -41,14 +42,13 @@ impl Model for FileShare {
 }
 
 impl FileShare {
-    /// A file without opens and delegations, taking no memory.
+    /// A file without opens and delegations, taking no memory. Owners are found by hashes with this seed.
     pub fn new(alloc: Global, names: RandomState) -> FileShare
         ensures opens { result.opens ≡ [] }
         ensures delegations { result.delegations ≡ [] }
     {
-        let _ = names;
         FileShare {
-            opens: Vec::new(alloc),
+            opens: OpenTable::new(alloc, names),
             delegations: Vec::new(alloc),
         }
     }
@@ -64,28 +64,28 @@ impl FileShare {
     pub fn find(&self, number: u32) -> Option<&OpenState>
         ensures { option_copied result ≡ open_with_number number self.now.opens }
     {
-        self.opens.iter().find(|open| open.number == number)
+        self.opens.find(number)
     }
 
     /// The open that the stateid names, no matter its seqid, if there is one.
     pub fn named_by(&self, stateid: Stateid) -> Option<&OpenState>
         ensures { option_copied result ≡ open_named_by stateid self.now.opens }
     {
-        self.opens.iter().find(|open| open.is_named_by(stateid))
+        self.opens.named_by(stateid)
     }
 
     /// Whether the stateid names an open.
     pub fn names(&self, stateid: Stateid) -> bool
         ensures { result ≡ list_any (is_stateid_of stateid) self.now.opens }
     {
-        self.opens.iter().any(|open| open.is_named_by(stateid))
+        self.named_by(stateid).is_some()
     }
 
     /// The open of this owner, if there is one.
     pub fn open_of(&self, owner: &OpenOwner) -> Option<&OpenState>
         ensures { option_copied result ≡ open_of owner.now self.now.opens }
     {
-        self.opens.iter().find(|open| open.is_of(owner))
+        self.opens.open_of(owner)
     }
 
     /// All access of the owner's open, with all that it denies, if the owner has one.
@@ -100,28 +100,28 @@ impl FileShare {
     pub fn denies(&self, modes: Modes) -> bool
         ensures { result ≡ is_denied modes self.now.opens }
     {
-        self.opens.iter().any(|open| open.share().deny.meets(modes))
+        self.opens.denies(modes)
     }
 
     /// Whether an open of another owner conflicts with the share.
     pub fn refuses(&self, owner: &OpenOwner, share: Share) -> bool
         ensures { result ≡ is_refused owner.now share self.now.opens }
     {
-        self.opens.iter().any(|open| !open.is_of(owner) && share.conflicts_with(open.share()))
+        self.opens.refuses(owner, share)
     }
 
     /// Whether an owner of this client has an open.
     pub fn has_client(&self, client: ClientId) -> bool
         ensures { result ≡ list_any (is_of_client client) self.now.opens }
     {
-        self.opens.iter().any(|open| open.is_of_client(client))
+        self.opens.has_client(client)
     }
 
     /// How many opens there are of other owners.
     pub fn count_without(&self, owner: &OpenOwner) -> usize
         ensures { result ≡ length (without (is_of owner.now) self.now.opens) }
     {
-        self.opens.iter().filter(|open| !open.is_of(owner)).count()
+        self.opens.count_without(owner)
     }
 
     /// Makes room, so that the next change takes no memory.
@@ -133,7 +133,7 @@ impl FileShare {
         ensures lending { self.old.lending_room ≤ self.new.lending_room }
         ensures ready { 0 < self.old.room → IsOk result }
     {
-        self.opens.reserve(1)
+        self.opens.reserve()
     }
 
     /// OPEN (RFC 7530, section 16.16): adds the share to the owner's open, or makes an open with this number, which has
@@ -164,7 +164,7 @@ impl FileShare {
         }
         self.check_free(FileUse::Open(owner.client, share))?;
         if self.open_of(&owner).is_none() {
-            self.opens.reserve(1)?;
+            self.opens.reserve()?;
         }
         Ok(self.grant(owner, share, number))
     }
@@ -193,36 +193,12 @@ impl FileShare {
         ensures room { self.old.room ≤ self.new.room + 1 }
         ensures lending { self.old.lending_room ≤ self.new.lending_room }
     {
-        match self.join(&owner, share) {
-            Some(stateid) => stateid,
-            None => self.add(OpenState::new(owner, share, number)),
+        if let Some(stateid) = self.opens.join(&owner, share) {
+            return stateid;
         }
-    }
-
-    // Adds the share to the owner's open, if there is one, and returns the open's stateid.
-    fn join(&mut self, owner: &OpenOwner, share: Share) -> Option<Stateid>
-        ensures some { OnSome result (self.new ≡ record self.old {
-          opens = with_each (is_of owner.now) (after_open share) self.old.opens;
-        }) }
-        ensures stateid { result ≡ option_map next_stateid_of (open_of owner.now self.old.opens) }
-        ensures none { IfNone result (self.new ≡ self.old) }
-    {
-        let stateid = self.open_of(owner)?.next_stateid();
-        join_each(&mut self.opens, owner, share);
-        Some(stateid)
-    }
-
-    // Adds the open, for which there has to be room, and returns its stateid.
-    fn add(&mut self, newcomer: OpenState) -> Stateid
-        requires { 0 < self.old.room }
-        ensures stateid { result ≡ stateid_of newcomer }
-        ensures opens { self.new.opens ≡ self.old.opens ++ newcomer ∷ [] }
-        ensures delegations { self.new.delegations ≡ self.old.delegations }
-        ensures room { self.old.room ≤ self.new.room + 1 }
-        ensures lending { self.old.lending_room ≤ self.new.lending_room }
-    {
+        let newcomer = OpenState::new(owner, share, number);
         let stateid = newcomer.stateid();
-        self.opens.push_reserved(newcomer);
+        self.opens.add(newcomer);
         stateid
     }
 
@@ -232,7 +208,7 @@ impl FileShare {
           opens = with_each (is_numbered number) with_next_seqid self.old.opens;
         } }
     {
-        advance_each(&mut self.opens, number);
+        self.opens.advance(number);
     }
 
     /// OPEN_DOWNGRADE (RFC 7530, section 16.19): keeps of the open with this number the shares that this share
@@ -264,7 +240,7 @@ impl FileShare {
           opens = with_each (is_numbered number) (after_downgrade share) self.old.opens;
         } }
     {
-        downgrade_each(&mut self.opens, number, share);
+        self.opens.keep_within(number, share);
     }
 
     /// CLOSE (RFC 7530, section 16.2): removes the open with this number, if there is one.
@@ -274,7 +250,7 @@ impl FileShare {
         ensures room { self.old.room ≤ self.new.room }
         ensures lending { self.old.lending_room ≤ self.new.lending_room }
     {
-        self.opens.retain(|open| open.number != number);
+        self.opens.close(number);
     }
 
     /// Removes the open of this owner.
@@ -284,7 +260,7 @@ impl FileShare {
         ensures room { self.old.room ≤ self.new.room }
         ensures lending { self.old.lending_room ≤ self.new.lending_room }
     {
-        self.opens.retain(|open| !open.is_of(owner));
+        self.opens.remove_owner(owner);
     }
 
     /// Removes the opens of all owners of this client, and its delegation.
@@ -295,7 +271,7 @@ impl FileShare {
         ensures room { self.old.room ≤ self.new.room }
         ensures lending { self.old.lending_room ≤ self.new.lending_room }
     {
-        self.opens.retain(|open| !open.is_of_client(client));
+        self.opens.remove_client(client);
         self.delegations.retain(|lent| !lent.is_of_client(client));
     }
 
@@ -394,10 +370,7 @@ impl FileShare {
     pub fn bars(&self, client: ClientId, kind: DelegationKind) -> bool
         ensures { result ≡ bars client kind self.now.opens }
     {
-        self.opens.iter().any(|open| {
-            !open.is_of_client(client)
-                && kind.is_in_way_of(FileUse::Open(open.owner.client, open.share()))
-        })
+        self.opens.bars(client, kind)
     }
 
     /// Whether a delegation of this kind to the client is in no open's way, no delegation of another client is in its

@@ -58,12 +58,11 @@ impl Model for Opens {
 }
 
 impl Opens {
-    /// No opens and no delegations of any of these nodes.
+    /// No opens and no delegations of any of these nodes. Owners are found by hashes with this seed.
     pub fn new(alloc: Global, nodes: u32, names: RandomState) -> Result<Opens, AllocError>
         ensures opens { IfOk result (λ opens. opens_in opens ≡ replicate nodes []) }
         ensures delegations { IfOk result (λ opens. delegations_in opens ≡ replicate nodes []) }
     {
-        let _ = names;
         let mut files = Vec::new(alloc);
         files.reserve(nodes as usize)?;
         for _ in 0..nodes {
