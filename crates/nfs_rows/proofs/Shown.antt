@@ -1,5 +1,5 @@
 -- Rows that a slab has, by places that lead to them.
-use Rattle.std.proofs.Common.{◌≡◌, ◌≢◌, ℕ, suc, ◌+◌, ◌-◌, ◌<◌, ◌≤◌, length-append, nat_eq, slice_get, take, drop, ◌&&◌, ◌==◌, Bool, true, false, not, cond, List, [], ◌∷◌, ◌++◌, length, get_or, find, option_map, Option, Some, None, is_some, IsSome, inl, inr, refl, sym, ap, ◌∙◌, subst, arith}
+use Rattle.std.proofs.Common.{vec_len, ◌≡◌, ◌≢◌, ℕ, suc, ◌+◌, ◌*◌, ◌-◌, ◌<◌, ◌≤◌, length-append, nat_eq, slice_get, take, drop, ◌&&◌, ◌==◌, Bool, true, false, not, cond, List, [], ◌∷◌, ◌++◌, length, get_or, find, option_map, Option, Some, None, is_some, IsSome, inl, inr, refl, sym, ap, ◌∙◌, subst, arith}
 use Rattle.std.specs.List.{AllByRecursion, cons_option}
 use Rattle.std.specs.Prelude.{◌⊎◌}
 use Rattle.std.specs.Option.{option_map_or}
@@ -14,7 +14,7 @@ use Rattle.slab.specs.Slab.{Slab, get, slab_len, with_value, Updates}
 use Rattle.slab.proofs.SlabLemmas.{ContainsKey-within, Updates-with_value}
 use Rattle.nfs_rows.specs.declared.place.Place.{Place}
 use Rattle.nfs_rows.specs.Rows.{IsAbove, Row, StandInOrder, is_named, is_numbered, newest_of, pair_in, value_in, with_value as with_row, without}
-use Rattle.nfs_rows.specs.Places.{AreKept, has_row, row_of, EndsKept, HasRoom, HasRow, HasRowAt, IsIndexed, IsPlaceOf, KeysDiffer, NumbersRise, kept, marked, number_at, row_with, rows_at, rows_of}
+use Rattle.nfs_rows.specs.Places.{AreFew, AreKept, has_row, row_of, EndsKept, HasRoom, HasRow, HasRowAt, IsIndexed, IsPlaceOf, KeysDiffer, NumbersRise, kept, marked, number_at, row_with, rows_at, rows_of}
 use Rattle.nfs_rows.proofs.Leading.{hashes_before, hashes_behind, indexed_less, led, none_led}
 use Rattle.nfs_rows.proofs.Marks.{Cut, above_marks, cut, ends_last, kept_first, kept_mark, kept_push, live_not, last_is, number_is, rise_kept, rise_marked}
 use Rattle.nfs_rows.proofs.Each.{all_append, all_around, all_back, all_weaken, change_none, drop_none, find_none, find_past, so_around, so_before, so_behind, so_push}
@@ -227,6 +227,10 @@ module _ {V : Type 0} where
       in_places = has.in_places;
       in_index = has.in_index;
     }
+
+    pub few_changed : (w : V) (places : Vec Place) → AreFew slab places → AreFew (with_value slab p.key w) places
+    few_changed w places few =
+        subst (λ n. vec_len places ≤ 2 * n) (sym (slab_len-with_value slab p.key value_found.0 w value_found.1)) few
 
     pub rows_changed : (w : V) → rows_at (with_value slab p.key w) ps ≡ with_row number w (rows_at slab ps)
     rows_changed w =

@@ -1,5 +1,5 @@
 -- How rows are kept.
-use Rattle.std.specs.Prelude.{◌≡◌, ◌≢◌, ◌⊎◌, ℕ, ◌+◌, zero, suc, ◌<◌, ◌≤◌, Bool, ◌&&◌, false, true, not, List, [], ◌∷◌, Option, Some, None, filter, filter_map, IsSome, length, map, slice_index_or, vec_capacity, vec_len, nat_eq, ⊤}
+use Rattle.std.specs.Prelude.{◌≡◌, ◌≢◌, ◌⊎◌, ℕ, ◌+◌, ◌*◌, zero, suc, ◌<◌, ◌≤◌, Bool, ◌&&◌, false, true, not, List, [], ◌∷◌, Option, Some, None, filter, filter_map, IsSome, length, map, slice_index_or, vec_capacity, vec_len, nat_eq, ⊤}
 use Rattle.std.specs.Global.{Vec}
 use Rattle.std.specs.Option.{option_map, option_map_or}
 use Rattle.std.specs.List.{AllByRecursion}
@@ -73,6 +73,10 @@ module _ {V : Type 0} where
 
   abbrev pub rows_at : Slab V → List Place → List (Row V)
   rows_at slab places = rows_of slab (kept places)
+
+  -- at most half of the places are marks
+  abbrev pub AreFew : Slab V → Vec Place → Type 0
+  AreFew slab places = vec_len places ≤ 2 * slab_len slab
 
   -- the slab has a row at the place's key
   abbrev pub HasRow : Slab V → Place → Type 0

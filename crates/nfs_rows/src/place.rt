@@ -1,4 +1,4 @@
-ghost use Rattle.std.specs.Prelude.{◌≡◌, ◌≤◌, false, length, nat_lt, slice_index_or, true, vec_capacity, vec_len};
+ghost use Rattle.std.specs.Prelude.{◌≡◌, ◌≤◌, ◌*◌, false, length, nat_lt, slice_index_or, true, vec_capacity, vec_len};
 ghost use Rattle.std.specs.List.Sorted.{IsPartitionPoint};
 ghost use Rattle.nfs_rows.specs.Places.{EndsKept, HasRowAt, IsPlaceOf, NumbersRise, kept, marked, placed_after};
 ghost use Rattle.nfs_rows.specs.declared.place.Place.{Place};
@@ -53,10 +53,12 @@ pub fn mark(places: &mut Vec<Place>, at: usize) -> Place
 
 /// Drops the marks where at least half of the places are marks, and else those at the end.
 pub fn drop_marks(places: &mut Vec<Place>, rows: usize)
-    requires { NumbersRise places.old.items }
+    requires rise { NumbersRise places.old.items }
+    requires rows { rows ≡ length (kept places.old.items) }
     ensures kept { kept places.new.items ≡ kept places.old.items }
     ensures rise { NumbersRise places.new.items }
     ensures ends { EndsKept places.new.items }
+    ensures few { vec_len places.new ≤ 2 * rows }
     ensures length { vec_len places.new ≤ vec_len places.old }
     ensures capacity { vec_capacity places.new ≡ vec_capacity places.old }
 {

@@ -28,7 +28,7 @@ pub struct Rows<T> {
 
 impl<T> Model for Rows<T> {
     ghost use Rattle.nfs_rows.specs.Rows.{RoomyRows, code_of_rows};
-    ghost use Rattle.nfs_rows.specs.Places.{AreKept, EndsKept, HasRoom, rows_at};
+    ghost use Rattle.nfs_rows.specs.Places.{AreFew, AreKept, EndsKept, HasRoom, rows_at};
 
     ghost Value = { RoomyRows T };
 
@@ -40,7 +40,7 @@ impl<T> Model for Rows<T> {
     } };
 
     ghost invariant = { λ r. AreKept r.slab r.places.items r.index r.clashed
-        × EndsKept r.places.items × HasRoom r.slab r.places r.index r.room };
+        × EndsKept r.places.items × AreFew r.slab r.places × HasRoom r.slab r.places r.index r.room };
 }
 
 impl<T> Rows<T> {

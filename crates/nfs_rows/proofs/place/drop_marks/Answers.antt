@@ -14,12 +14,17 @@ returns-then-len-rows-clause-kept c =
 pub returns-then-len-rows-clause-rise : goal.returns-then-len-rows-clause-rise
 returns-then-len-rows-clause-rise c =
     let same = filter_same _ (λ (p : Place). not p.gone) _ (λ x b f' k. search rules) _ _ c.retain.ensures.filtered in
-    subst NumbersRise (sym same) (rise_kept c.args.places.now.items c.requires)
+    subst NumbersRise (sym same) (rise_kept c.args.places.now.items c.requires.rise)
 
 pub returns-then-len-rows-clause-ends : goal.returns-then-len-rows-clause-ends
 returns-then-len-rows-clause-ends c =
     let same = filter_same _ (λ (p : Place). not p.gone) _ (λ x b f' k. search rules) _ _ c.retain.ensures.filtered in
     subst EndsKept (sym same) (ends_all (kept c.args.places.now.items) (passes_filter (λ p. not p.gone) c.args.places.now.items))
+
+pub returns-then-len-rows-clause-few : goal.returns-then-len-rows-clause-few
+returns-then-len-rows-clause-few c =
+    let same = filter_same _ (λ (p : Place). not p.gone) _ (λ x b f' k. search rules) _ _ c.retain.ensures.filtered in
+    omega (arith, ap length same, c.retain.new.self.ok.0, c.requires.rows)
 
 pub loop-place-preserved : goal.loop-place-preserved
 loop-place-preserved c =

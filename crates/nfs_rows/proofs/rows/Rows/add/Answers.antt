@@ -18,7 +18,7 @@ invariant_of-self g c =
     let new = c.insert_reserved-key.new.self in
     let ps = c.self.inside.places.items in
     let are = c.self.invariant.0 in
-    let room = c.self.invariant.2 in
+    let room = c.self.invariant.3 in
     let filled = c.insert_reserved-key.ensures in
     let place : Place = record { number = c.args.number; hash = c.args.hash; client = c.args.client; key = c.insert_reserved-key.result; gone = false } in
     let above : IsAbove c.args.number (rows_at old ps) = subst (λ (r : RoomyRows g.row.T.Denot). IsAbove c.args.number r.rows) (sym c.self.view_is) c.requires.newest in
@@ -28,6 +28,7 @@ invariant_of-self g c =
           (added_kept old new ps place c.args.value refl filled.updates filled.was_vacant c.self.inside.index c.insert.new.self c.self.inside.clashed c.self.inside.clashed are c.self.invariant.1 above filled.len
           (λ clean. indexed_more c.self.inside.index c.insert.new.self (kept ps) place (are.indexed clean) none c.in-Ok-None.ensures.updates)),
       subst EndsKept (sym c.push_reserved.ensures.items) (ends_push ps place refl),
+      omega (arith, c.self.invariant.2, c.push_reserved.ensures.len, filled.len),
       record {
         in_slab = omega (arith, room.in_slab, filled.len, filled.capacity, some);
         in_places = omega (arith, room.in_places, c.push_reserved.ensures.len, c.push_reserved.ensures.capacity, some);
@@ -41,7 +42,7 @@ invariant_of-self-in_default g c =
     let new = c.insert_reserved-key.new.self in
     let ps = c.self.inside.places.items in
     let are = c.self.invariant.0 in
-    let room = c.self.invariant.2 in
+    let room = c.self.invariant.3 in
     let filled = c.insert_reserved-key.ensures in
     let place : Place = record { number = c.args.number; hash = c.args.hash; client = c.args.client; key = c.insert_reserved-key.result; gone = false } in
     let above : IsAbove c.args.number (rows_at old ps) = subst (λ (r : RoomyRows g.row.T.Denot). IsAbove c.args.number r.rows) (sym c.self.view_is) c.requires.newest in
@@ -50,6 +51,7 @@ invariant_of-self-in_default g c =
           (added_kept old new ps place c.args.value refl filled.updates filled.was_vacant c.self.inside.index c.insert.new.self c.self.inside.clashed true are c.self.invariant.1 above filled.len
           (λ clean. absurd (no_true clean))),
       subst EndsKept (sym c.push_reserved.ensures.items) (ends_push ps place refl),
+      omega (arith, c.self.invariant.2, c.push_reserved.ensures.len, filled.len),
       record {
         in_slab = omega (arith, room.in_slab, filled.len, filled.capacity, some);
         in_places = omega (arith, room.in_places, c.push_reserved.ensures.len, c.push_reserved.ensures.capacity, some);

@@ -4,7 +4,7 @@ use Rattle.nfs_rows.specs.Rows.{RoomyRows, StandInOrder, is_numbered, value_in, 
 use Rattle.nfs_rows.specs.Places.{IsPlaceOf, kept}
 use Rattle.nfs_rows.proofs.Lending.{same_end}
 use Rattle.nfs_rows.proofs.Marks.{rise_kept}
-use Rattle.nfs_rows.proofs.Shown.{kept_changed, order_rows, none_found, one_found, room_changed, rows_changed}
+use Rattle.nfs_rows.proofs.Shown.{few_changed, kept_changed, order_rows, none_found, one_found, room_changed, rows_changed}
 use Rattle.nfs_rows.proofs.rows.Rows.find_mut.Goals as goal
 
 pub returns-in_err-at : goal.returns-in_err-at
@@ -33,7 +33,8 @@ invariant_of-self-lent g c =
       λ w. (
         kept_changed slab c.self.inside.index c.self.inside.clashed c.args.number ps at place are found c.index.ensures w,
         c.self.invariant.1,
-        room_changed slab c.self.inside.index c.self.inside.clashed c.args.number ps at place are found c.index.ensures w c.self.inside.places c.self.inside.room c.self.invariant.2,
+        few_changed slab c.self.inside.index c.self.inside.clashed c.args.number ps at place are found c.index.ensures w c.self.inside.places c.self.invariant.2,
+        room_changed slab c.self.inside.index c.self.inside.clashed c.args.number ps at place are found c.index.ensures w c.self.inside.places c.self.inside.room c.self.invariant.3,
       ),
       c.self.invariant,
     )

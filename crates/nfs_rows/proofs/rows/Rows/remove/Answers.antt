@@ -22,17 +22,21 @@ returns-in_err-at-clause-rows g c =
     ∙ ap (λ (r : RoomyRows g.row.T.Denot). without (is_numbered c.args.number) r.rows) c.self.view_is
 
 pub drop_marks-requires : goal.drop_marks-requires
-drop_marks-requires g c = subst NumbersRise (sym c.take-value.ensures.places) (rise_marked c.self.inside.places.items c.in_ok-at.at c.self.invariant.0.rise)
+drop_marks-requires g c = record {
+  rise = subst NumbersRise (sym c.take-value.ensures.places) (rise_marked c.self.inside.places.items c.in_ok-at.at c.self.invariant.0.rise);
+  rows = c.len.ensures ∙ (c.take-value.ensures.kept c.self.inside.clashed c.self.invariant.0).all;
+}
 
 pub invariant_of-self : goal.invariant_of-self
 invariant_of-self g c =
     let taken = c.take-value.ensures.kept c.self.inside.clashed c.self.invariant.0 in
-    let room = c.take-value.ensures.room c.self.inside.room c.self.invariant.2 in
+    let room = c.take-value.ensures.room c.self.inside.room c.self.invariant.3 in
     let dropped = c.drop_marks.ensures in (
       kept_dropped c.take-value.new.slab c.take-value.new.index c.stay_clashed-self-inside.new.index c.self.inside.clashed c.stay_clashed-self-inside.result
           c.take-value.new.places.items c.drop_marks.new.places.items taken dropped.kept dropped.rise
           (c.stay_clashed-self-inside.ensures.indexed (kept c.take-value.new.places.items) (sym taken.all ∙ sym c.len-2.ensures)),
       dropped.ends,
+      omega (arith, dropped.few, c.len.ensures),
       record {
         in_slab = room.in_slab;
         in_places = omega (arith, room.in_places, dropped.length, dropped.capacity);

@@ -13,7 +13,7 @@ pub invariant_of-self : goal.invariant_of-self
 invariant_of-self g c =
     let ps = c.self.inside.places.items in
     let are = c.self.invariant.0 in
-    let room = c.self.invariant.2 in
+    let room = c.self.invariant.3 in
     let is = c.renumber.ensures.places in
     let live : kept c.renumber.new.places.items ≡ placed_after 0 (kept ps) = ap kept is ∙ kept_placed ps in (
       record {
@@ -24,6 +24,7 @@ invariant_of-self g c =
         indexed = λ no_clash. absurd (not_false no_clash);
       },
       subst EndsKept (sym is) (ends_all (placed_after 0 (kept ps)) (live_placed ps)),
+      omega (arith, c.self.invariant.2, c.renumber.ensures.length),
       record {
         in_slab = room.in_slab;
         in_places = omega (arith, room.in_places, c.renumber.ensures.length, c.renumber.ensures.capacity);
