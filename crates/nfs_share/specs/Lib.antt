@@ -11,3 +11,4 @@ pub mod NameHash
 pub mod ShareCounts
 pub mod Tally
 pub mod KeptOpens
+pub mod KeptDelegations
