@@ -15,3 +15,4 @@ pub mod Counting
 pub mod ShareSums
 pub mod Tallies
 pub mod Tables
+pub mod LentTables

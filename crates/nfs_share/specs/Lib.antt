@@ -11,3 +11,4 @@ pub mod ShareError
 pub mod ShareCounts
 pub mod Tally
 pub mod KeptOpens
+pub mod KeptDelegations

@@ -6,7 +6,7 @@ ghost use Rattle.nfs_share.specs.Opens.{CanDowngrade, IsNewestFor, with_next_seq
 ghost use Rattle.nfs_share.specs.ShareError.{IsHeldFor, IsWhyNotLent, IsWhyNotOpened};
 ghost use Rattle.nfs_share.specs.declared.delegation.FileUse.TheVariants as uses;
 
-use crate::changes::recall_each;
+use crate::delegation_table::DelegationTable;
 use crate::open_table::OpenTable;
 use crate::{Delegation, DelegationKind, FileUse, Modes, OpenState, Share, ShareError};
 use nfs_forms::{ClientId, Moment, OpenOwner, Stateid};
@@ -20,25 +20,20 @@ use std::marker::Model;
 #[derive(Drop)]
 pub struct FileShare {
     opens: OpenTable,
-    delegations: Vec<Delegation>,
+    delegations: DelegationTable,
 }
 
 impl Model for FileShare {
-    ghost use Rattle.std.specs.Prelude.{◌-◌};
-    ghost use Rattle.std.specs.Vec.{vec_capacity, vec_len};
-    ghost use Rattle.nfs_share.specs.Delegations.{StandInOrder};
     ghost use Rattle.nfs_share.specs.Opens.{FileOpens};
 
     ghost Value = { FileOpens };
 
     ghost view = { λ f. record {
       opens = f.opens.opens;
-      delegations = f.delegations.items;
+      delegations = f.delegations.delegations;
       room = f.opens.room;
-      lending_room = vec_capacity f.delegations - vec_len f.delegations;
+      lending_room = f.delegations.room;
     } };
-
-    ghost invariant = { λ f. StandInOrder f.delegations.items };
 }
 
 impl FileShare {
@@ -49,7 +44,7 @@ impl FileShare {
     {
         FileShare {
             opens: OpenTable::new(alloc, names),
-            delegations: Vec::new(alloc),
+            delegations: DelegationTable::new(alloc),
         }
     }
 
@@ -177,7 +172,7 @@ impl FileShare {
             × IsHeldFor (filter (conflicts file_use) self.now.delegations) e) }
     {
         if self.conflicts(file_use) {
-            return Err(ShareError::Held(self.conflicting(file_use)?));
+            return Err(ShareError::Held(self.delegations.conflicting(file_use)?));
         }
         Ok(())
     }
@@ -272,7 +267,7 @@ impl FileShare {
         ensures lending { self.old.lending_room ≤ self.new.lending_room }
     {
         self.opens.remove_client(client);
-        self.delegations.retain(|lent| !lent.is_of_client(client));
+        self.delegations.remove_client(client);
     }
 
     /// The delegations, in the order in which they came.
@@ -287,6 +282,7 @@ impl FileShare {
         ensures { result ≡ delegation_named_by stateid self.now.delegations }
     {
         self.delegations
+            .as_slice()
             .iter()
             .copied()
             .find(|lent| lent.is_named_by(stateid))
@@ -297,6 +293,7 @@ impl FileShare {
         ensures { result ≡ list_any (is_stateid_of_delegation stateid) self.now.delegations }
     {
         self.delegations
+            .as_slice()
             .iter()
             .any(|lent| lent.is_named_by(stateid))
     }
@@ -305,13 +302,7 @@ impl FileShare {
     pub fn delegation_with_number(&self, number: u32) -> Option<Delegation>
         ensures { result ≡ delegation_with_number number self.now.delegations }
     {
-        // They stand in the order of their numbers.
-        let lent = first_from(self.delegations.as_slice(), number)?;
-        if lent.number == number {
-            Some(lent)
-        } else {
-            None
-        }
+        self.delegations.numbered(number)
     }
 
     /// Whether a delegation has this number.
@@ -325,16 +316,14 @@ impl FileShare {
     pub fn has_delegation(&self, client: ClientId) -> bool
         ensures { result ≡ has_delegation client self.now.delegations }
     {
-        self.delegations
-            .iter()
-            .any(|lent| lent.is_of_client(client))
+        self.delegations.has_client(client)
     }
 
     /// Whether a delegation is in the way of this use of the file.
     pub fn conflicts(&self, file_use: FileUse) -> bool
         ensures { result ≡ has_conflict file_use self.now.delegations }
     {
-        self.delegations.iter().any(|lent| lent.conflicts(file_use))
+        self.delegations.conflicts(file_use)
     }
 
     /// The delegations of other clients that are in the way of an open of the client with this share.
@@ -348,22 +337,7 @@ impl FileShare {
         ensures none { IsFalse (has_conflict (uses.Open client share) self.now.delegations)
             → IsOk result }
     {
-        self.conflicting(FileUse::Open(client, share))
-    }
-
-    // The delegations that are in the way of this use of the file.
-    fn conflicting(&self, file_use: FileUse) -> Result<Vec<Delegation>, AllocError>
-        ensures ok { IfOk result (λ found. found.items
-            ≡ filter (conflicts file_use) self.now.delegations) }
-        ensures none { IsFalse (has_conflict file_use self.now.delegations) → IsOk result }
-    {
-        let mut found = Vec::new(*self.delegations.allocator());
-        for lent in self.delegations.iter() {
-            if lent.conflicts(file_use) {
-                found.push(*lent)?;
-            }
-        }
-        Ok(found)
+        self.delegations.conflicting(FileUse::Open(client, share))
     }
 
     /// Whether a delegation of this kind to the client would be in the way of an open of another client.
@@ -387,8 +361,7 @@ impl FileShare {
     pub fn next_due(&self, from: u32, lease: u32, now: Moment) -> Option<Delegation>
         ensures { IsNextDueOf from lease now self.now.delegations result }
     {
-        // They stand in the order of their numbers.
-        first_due(self.delegations.as_slice(), from, lease, now)
+        self.delegations.next_due(from, lease, now)
     }
 
     /// Makes room for a delegation, so that the next one takes no memory.
@@ -400,7 +373,7 @@ impl FileShare {
         ensures opening { self.old.room ≤ self.new.room }
         ensures ready { 0 < self.old.lending_room → IsOk result }
     {
-        self.delegations.reserve(1)
+        self.delegations.reserve()
     }
 
     /// Lends the client a delegation of this kind with this number, which has to be above those of all delegations, if
@@ -433,7 +406,7 @@ impl FileShare {
             return Err(ShareError::Invalid);
         }
         self.check_free(FileUse::Delegation(client, kind))?;
-        self.delegations.reserve(1)?;
+        self.delegations.reserve()?;
         Ok(self.lend(client, kind, number))
     }
 
@@ -449,15 +422,8 @@ impl FileShare {
         ensures room { self.old.lending_room ≤ self.new.lending_room + 1 }
         ensures opening { self.old.room ≤ self.new.room }
     {
-        let lent = Delegation {
-            client,
-            kind,
-            number,
-            recalled: None,
-        };
-        let stateid = lent.stateid();
-        self.delegations.push_reserved(lent);
-        stateid
+        self.delegations.lend(client, kind, number);
+        Delegation::new(client, kind, number).stateid()
     }
 
     /// Calls back the delegations that are in the way of this use of the file: those that weren't called back before
@@ -467,7 +433,7 @@ impl FileShare {
           delegations = with_recalls file_use moment self.old.delegations;
         } }
     {
-        recall_each(&mut self.delegations, file_use, moment);
+        self.delegations.recall(file_use, moment);
     }
 
     /// DELEGRETURN (RFC 7530, section 16.6): removes the delegation with this number, if there is one.
@@ -478,26 +444,6 @@ impl FileShare {
         ensures room { self.old.lending_room ≤ self.new.lending_room }
         ensures opening { self.old.room ≤ self.new.room }
     {
-        self.delegations.retain(|lent| lent.number != number);
+        self.delegations.give_back(number);
     }
-}
-
-// The first of these delegations that is due and has no number below `from`, if there is one.
-fn first_due(delegations: &[Delegation], from: u32, lease: u32, now: Moment) -> Option<Delegation>
-    ensures { result ≡ find (is_due_from from lease now) delegations.now }
-{
-    delegations
-        .iter()
-        .copied()
-        .find(|lent| lent.is_due_from(from, lease, now))
-}
-
-// The first of these delegations that has no number below this one, if there is one.
-fn first_from(delegations: &[Delegation], number: u32) -> Option<Delegation>
-    ensures { result ≡ find (λ d. nat_le number d.number) delegations.now }
-{
-    delegations
-        .iter()
-        .copied()
-        .find(|lent| number <= lent.number)
 }

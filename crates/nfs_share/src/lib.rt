@@ -5,6 +5,7 @@
 mod changes;
 mod count;
 mod delegation;
+mod delegation_table;
 mod file_share;
 mod laws;
 mod modes;

@@ -1,4 +1,4 @@
-ghost use Rattle.std.specs.Prelude.{◌≡◌, ◌⊎◌, ◌+◌, ◌<◌, ◌≤◌, ◌^◌, [], ◌∷◌, IsOk, IsSome, List, OnOk, cond, filter, length, not};
+ghost use Rattle.std.specs.Prelude.{◌≡◌, ◌⊎◌, ◌+◌, ◌<◌, ◌≤◌, ◌^◌, [], ◌∷◌, IsOk, IsSome, List, OnOk, cond, filter, length, not, true};
 ghost use Rattle.indexmap.specs.IndexMap.{get};
 ghost use Rattle.nfs_forms.specs.ClientId.{is_same_client};
 ghost use Rattle.nfs_forms.specs.declared.client_id.ClientId.{ClientId};
@@ -37,6 +37,13 @@ impl Tally {
             Some(own) => *own,
             None => Count::NONE,
         }
+    }
+
+    /// What all have.
+    pub fn all(&self) -> Count
+        ensures { (marks : List Mark) → IsTally self.now marks → result ≡ count_of (λ m. true) marks }
+    {
+        self.all
     }
 
     /// What other clients have.

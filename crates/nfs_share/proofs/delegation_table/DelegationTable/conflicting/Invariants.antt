@@ -1,6 +1,6 @@
 use Rattle.std.proofs.Common.{◌≡◌, filter, take}
 use Rattle.nfs_share.specs.Delegations.{conflicts}
-use Rattle.nfs_share.proofs.file_share.FileShare.conflicting.Given as goal
+use Rattle.nfs_share.proofs.delegation_table.DelegationTable.conflicting.Given as goal
 
 -- those of the delegations visited so far that are in the way were found
 abbrev pub invariant-loop-lent : goal.invariant-loop-lent
