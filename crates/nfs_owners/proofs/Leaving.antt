@@ -120,15 +120,3 @@ pairs_found test (r ∷ rows) = by (test r.value) (pairs_found test rows)
         → option_map (λ p. p.1) (cond b (Some (pair_of r)) (find (λ p. test p.1) (map pair_of rows))) ≡ cond b (Some r.value) (find test (owners_in rows))
     by true rest = refl
     by false rest = rest
-
-pub pair_passed : (test : Owner → Bool) (all ps : List (ℕ × Owner)) (p : ℕ × Owner) (found : Option Owner) → all ≡ p ∷ ps → test p.1 ≡ false → option_map (λ p. p.1) (find (λ p. test p.1) all) ≡ found
-    → option_map (λ p. p.1) (find (λ p. test p.1) ps) ≡ found
-pair_passed test all ps p found whole fails is =
-    sym (ap (λ qs. option_map (λ (p : ℕ × Owner). p.1) (find (λ p. test p.1) qs)) whole ∙ ap (λ b. option_map (λ (p : ℕ × Owner). p.1) (cond b (Some p) (find (λ p. test p.1) ps))) fails) ∙ is
-
-pub pair_here : (test : Owner → Bool) (all ps : List (ℕ × Owner)) (p : ℕ × Owner) (found : Option Owner) → all ≡ p ∷ ps → test p.1 ≡ true → option_map (λ p. p.1) (find (λ p. test p.1) all) ≡ found → Some p.1 ≡ found
-pair_here test all ps p found whole passes is =
-    sym (ap (λ qs. option_map (λ (p : ℕ × Owner). p.1) (find (λ p. test p.1) qs)) whole ∙ ap (λ b. option_map (λ (p : ℕ × Owner). p.1) (cond b (Some p) (find (λ p. test p.1) ps))) passes) ∙ is
-
-pub pairs_over : (test : Owner → Bool) (all : List (ℕ × Owner)) (found : Option Owner) → all ≡ [] → option_map (λ p. p.1) (find (λ p. test p.1) all) ≡ found → None ≡ found
-pairs_over test all found over is = sym (ap (λ qs. option_map (λ (p : ℕ × Owner). p.1) (find (λ p. test p.1) qs)) over) ∙ is
