@@ -88,6 +88,10 @@ impl OpenTable {
     pub fn open_of(&self, owner: &OpenOwner) -> Option<&OpenState>
         ensures { option_copied result ≡ open_of owner.now self.now.opens }
     {
+        // A hash costs more than this look.
+        if self.rows.is_empty() {
+            return None;
+        }
         let hash = hash_of_owner(self.names, owner);
         match self.rows.find_named(hash, |open| open.is_of(owner)) {
             Some((_, open)) => Some(open),
