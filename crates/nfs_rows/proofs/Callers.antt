@@ -1,9 +1,9 @@
 -- For callers whose own view is a list that is seen of the rows, as that of their values.
-use Rattle.std.proofs.Common.{◌≡◌, ℕ, ◌<◌, Bool, true, false, not, cond, ◌&&◌, List, [], ◌∷◌, filter, find, map, option_map, Option, Some, None, refl, sym, ap, ◌∙◌, arith}
+use Rattle.std.proofs.Common.{◌≡◌, ℕ, ◌<◌, ◌≤◌, Bool, true, false, not, cond, ◌&&◌, List, [], ◌∷◌, filter, find, map, option_map, Option, Some, None, refl, sym, ap, subst, ◌∙◌, arith}
 use Rattle.std.specs.List.{AllByRecursion}
 use Rattle.std.proofs.lemmas.Bool.{eqb-true, eqb-false, false_from_ne_true, true_from_ne_false}
-use Rattle.nfs_rows.specs.Rows.{Row, StandInOrder, is_named, is_numbered, is_of_client, pair_in, value_in, with_value, without}
-use Rattle.nfs_rows.proofs.Each.{all_weaken, change_none}
+use Rattle.nfs_rows.specs.Rows.{IsAbove, Row, StandInOrder, StandSo, is_named, is_numbered, is_of_client, newest_of, pair_in, pair_of, value_in, with_value, without}
+use Rattle.nfs_rows.proofs.Each.{all_both, all_filter, all_weaken, change_none}
 
 module _ {V W : Type 0} (seen : Row V → W) where
   -- what is found, and what is left, where a test of what is seen answers as one of the rows
@@ -104,6 +104,11 @@ module _ {V : Type 0} where
       by r true b is = ap (λ b. cond b (change r.value) r.value) is
       by r false b is = ap (λ b. cond b (change r.value) r.value) is
 
+  -- what a walk shows, without the numbers
+  pub values_shown : (rows : List (Row V)) → map (λ (f : ℕ × V). f.1) (map pair_of rows) ≡ map (λ r. r.value) rows
+  values_shown [] = refl
+  values_shown (r ∷ rows) = ap (λ vs. r.value ∷ vs) (values_shown rows)
+
   -- where only rows with a hash pass a test, the hash says no more than the test; and so with a client
 
   pub named_is : (hash : ℕ) (test : V → Bool) (rows : List (Row V)) → AllByRecursion (λ r. test r.value ≡ true → r.hash ≡ hash) rows → AllByRecursion (λ r. is_named hash test r ≡ test r.value) rows
@@ -125,3 +130,80 @@ module _ {V : Type 0} where
   pub none_beside : (found : Option (Row V)) → None ≡ pair_in found → value_in found ≡ None
   none_beside None is = refl
   none_beside (Some r) is = absurd (cc)
+
+  -- a row that was found by one test, by its number
+
+  found_all : (P : Row V → Type 0) (test : Row V → Bool) (r : Row V) (rows : List (Row V)) → AllByRecursion P rows → find test rows ≡ Some r → P r
+  found_all P test r [] h found = absurd (cc)
+  found_all P test r (q ∷ rows) h found = by (test q) found (λ rest. found_all P test r rows h.1 rest)
+    where
+      same_row : (a b : Row V) → Some a ≡ Some b → a ≡ b
+      same_row a b is = cc
+
+      by : (b : Bool) → cond b (Some q) (find test rows) ≡ Some r → (find test rows ≡ Some r → P r) → P r
+      by true here rest = subst P (same_row q r here) h.0
+      by false there rest = rest there
+
+  pub found_again : (test : Row V → Bool) (r : Row V) (rows : List (Row V)) → StandInOrder rows → find test rows ≡ Some r → find (is_numbered r.number) rows ≡ Some r
+  found_again test r [] order found = absurd (cc)
+  found_again test r (q ∷ rows) order found = by (test q) found (λ rest. found_again test r rows order.1 rest)
+    where
+      same_row : (a b : Row V) → Some a ≡ Some b → a ≡ b
+      same_row a b is = cc
+
+      by : (b : Bool) → cond b (Some q) (find test rows) ≡ Some r → (find test rows ≡ Some r → find (is_numbered r.number) rows ≡ Some r) → find (is_numbered r.number) (q ∷ rows) ≡ Some r
+      by true here rest =
+          let same = same_row q r here in
+          ap (λ b. cond b (Some q) (find (is_numbered r.number) rows)) (true_from_ne_false _ (λ differs. eqb-false q.number r.number differs (ap (λ (s : Row V). s.number) same))) ∙ here
+      by false there rest =
+          let below = found_all (λ s. q.number < s.number) test r rows order.0 there in
+          ap (λ b. cond b (Some q) (find (is_numbered r.number) rows)) (false_from_ne_true _ (λ same. omega (arith, below, eqb-true q.number r.number same))) ∙ rest there
+
+  -- At most one row passes the test.
+  abbrev pub PassOnce : (Row V → Bool) → List (Row V) → Type 0
+  PassOnce test rows = StandSo (λ r s. test r ≡ true → test s ≡ false) rows
+
+  -- Then its number tells it from the others as the test does.
+  pub only_found : (test : Row V → Bool) (r : Row V) (rows : List (Row V)) → StandInOrder rows → PassOnce test rows → find test rows ≡ Some r
+      → AllByRecursion (λ s. is_numbered r.number s ≡ test s) rows
+  only_found test r [] order once found = tt
+  only_found test r (q ∷ rows) order once found = by (test q) refl found (λ rest. only_found test r rows order.1 once.1 rest)
+    where
+      same_row : (a b : Row V) → Some a ≡ Some b → a ≡ b
+      same_row a b is = cc
+
+      by : (b : Bool) → test q ≡ b → cond b (Some q) (find test rows) ≡ Some r
+          → (find test rows ≡ Some r → AllByRecursion (λ s. is_numbered r.number s ≡ test s) rows) → AllByRecursion (λ s. is_numbered r.number s ≡ test s) (q ∷ rows)
+      by true passes here rest =
+          let same = ap (λ (s : Row V). s.number) (same_row q r here) in (
+            true_from_ne_false _ (λ differs. eqb-false q.number r.number differs same) ∙ sym passes,
+            all_both (λ s. q.number < s.number) (λ s. test q ≡ true → test s ≡ false) (λ s. is_numbered r.number s ≡ test s)
+                (λ s above fails. false_from_ne_true _ (λ equal. omega (arith, above, same, eqb-true s.number r.number equal)) ∙ sym (fails passes)) rows order.0 once.0,
+          )
+      by false fails there rest =
+          let below = found_all (λ s. q.number < s.number) test r rows order.0 there in
+          (false_from_ne_true _ (λ equal. omega (arith, below, eqb-true q.number r.number equal)) ∙ sym fails, rest there)
+
+  -- the newest number, for callers that count on from it
+
+  pub above_newest : (number : ℕ) (rows : List (Row V)) → StandInOrder rows → newest_of rows < number → IsAbove number rows
+  above_newest number [] order above = tt
+  above_newest number (r ∷ []) order above = (above, tt)
+  above_newest number (r ∷ s ∷ rows) order above =
+      let rest = above_newest number (s ∷ rows) order.1 above in
+      (omega (arith, order.0.0, rest.0), rest)
+
+  pub within_newest : (rows : List (Row V)) → StandInOrder rows → AllByRecursion (λ r. r.number ≤ newest_of rows) rows
+  within_newest [] order = tt
+  within_newest (r ∷ []) order = (omega arith, tt)
+  within_newest (r ∷ s ∷ rows) order =
+      let rest = within_newest (s ∷ rows) order.1 in
+      (omega (arith, order.0.0, rest.0), rest)
+
+  pub newest_within : (most : ℕ) (rows : List (Row V)) → AllByRecursion (λ r. r.number ≤ most) rows → newest_of rows ≤ most
+  newest_within most [] h = omega arith
+  newest_within most (r ∷ []) h = h.0
+  newest_within most (r ∷ s ∷ rows) h = newest_within most (s ∷ rows) h.1
+
+  pub newest_without : (test : Row V → Bool) (rows : List (Row V)) → StandInOrder rows → newest_of (without test rows) ≤ newest_of rows
+  newest_without test rows order = newest_within (newest_of rows) (without test rows) (all_filter (λ r. r.number ≤ newest_of rows) (λ r. not (test r)) rows (within_newest rows order))

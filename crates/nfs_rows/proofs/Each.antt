@@ -8,6 +8,10 @@ module _ {X : Type 0} where
   all_weaken P Q weaken [] h = tt
   all_weaken P Q weaken (x ∷ xs) h = (weaken x h.0, all_weaken P Q weaken xs h.1)
 
+  pub all_both : (P Q R : X → Type 0) → ((x : X) → P x → Q x → R x) → (xs : List X) → AllByRecursion P xs → AllByRecursion Q xs → AllByRecursion R xs
+  all_both P Q R leads [] h k = tt
+  all_both P Q R leads (x ∷ xs) h k = (leads x h.0 k.0, all_both P Q R leads xs h.1 k.1)
+
   pub all_from_index : (P : X → Type 0) (xs : List X) → ((k : ℕ) (d : X) → k < length xs → P (get_or xs k d)) → AllByRecursion P xs
   all_from_index P [] h = tt
   all_from_index P (x ∷ xs) h = (h 0 x (omega arith), all_from_index P xs (λ k d below. h (suc k) d (omega (arith, below))))

@@ -6,7 +6,7 @@ use Rattle.std.proofs.lemmas.Bool.{cases_eq, eqb-true, false_from_ne_true}
 use Rattle.indexmap.specs.IndexMap.{IndexMap, get, Updates, UpdatesBy}
 use Rattle.nfs_rows.specs.declared.place.Place.{Place}
 use Rattle.nfs_rows.specs.Places.{IsIndexed, Leads, NumbersRise}
-use Rattle.nfs_rows.proofs.Each.{all_append, all_around, all_back, all_front, all_weaken, so_before, so_behind}
+use Rattle.nfs_rows.proofs.Each.{all_append, all_around, all_back, all_both, all_front, all_weaken, so_before, so_behind}
 
 same_number : (a b : ℕ) → Some a ≡ Some b → a ≡ b
 same_number a b is = cc
@@ -45,10 +45,6 @@ led (p ∷ ps) hash number (inr there) =
     let rest = led ps hash number there in
     record { front = p ∷ rest.front; place = rest.place; back = rest.back; whole = ap (λ qs. p ∷ qs) rest.whole; hashed = rest.hashed; numbered = rest.numbered }
 
-both : {X : Type 0} (P Q R : X → Type 0) → ((x : X) → P x → Q x → R x) → (xs : List X) → AllByRecursion P xs → AllByRecursion Q xs → AllByRecursion R xs
-both P Q R leads [] h k = tt
-both P Q R leads (x ∷ xs) h k = (leads x h.0 k.0, both P Q R leads xs h.1 k.1)
-
 module _ {S : Type 0} where
   -- a place with another number has another hash
   other_hash : (index : IndexMap ℕ ℕ S) (p q : Place) → get nat_eq index p.hash ≡ Some p.number → get nat_eq index q.hash ≡ Some q.number → q.number ≢ p.number → q.hash ≢ p.hash
@@ -63,12 +59,12 @@ module _ {S : Type 0} where
 
     pub hashes_before : AllByRecursion (λ q. q.hash ≢ p.hash) front
     hashes_before =
-        both IsLed (λ q. q.number ≢ p.number) (λ q. q.hash ≢ p.hash) (λ q h differs. other_hash index p q led_here h differs) front (all_front IsLed front (p ∷ back) indexed.leads)
+        all_both IsLed (λ q. q.number ≢ p.number) (λ q. q.hash ≢ p.hash) (λ q h differs. other_hash index p q led_here h differs) front (all_front IsLed front (p ∷ back) indexed.leads)
         (all_weaken (λ q. q.number < p.number) (λ q. q.number ≢ p.number) (λ q below same. omega (arith, below, same)) front (so_before (λ p q. p.number < q.number) front p back rise))
 
     pub hashes_behind : AllByRecursion (λ q. q.hash ≢ p.hash) back
     hashes_behind =
-        both IsLed (λ q. q.number ≢ p.number) (λ q. q.hash ≢ p.hash) (λ q h differs. other_hash index p q led_here h differs) back ((all_back IsLed front (p ∷ back) indexed.leads).1)
+        all_both IsLed (λ q. q.number ≢ p.number) (λ q. q.hash ≢ p.hash) (λ q h differs. other_hash index p q led_here h differs) back ((all_back IsLed front (p ∷ back) indexed.leads).1)
         (all_weaken (λ q. p.number < q.number) (λ q. q.number ≢ p.number) (λ q above same. omega (arith, above, same)) back (so_behind (λ p q. p.number < q.number) front p back rise))
 
     -- without the hash of a place, the index leads to the others
@@ -76,7 +72,7 @@ module _ {S : Type 0} where
     indexed_less new updates =
         let others = all_append (λ q. q.hash ≢ p.hash) front back hashes_before hashes_behind in
         record {
-          leads = both IsLed (λ q. q.hash ≢ p.hash) (λ q. get nat_eq new q.hash ≡ Some q.number)
+          leads = all_both IsLed (λ q. q.hash ≢ p.hash) (λ q. get nat_eq new q.hash ≡ Some q.number)
               (λ q h differs. updates.2 q.hash (false_from_ne_true _ (λ same. differs (sym (eqb-true p.hash q.hash same)))) ∙ h) (front ++ back) (all_around IsLed front p back indexed.leads) others;
           own = λ hash number leads. by hash number leads (cases_eq p.hash hash);
         }

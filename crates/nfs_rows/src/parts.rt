@@ -58,6 +58,7 @@ pub fn stay_clashed(index: &mut IndexMap<u64, u64>, clashed: bool, rows: usize) 
     ensures indexed { (places : List Place) → length places ≡ rows
         → (clashed ≡ false → IsIndexed index.old places)
         → result ≡ false → IsIndexed index.new places }
+    ensures stays { clashed ≡ false → result ≡ false }
     ensures spare { spare index.old ≤ spare index.new }
 {
     if clashed && rows == 0 {

@@ -77,7 +77,8 @@ impl<T> Rows<T> {
 
     /// The number of the newest row, or 0 where there is none.
     pub fn newest(&self) -> u64
-        ensures { result ≡ newest_of self.now.rows }
+        ensures number { result ≡ newest_of self.now.rows }
+        ensures order { StandInOrder self.now.rows }
     {
         match self.places.last() {
             Some(place) => place.number,
