@@ -16,3 +16,4 @@ pub mod ShareSums
 pub mod Tallies
 pub mod Tables
 pub mod LentTables
+pub mod LentPlaces

@@ -1,5 +1,6 @@
-ghost use Rattle.std.specs.Prelude.{◌≡◌, ◌≤◌, ◌<◌, ◌+◌, [], ◌∷◌, ◌++◌, ◌&&◌, IfOk, IsFalse, IsOk, OnErr, OnOk, filter, find, is_some, length, nat_le, not};
-ghost use Rattle.nfs_share.specs.Delegations.{IsAboveLent, IsNextDueOf, conflicts, delegation_with_number, first_delegation, has_conflict, has_delegation, is_delegation_numbered, is_due_from, is_lent_to, is_of_user, with_recalls, without_lent};
+ghost use Rattle.std.specs.Prelude.{◌≡◌, ◌≤◌, ◌<◌, ◌+◌, [], ◌∷◌, ◌++◌, ◌&&◌, IfOk, IsFalse, IsOk, OnErr, OnOk, filter, find, is_some, length, nat_le, nat_lt, not, true, false};
+ghost use Rattle.std.specs.List.Sorted.{IsPartitionPoint};
+ghost use Rattle.nfs_share.specs.Delegations.{IsAboveLent, StandInOrder, IsNextDueOf, conflicts, delegation_named_by, delegation_with_number, first_delegation, has_conflict, has_delegation, is_delegation_numbered, is_due_from, is_lent_to, is_of_user, with_recalls, without_lent};
 ghost use Rattle.nfs_share.specs.KeptDelegations.{is_writing};
 ghost use Rattle.nfs_share.specs.ShareCounts.{how_many};
 
@@ -7,7 +8,7 @@ use crate::changes::recall_each;
 use crate::count::{Count, lowered};
 use crate::tally::Tally;
 use crate::{Delegation, DelegationKind, FileUse};
-use nfs_forms::{ClientId, Moment};
+use nfs_forms::{ClientId, Moment, Stateid};
 use std::alloc::{AllocError, Global};
 use std::marker::Model;
 
@@ -61,6 +62,19 @@ impl DelegationTable {
         // They stand in the order of their numbers.
         let lent = first_from(self.lent.as_slice(), number)?;
         if lent.number == number {
+            Some(lent)
+        } else {
+            None
+        }
+    }
+
+    /// The delegation that the stateid names, no matter its seqid, if there is one.
+    pub fn named_by(&self, stateid: Stateid) -> Option<Delegation>
+        ensures { result ≡ delegation_named_by stateid self.now.delegations }
+    {
+        let _lent = &self.lent;
+        let lent = self.numbered(stateid.number)?;
+        if lent.is_of_client(stateid.client) {
             Some(lent)
         } else {
             None
@@ -185,7 +199,8 @@ impl DelegationTable {
         let Some(back) = self.numbered(number) else {
             return
         };
-        self.lent.retain(|lent| lent.number != number);
+        let at = place_from(self.lent.as_slice(), number);
+        let _back = self.lent.remove(at);
         self.holders.remove(back.client, is_writing(back.kind));
         self.recalled = lowered(self.recalled, back.recalled.is_some());
     }
@@ -237,10 +252,19 @@ fn first_due(delegations: &[Delegation], from: u32, lease: u32, now: Moment) -> 
 
 // The first of these delegations that has no number below this one, if there is one.
 fn first_from(delegations: &[Delegation], number: u32) -> Option<Delegation>
+    requires { StandInOrder delegations.now }
     ensures { result ≡ find (λ d. nat_le number d.number) delegations.now }
 {
-    delegations
-        .iter()
-        .copied()
-        .find(|lent| number <= lent.number)
+    let at = place_from(delegations, number);
+    delegations.get(at).copied()
+}
+
+// How many of these delegations have a number below this one, by halving.
+fn place_from(delegations: &[Delegation], number: u32) -> usize
+    requires { StandInOrder delegations.now }
+    ensures bound { result ≤ length delegations.now }
+    ensures point { IsPartitionPoint (λ d. nat_lt d.number number ≡ true)
+        (λ d. nat_lt d.number number ≡ false) delegations.now result }
+{
+    delegations.partition_point(|lent| lent.number < number)
 }

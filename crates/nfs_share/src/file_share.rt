@@ -281,21 +281,14 @@ impl FileShare {
     pub fn delegation_named_by(&self, stateid: Stateid) -> Option<Delegation>
         ensures { result ≡ delegation_named_by stateid self.now.delegations }
     {
-        self.delegations
-            .as_slice()
-            .iter()
-            .copied()
-            .find(|lent| lent.is_named_by(stateid))
+        self.delegations.named_by(stateid)
     }
 
     /// Whether the stateid names a delegation.
     pub fn names_delegation(&self, stateid: Stateid) -> bool
         ensures { result ≡ list_any (is_stateid_of_delegation stateid) self.now.delegations }
     {
-        self.delegations
-            .as_slice()
-            .iter()
-            .any(|lent| lent.is_named_by(stateid))
+        self.delegation_named_by(stateid).is_some()
     }
 
     /// The delegation with this number, if there is one.
