@@ -31,7 +31,7 @@ use nfs_owners::ClientState;
 use nfs_rpc::Recall;
 use nfs_state::{
     Entry, Expire, JOURNAL_LIMIT, Journal, LEASE_MAX, LEASE_MIN, Moment, Path, Request, Revoke,
-    Store, Tables,
+    Seeds, Store, Tables,
 };
 use nfs_tree::{Policy, Tree};
 use nfs_xdr::{Callback, ClientId, Op, OpResult, Principal, Refusal, Stateid};
@@ -64,13 +64,15 @@ impl Model for Core {
 
 impl Core {
     /// A server with the files of this tree, to which no client has come. `lease` is in seconds, and `epoch` is the
-    /// number of the server's run. Fails if memory runs out while the tree is copied.
+    /// number of the server's run. What is stored is found by hashes that are keyed by the seeds. Fails if memory runs out
+    /// while the tree is copied.
     pub fn new(
         alloc: Global,
         tree: &Tree,
         lease: u32,
         epoch: u32,
         policy: Policy,
+        seeds: Seeds,
     ) -> Result<Core, CoreError>
         requires { (LEASE_MIN ≤ lease) × (lease ≤ LEASE_MAX) }
         ensures journal { IfOk result (λ core. core.journal ≡ record {
@@ -86,7 +88,7 @@ impl Core {
         ensures error { IfErr result (λ e. e ≡ CoreError.Memory) }
     {
         let store = Store {
-            tables: Tables::of_tree(alloc, tree)?,
+            tables: Tables::of_tree(alloc, tree, seeds)?,
             journal: Journal::new(alloc, tree.clone()?, lease, epoch, policy),
         };
         let recalls = PendingRecalls::new(alloc);

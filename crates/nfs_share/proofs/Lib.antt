@@ -4,8 +4,16 @@ pub mod OpensLaws
 pub mod EachElement
 pub mod CompatibleOpens
 pub mod OneFile
-pub mod Names
 pub mod AllOpens
+pub mod Indexed
 pub mod NextDue
 pub mod DelegationOrder
 pub mod ApartDelegations
+pub mod AtMostOne
+pub mod KeptOpens
+pub mod Counting
+pub mod ShareSums
+pub mod Tallies
+pub mod Tables
+pub mod LentTables
+pub mod LentPlaces

@@ -3,15 +3,22 @@
 #![tactic(auto)]
 
 mod changes;
+mod count;
 mod delegation;
+mod delegation_table;
 mod file_share;
 mod laws;
 mod modes;
+mod numbers;
 mod open_state;
+mod open_table;
 mod opens;
+mod owner_hash;
 mod share;
+mod share_counts;
 mod share_error;
 mod shares;
+mod tally;
 
 pub use delegation::{Delegation, DelegationKind, FileUse};
 pub use file_share::FileShare;

@@ -6,6 +6,7 @@ ghost use Rattle.nfs_share.specs.Delegations.{IsAboveLent};
 use nfs_forms::{ClientId, Stateid};
 use nfs_share::{Delegation, DelegationKind, FileShare, Modes, Share, ShareError};
 use std::alloc::AllocError;
+use std::hash::RandomState;
 use std::test::Fail;
 
 const FIRST: ClientId = ClientId {
@@ -64,7 +65,7 @@ fn conflicts_of(
 /// isn't given, and tells of both.
 #[test]
 fn lends_to_two_readers(rt: HostRuntime) -> Result<(), Fail> {
-    let mut file = FileShare::new(rt.alloc());
+    let mut file = FileShare::new(rt.alloc(), RandomState::new(&rt)?);
     let stateid = delegate(&mut file, FIRST, DelegationKind::Read, 7)?;
     assert!(rt; stateid.seqid == 1 && stateid.client == FIRST && stateid.number == 7);
     assert_eq!(rt;

@@ -7,6 +7,7 @@ use crate::names::name_of;
 use nfs_forms::{ClientId, OpenOwner, Stateid};
 use nfs_share::{FileShare, Modes, Share, ShareError};
 use std::alloc::{AllocError, Global};
+use std::hash::RandomState;
 use std::test::Fail;
 
 const CLIENT: ClientId = ClientId {
@@ -67,7 +68,7 @@ fn downgrade(file: &mut FileShare, number: u32, share: Share) -> Result<Stateid,
 #[test]
 fn opens_and_downgrades(rt: HostRuntime) -> Result<(), Fail> {
     let alloc = rt.alloc();
-    let mut file = FileShare::new(alloc);
+    let mut file = FileShare::new(alloc, RandomState::new(&rt)?);
     try_open(alloc, &mut file, b"a", READ, 7)?;
     assert!(rt; !file.denies(Modes::BOTH));
     let stateid = try_open(alloc, &mut file, b"a", BOTH_ALONE, 8)?;
