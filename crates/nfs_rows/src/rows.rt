@@ -64,6 +64,7 @@ impl<T> Rows<T> {
         ensures len { result ≡ length self.now.rows }
         ensures order { StandInOrder self.now.rows }
     {
+        // The places' order comes with them.
         let _places = &self.places;
         self.slab.len()
     }
