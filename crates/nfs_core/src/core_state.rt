@@ -87,10 +87,12 @@ impl Core {
         ensures lawful { IfOk result (λ core. IsLawful core) }
         ensures error { IfErr result (λ e. e ≡ CoreError.Memory) }
     {
-        let store = Store {
-            tables: Tables::of_tree(alloc, tree, seeds)?,
-            journal: Journal::new(alloc, tree.clone()?, lease, epoch, policy),
+        let tables = Tables::of_tree(alloc, tree, seeds)?;
+        let Ok(tree) = tree.clone() else {
+            return Err(CoreError::Memory);
         };
+        let journal = Journal::new(alloc, tree, lease, epoch, policy);
+        let store = Store { tables, journal };
         let recalls = PendingRecalls::new(alloc);
         Ok(Core {
             alloc,
