@@ -1,12 +1,10 @@
 -- What is kept of the delegations of a file, after changes.
-use Rattle.std.proofs.Common.{◌≡◌, ℕ, suc, ◌+◌, ◌-◌, ◌<◌, ◌^◌, Bool, true, false, not, cond, ◌&&◌, nat_lt, List, [], ◌∷◌, ◌++◌, length, filter, find, map, is_some, Option, Some, None, refl, sym, ap, ◌∙◌, arith}
-use Rattle.std.specs.Prelude.{IsFalse}
-use Rattle.std.specs.List.{AllByRecursion}
+use Rattle.std.proofs.Common.{◌≡◌, ℕ, suc, ◌+◌, ◌<◌, ◌^◌, Bool, true, false, not, cond, ◌&&◌, nat_lt, List, [], ◌∷◌, ◌++◌, length, filter, find, map, Some, refl, sym, ap, ◌∙◌, arith}
 use Rattle.std.proofs.lemmas.Bool.{eqb-true, false_from_ne_true}
 use Rattle.nfs_forms.specs.declared.client_id.ClientId.{ClientId}
 use Rattle.nfs_rows.proofs.Each.{all_weaken}
-use Rattle.nfs_share.specs.Delegations.{StandInOrder, conflicts, has_conflict, is_delegation_numbered, is_due_from, is_in_way, is_lent_to, is_of_user, with_recall, with_recalls, without_lent}
-use Rattle.nfs_share.specs.KeptDelegations.{is_writing, mark_lent, recalled_of}
+use Rattle.nfs_share.specs.Delegations.{StandInOrder, conflicts, has_conflict, is_delegation_numbered, is_in_way, is_lent_to, is_of_user, with_recall, with_recalls, without_lent}
+use Rattle.nfs_share.specs.KeptDelegations.{is_writing, mark_lent}
 use Rattle.nfs_share.specs.ShareCounts.{how_many}
 use Rattle.nfs_share.specs.Tally.{IsTally, Mark, is_own}
 use Rattle.nfs_share.specs.declared.delegation.Delegation.{Delegation}
@@ -36,14 +34,6 @@ how_many_map seen test (x ∷ xs) = ap (λ n. cond (test (seen x)) (suc n) n) (h
 pub lent_marks : (test : Mark → Bool) (ds : List Delegation) → how_many test (map mark_lent ds) ≡ how_many (λ d. test (mark_lent d)) ds
 lent_marks test ds = how_many_map mark_lent test ds
 
-pub counted : {X : Type 0} (test : X → Bool) (xs : List X) → length (filter test xs) ≡ how_many test xs
-counted test [] = refl
-counted test (x ∷ xs) = by (test x) (counted test xs)
-  where
-    by : (b : Bool) → length (filter test xs) ≡ how_many test xs → length (cond b (x ∷ filter test xs) (filter test xs)) ≡ cond b (suc (how_many test xs)) (how_many test xs)
-    by true rest = omega (arith, rest)
-    by false rest = rest
-
 -- Where a read delegation is in the way, each is; and else those for writing are.
 
 way_of_all : (file_use : FileUse) → is_in_way kinds.Read file_use ≡ true → (kind : DelegationKind) → true ≡ is_in_way kind file_use
@@ -68,20 +58,6 @@ writing_conflict file_use ds n way is =
     ap (nat_lt 0) is ∙ some_or_more (λ d. not (is_of_user file_use d) && is_writing d.kind) ds
     ∙ any_alike (λ d. not (is_of_user file_use d) && is_writing d.kind) (conflicts file_use) (λ d. ap (λ b. not (is_of_user file_use d) && b) (way_of_writing file_use way d.kind)) ds
 
--- none is due where none was called back
-pub none_due : (from lease now : ℕ) (ds : List Delegation) → 0 ≡ recalled_of ds → AllByRecursion (λ d. IsFalse (is_due_from from lease now d)) ds
-none_due from lease now [] none = tt
-none_due from lease now (d ∷ ds) none = by d.recalled refl none (λ rest. none_due from lease now ds rest)
-  where
-    and_no : (b : Bool) → (b && false) ≡ false
-    and_no true = refl
-    and_no false = refl
-
-    by : (r : Option ℕ) → d.recalled ≡ r → 0 ≡ cond (is_some r) (suc (recalled_of ds)) (recalled_of ds) → (0 ≡ recalled_of ds → AllByRecursion (λ d. IsFalse (is_due_from from lease now d)) ds)
-        → AllByRecursion (λ d. IsFalse (is_due_from from lease now d)) (d ∷ ds)
-    by None is h rest = ((λ i. is_due_from from lease now (record d { recalled = is i })) ∙ and_no _, rest h)
-    by (Some moment) is h rest = absurd (omega (arith, h))
-
 -- one apart from the others
 pub lent_apart : (number : ℕ) (ds : List Delegation) (d : Delegation) → StandInOrder ds → Some d ≡ find (is_delegation_numbered number) ds → SameCounts ds (d ∷ without_lent (is_delegation_numbered number) ds)
 lent_apart number ds d order found = same_apart (is_delegation_numbered number) ds d (one_lent number ds order) found
@@ -91,11 +67,6 @@ lent_tally holders ds es same tally = tally_same holders (map mark_lent ds) (map
 
 pub lent_push : (ds : List Delegation) (d : Delegation) → SameCounts (d ∷ ds) (ds ++ d ∷ [])
 lent_push ds d test = sym (same_push ds d test)
-
--- one less was called back, if it was
-pub fewer_recalled : (b : Bool) (all rest left : ℕ) → all ≡ cond b (suc rest) rest → left ≡ cond b (all - 1) all → left ≡ rest
-fewer_recalled true all rest left is less = omega (arith, is, less)
-fewer_recalled false all rest left is less = less ∙ is
 
 -- how many there are after a call back
 pub recalls_length : (file_use : FileUse) (moment : ℕ) (ds : List Delegation) → length (with_recalls file_use moment ds) ≡ length ds

@@ -17,3 +17,4 @@ pub mod Tallies
 pub mod Tables
 pub mod LentTables
 pub mod LentPlaces
+pub mod FirstRecalls

@@ -1,7 +1,7 @@
 -- The counts of shares, and what the shares do and deny together.
 use Rattle.std.proofs.Common.{◌≡◌, ℕ, suc, ◌+◌, ◌<◌, ◌^◌, Bool, ◌&&◌, ◌||◌, not, cond, nat_lt, List, [], ◌∷◌, length, filter, map, refl, sym, ap, ◌∙◌, arith, false, true}
 use Rattle.std.specs.List.{list_any}
-use Rattle.std.proofs.lemmas.Bool.{lt-ltb}
+use Rattle.std.proofs.lemmas.Bool.{false≢true, lt-ltb}
 use Rattle.nfs_share.specs.declared.modes.Modes.{Modes}
 use Rattle.nfs_share.specs.declared.share.Share.{Share}
 use Rattle.nfs_share.specs.declared.share_counts.ShareCounts.{ShareCounts}
@@ -77,3 +77,13 @@ module _ {X : Type 0} where
           → ((not b && second x) || list_any (λ x. not (first x) && second x) xs) ≡ list_any second (cond (not b) (x ∷ filter (λ x. not (first x)) xs) (filter (λ x. not (first x)) xs))
       by true rest = rest
       by false rest = ap (λ c. second x || c) rest
+
+  -- where none passes the second test, none passes both
+  pub none_of_both : (first second : X → Bool) (xs : List X) → list_any second xs ≡ false → list_any (λ x. first x && second x) xs ≡ false
+  none_of_both first second [] none = refl
+  none_of_both first second (x ∷ xs) none = by (first x) (second x) none (none_of_both first second xs)
+    where
+      by : (a b : Bool) → (b || list_any second xs) ≡ false → (list_any second xs ≡ false → list_any (λ x. first x && second x) xs ≡ false) → ((a && b) || list_any (λ x. first x && second x) xs) ≡ false
+      by a true none rest = absurd (false≢true (sym none))
+      by true false none rest = rest none
+      by false false none rest = rest none

@@ -1,26 +1,28 @@
-ghost use Rattle.std.specs.Prelude.{◌≡◌, ◌≤◌, ◌<◌, ◌+◌, [], ◌∷◌, ◌++◌, ◌&&◌, IfOk, IsFalse, IsOk, OnErr, OnOk, filter, find, is_some, length, nat_le, nat_lt, not, true, false};
+ghost use Rattle.std.specs.Prelude.{◌≡◌, ◌≤◌, ◌<◌, ◌+◌, [], ◌∷◌, ◌++◌, ◌&&◌, IfOk, IsFalse, IsOk, OnErr, OnOk, filter, find, length, nat_le, nat_lt, not, true, false};
 ghost use Rattle.std.specs.List.Sorted.{IsPartitionPoint};
-ghost use Rattle.nfs_share.specs.Delegations.{IsAboveLent, StandInOrder, IsNextDueOf, conflicts, delegation_named_by, delegation_with_number, first_delegation, has_conflict, has_delegation, is_delegation_numbered, is_due_from, is_lent_to, is_of_user, with_recalls, without_lent};
-ghost use Rattle.nfs_share.specs.KeptDelegations.{is_writing};
+ghost use Rattle.nfs_share.specs.Delegations.{IsAboveLent, StandInOrder, IsNextDueOf, conflicts, delegation_named_by, delegation_with_number, first_delegation, has_conflict, has_delegation, is_delegation_numbered, is_due, is_lent_to, is_of_user, lesser, with_recalls, without_lent};
+ghost use Rattle.nfs_share.specs.KeptDelegations.{AreNotBefore, is_writing};
 ghost use Rattle.nfs_share.specs.ShareCounts.{how_many};
 
 use crate::changes::recall_each;
-use crate::count::{Count, lowered};
+use crate::count::Count;
+use crate::delegation::is_lease_before;
 use crate::tally::Tally;
 use crate::{Delegation, DelegationKind, FileUse};
 use nfs_forms::{ClientId, Moment, Stateid};
 use std::alloc::{AllocError, Global};
 use std::marker::Model;
 
-/// The delegations of a file in the order in which they came, with what each client has of them, and how many were called
-/// back.
+/// The delegations of a file in the order in which they came, with what each client has of them, and a moment before which
+/// none was called back.
 #[derive(Drop)]
 pub struct DelegationTable {
     // In the order of their numbers.
     lent: Vec<Delegation>,
     // Each client's delegations; those for writing are marked.
     holders: Tally,
-    recalled: usize,
+    // None of these was called back before this moment; or none was called back at all.
+    first_recall: Option<Moment>,
     // How many additions were promised to take no memory.
     room: usize,
 }
@@ -32,7 +34,7 @@ impl Model for DelegationTable {
 
     ghost view = { λ t. record { delegations = t.lent.items; room = t.room } };
 
-    ghost invariant = { λ t. AreLent t.lent t.holders t.recalled t.room };
+    ghost invariant = { λ t. AreLent t.lent t.holders t.first_recall t.room };
 }
 
 impl DelegationTable {
@@ -43,7 +45,7 @@ impl DelegationTable {
         DelegationTable {
             lent: Vec::new(alloc),
             holders: Tally::new(alloc),
-            recalled: 0,
+            first_recall: None,
             room: 0,
         }
     }
@@ -132,11 +134,13 @@ impl DelegationTable {
     pub fn next_due(&self, from: u32, lease: u32, now: Moment) -> Option<Delegation>
         ensures { IsNextDueOf from lease now self.now.delegations result }
     {
-        if self.recalled == 0 {
+        // Where one called back then isn't due, none is.
+        if !is_lease_before(self.first_recall, lease, now) {
             return None;
         }
         // They stand in the order of their numbers.
-        first_due(self.lent.as_slice(), from, lease, now)
+        let at = place_from(self.lent.as_slice(), from);
+        first_due(&self.lent.as_slice()[at..], lease, now)
     }
 
     /// Makes room, so that the next one takes no memory.
@@ -187,7 +191,7 @@ impl DelegationTable {
             return;
         }
         recall_each(&mut self.lent, file_use, moment);
-        self.recalled = recalled_in(self.lent.as_slice());
+        self.first_recall = first_recall_in(self.lent.as_slice());
     }
 
     /// Removes the one with this number, if there is one.
@@ -202,7 +206,7 @@ impl DelegationTable {
         let at = place_from(self.lent.as_slice(), number);
         let _back = self.lent.remove(at);
         self.holders.remove(back.client, is_writing(back.kind));
-        self.recalled = lowered(self.recalled, back.recalled.is_some());
+        self.first_recall = first_recall_left(self.lent.as_slice(), self.first_recall);
     }
 
     /// Removes those of the client.
@@ -216,7 +220,7 @@ impl DelegationTable {
         }
         self.lent.retain(|lent| !lent.is_of_client(client));
         self.holders.remove_client(client);
-        self.recalled = recalled_in(self.lent.as_slice());
+        self.first_recall = first_recall_in(self.lent.as_slice());
     }
 }
 
@@ -230,24 +234,43 @@ fn is_writing(kind: DelegationKind) -> bool
     }
 }
 
-// How many of these were called back.
-fn recalled_in(delegations: &[Delegation]) -> usize
-    ensures { result ≡ length (filter (λ d. is_some d.recalled) delegations.now) }
+// The moment at which the first of these was called back, if one was.
+fn first_recall_in(delegations: &[Delegation]) -> Option<Moment>
+    ensures { AreNotBefore result delegations.now }
 {
-    delegations
-        .iter()
-        .filter(|lent| lent.recalled.is_some())
-        .count()
+    let mut first = None;
+    for lent in delegations.iter() {
+        first = earlier(first, lent.recalled);
+    }
+    first
 }
 
-// The first of these delegations that is due and has no number below `from`, if there is one.
-fn first_due(delegations: &[Delegation], from: u32, lease: u32, now: Moment) -> Option<Delegation>
-    ensures { result ≡ find (is_due_from from lease now) delegations.now }
+// The first moment, as it was before some went; or none where these are none.
+fn first_recall_left(delegations: &[Delegation], first: Option<Moment>) -> Option<Moment>
+    ensures { AreNotBefore first delegations.now → AreNotBefore result delegations.now }
+{
+    if delegations.is_empty() { None } else { first }
+}
+
+// The earlier of two moments, of which there may be none.
+fn earlier(first: Option<Moment>, other: Option<Moment>) -> Option<Moment>
+    ensures { result ≡ lesser (λ moment. moment) first other }
+{
+    let Some(other) = other else { return first };
+    match first {
+        Some(moment) if moment.seconds() <= other.seconds() => Some(moment),
+        _ => Some(other),
+    }
+}
+
+// The first of these delegations that is due, if one is.
+fn first_due(delegations: &[Delegation], lease: u32, now: Moment) -> Option<Delegation>
+    ensures { result ≡ find (is_due lease now) delegations.now }
 {
     delegations
         .iter()
         .copied()
-        .find(|lent| lent.is_due_from(from, lease, now))
+        .find(|lent| lent.is_due(lease, now))
 }
 
 // The first of these delegations that has no number below this one, if there is one.

@@ -120,6 +120,10 @@ impl OpenTable {
     pub fn refuses(&self, owner: &OpenOwner, share: Share) -> bool
         ensures { result ≡ is_refused owner.now share self.now.opens }
     {
+        // No conflict with all of them means none with some; and a hash costs more than this look.
+        if !share.conflicts_with(self.counts.union()) {
+            return false;
+        }
         share.conflicts_with(self.share_of_others(owner))
     }
 

@@ -1,13 +1,14 @@
-use Rattle.std.proofs.Common.{◌≡◌, ◌≤◌, ◌-◌, ◌∷◌, ◌∙◌, Some, ap, arith, cond, find, is_some, length, map, subst, sym}
+use Rattle.std.proofs.Common.{◌≡◌, ◌≤◌, ◌∷◌, ◌∙◌, Some, ap, arith, find, length, map, subst, sym}
 use Rattle.std.specs.Prelude.{not}
 use Rattle.nfs_rows.proofs.Each.{drop_none}
 use Rattle.nfs_share.specs.Delegations.{StandInOrder, delegation_with_number, is_delegation_numbered, without_lent}
-use Rattle.nfs_share.specs.KeptDelegations.{RoomyDelegations, mark_lent, recalled_of}
+use Rattle.nfs_share.specs.KeptDelegations.{AreNotBefore, RoomyDelegations, mark_lent}
 use Rattle.nfs_share.specs.Tally.{IsTally, mark_of}
 use Rattle.nfs_share.proofs.AtMostOne.{none_passes}
 use Rattle.nfs_share.proofs.DelegationOrder.{filter_in_order}
+use Rattle.nfs_share.proofs.FirstRecalls.{not_before_filter}
 use Rattle.nfs_share.proofs.LentPlaces.{IsPoint, removed_at}
-use Rattle.nfs_share.proofs.LentTables.{fewer_recalled, lent_apart, lent_tally}
+use Rattle.nfs_share.proofs.LentTables.{lent_apart, lent_tally}
 use Rattle.nfs_share.proofs.delegation_table.DelegationTable.give_back.Goals as goal
 
 pub returns-in_default-clause-delegations : goal.returns-in_default-clause-delegations
@@ -49,8 +50,9 @@ invariant_of-self c =
       tally = subst (λ es. IsTally c.remove.new.self (map mark_lent es)) (sym gone)
           (c.remove.ensures.tally (map mark_lent left)
           (subst (λ b. IsTally s.holders (mark_of d.client b ∷ map mark_lent left)) (sym c.is_writing.ensures) (lent_tally s.holders ds (d ∷ left) apart t.tally)));
-      recalled_are = fewer_recalled (is_some d.recalled) s.recalled (recalled_of left) c.lowered-self-inside.result (t.recalled_are ∙ apart (λ e. is_some e.recalled))
-          (c.lowered-self-inside.ensures ∙ ap (λ b. cond b (s.recalled - 1) s.recalled) c.is_some.ensures) ∙ ap recalled_of (sym gone);
+      recalls = subst (AreNotBefore c.first_recall_left-self-inside.result) c.as_slice-2.ensures.value
+          (c.first_recall_left-self-inside.ensures (subst (AreNotBefore s.first_recall) (sym (c.as_slice-2.ensures.value ∙ gone))
+          (not_before_filter s.first_recall (λ d. not (is_delegation_numbered number d)) ds t.recalls)));
       in_list = omega (arith, t.in_list, c.remove-back.ensures.len, c.remove-back.ensures.capacity);
       in_tally = omega (arith, t.in_tally, c.remove.ensures.room);
     }

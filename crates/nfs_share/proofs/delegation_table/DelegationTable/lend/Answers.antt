@@ -1,9 +1,9 @@
-use Rattle.std.proofs.Common.{◌∷◌, ◌∙◌, ap, arith, is_some, map, subst, sym}
+use Rattle.std.proofs.Common.{◌∷◌, arith, map, subst, sym}
 use Rattle.nfs_share.specs.Delegations.{IsAboveLent, StandInOrder, first_delegation}
-use Rattle.nfs_share.specs.KeptDelegations.{RoomyDelegations, mark_lent, recalled_of}
+use Rattle.nfs_share.specs.KeptDelegations.{AreNotBefore, IsNotBefore, RoomyDelegations, mark_lent}
 use Rattle.nfs_share.specs.Tally.{IsTally, mark_of}
-use Rattle.nfs_share.proofs.Counting.{same_push}
 use Rattle.nfs_share.proofs.DelegationOrder.{push_in_order}
+use Rattle.nfs_share.proofs.EachElement.{all_push}
 use Rattle.nfs_share.proofs.LentTables.{few_lent, lent_push, lent_tally}
 use Rattle.nfs_share.proofs.delegation_table.DelegationTable.lend.Goals as goal
 
@@ -20,7 +20,7 @@ invariant_of-self c =
       order = subst StandInOrder (sym items) (push_in_order ds d above t.order);
       tally = subst (λ es. IsTally c.add.new.self (map mark_lent es)) (sym items)
           (lent_tally c.add.new.self (d ∷ ds) _ (lent_push ds d) (subst (λ b. IsTally c.add.new.self (mark_of c.args.client b ∷ map mark_lent ds)) c.is_writing.ensures tally));
-      recalled_are = t.recalled_are ∙ sym (ap recalled_of items ∙ same_push ds d (λ e. is_some e.recalled));
+      recalls = subst (AreNotBefore s.first_recall) (sym items) (all_push (λ e. IsNotBefore e.recalled s.first_recall) ds d t.recalls tt);
       in_list = omega (arith, t.in_list, c.push_reserved.ensures.len, c.push_reserved.ensures.capacity);
       in_tally = omega (arith, t.in_tally, c.add.ensures.room);
     }

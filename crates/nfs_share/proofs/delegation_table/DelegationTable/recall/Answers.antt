@@ -1,11 +1,11 @@
-use Rattle.std.proofs.Common.{◌≡◌, ◌∙◌, ap, arith, false, is_some, length, map, rules, subst, sym}
+use Rattle.std.proofs.Common.{◌≡◌, ◌∙◌, ap, arith, false, length, map, rules, subst, sym}
 use Rattle.nfs_rows.proofs.Each.{change_none}
 use Rattle.nfs_share.specs.Delegations.{StandInOrder, conflicts, with_recall}
-use Rattle.nfs_share.specs.KeptDelegations.{mark_lent, recalled_of}
+use Rattle.nfs_share.specs.KeptDelegations.{AreNotBefore, mark_lent}
 use Rattle.nfs_share.specs.Tally.{IsTally}
 use Rattle.nfs_share.proofs.DelegationOrder.{recalls_in_order}
 use Rattle.nfs_share.proofs.EachElement.{all_fail}
-use Rattle.nfs_share.proofs.LentTables.{counted, marks_recalled, recalls_length}
+use Rattle.nfs_share.proofs.LentTables.{marks_recalled, recalls_length}
 use Rattle.nfs_share.proofs.delegation_table.DelegationTable.recall.Goals as goal
 
 pub returns-then-not-conflicts : goal.returns-then-not-conflicts
@@ -23,7 +23,7 @@ invariant_of-self c =
     record {
       order = subst StandInOrder (sym items) (recalls_in_order c.args.file_use c.args.moment ds t.order);
       tally = subst (IsTally c.self.inside.holders) (sym (ap (map mark_lent) items ∙ marks_recalled c.args.file_use c.args.moment ds)) t.tally;
-      recalled_are = c.recalled_in-self-inside.ensures ∙ counted (λ d. is_some d.recalled) c.as_slice.result.now ∙ ap recalled_of c.as_slice.ensures.value;
+      recalls = subst (AreNotBefore c.first_recall_in-self-inside.result) c.as_slice.ensures.value c.first_recall_in-self-inside.ensures;
       in_list = omega (arith, t.in_list, c.recall_each.ensures.capacity, ap length items, recalls_length c.args.file_use c.args.moment ds);
       in_tally = t.in_tally;
     }

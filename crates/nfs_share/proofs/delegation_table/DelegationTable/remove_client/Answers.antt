@@ -1,13 +1,13 @@
-use Rattle.std.proofs.Common.{◌≡◌, ◌∙◌, ap, arith, false, is_some, map, rules, subst, sym}
+use Rattle.std.proofs.Common.{◌≡◌, ◌∙◌, ap, arith, false, map, rules, subst, sym}
 use Rattle.std.specs.Prelude.{not}
 use Rattle.std.proofs.lemmas.Fn.{filter_same}
 use Rattle.nfs_rows.proofs.Each.{drop_none}
 use Rattle.nfs_share.specs.Delegations.{StandInOrder, is_lent_to, without_lent}
-use Rattle.nfs_share.specs.KeptDelegations.{RoomyDelegations, mark_lent, recalled_of}
+use Rattle.nfs_share.specs.KeptDelegations.{AreNotBefore, RoomyDelegations, mark_lent}
 use Rattle.nfs_share.specs.Tally.{IsTally}
 use Rattle.nfs_share.proofs.DelegationOrder.{filter_in_order}
 use Rattle.nfs_share.proofs.EachElement.{all_fail}
-use Rattle.nfs_share.proofs.LentTables.{counted, marks_left}
+use Rattle.nfs_share.proofs.LentTables.{marks_left}
 use Rattle.nfs_share.proofs.delegation_table.DelegationTable.remove_client.Goals as goal
 
 pub returns-then-not-has_client-clause-delegations : goal.returns-then-not-has_client-clause-delegations
@@ -26,7 +26,7 @@ invariant_of-self c =
     record {
       order = subst StandInOrder (sym gone) (filter_in_order (λ d. not (is_lent_to client d)) ds t.order);
       tally = subst (IsTally c.remove_client.new.self) (marks_left client ds ∙ ap (map mark_lent) (sym gone)) (c.remove_client.ensures.tally (map mark_lent ds) t.tally);
-      recalled_are = c.recalled_in-self-inside.ensures ∙ counted (λ d. is_some d.recalled) c.as_slice.result.now ∙ ap recalled_of c.as_slice.ensures.value;
+      recalls = subst (AreNotBefore c.first_recall_in-self-inside.result) c.as_slice.ensures.value c.first_recall_in-self-inside.ensures;
       in_list = omega (arith, t.in_list, c.retain.ensures.bound, c.retain.ensures.capacity);
       in_tally = omega (arith, t.in_tally, c.remove_client.ensures.room);
     }
