@@ -105,7 +105,8 @@ impl Owners {
         ensures left { IsTrue result
             → length (without_owner (owner_seen name.entry) self.now.owners) < OWNER_LIMIT }
     {
-        self.is_known(name) || self.owners.len() < OWNER_LIMIT
+        // A hash costs more than this look.
+        self.owners.len() < OWNER_LIMIT || self.is_known(name)
     }
 
     // Whether the owner with this name is known.
