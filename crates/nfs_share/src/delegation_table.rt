@@ -1,4 +1,5 @@
 ghost use Rattle.std.specs.Prelude.{◌≡◌, ◌≤◌, ◌<◌, ◌+◌, [], ◌∷◌, ◌++◌, ◌&&◌, IfOk, IsFalse, IsOk, OnErr, OnOk, filter, find, length, nat_le, nat_lt, not, true, false};
+ghost use Rattle.std.specs.Option.{option_copied};
 ghost use Rattle.std.specs.List.Sorted.{IsPartitionPoint};
 ghost use Rattle.nfs_share.specs.Delegations.{IsAboveLent, StandInOrder, IsNextDueOf, conflicts, delegation_named_by, delegation_with_number, first_delegation, has_conflict, has_delegation, is_delegation_numbered, is_due, is_lent_to, is_of_user, lesser, with_recalls, without_lent};
 ghost use Rattle.nfs_share.specs.KeptDelegations.{AreNotBefore, is_writing};
@@ -61,6 +62,13 @@ impl DelegationTable {
     pub fn numbered(&self, number: u32) -> Option<Delegation>
         ensures { result ≡ delegation_with_number number self.now.delegations }
     {
+        self.with_number(number).copied()
+    }
+
+    // The delegation with this number, if there is one.
+    fn with_number(&self, number: u32) -> Option<&Delegation>
+        ensures { option_copied result ≡ delegation_with_number number self.now.delegations }
+    {
         // They stand in the order of their numbers.
         let lent = first_from(self.lent.as_slice(), number)?;
         if lent.number == number {
@@ -71,11 +79,11 @@ impl DelegationTable {
     }
 
     /// The delegation that the stateid names, no matter its seqid, if there is one.
-    pub fn named_by(&self, stateid: Stateid) -> Option<Delegation>
-        ensures { result ≡ delegation_named_by stateid self.now.delegations }
+    pub fn named_by(&self, stateid: Stateid) -> Option<&Delegation>
+        ensures { option_copied result ≡ delegation_named_by stateid self.now.delegations }
     {
         let _lent = &self.lent;
-        let lent = self.numbered(stateid.number)?;
+        let lent = self.with_number(stateid.number)?;
         if lent.is_of_client(stateid.client) {
             Some(lent)
         } else {
@@ -274,12 +282,12 @@ fn first_due(delegations: &[Delegation], lease: u32, now: Moment) -> Option<Dele
 }
 
 // The first of these delegations that has no number below this one, if there is one.
-fn first_from(delegations: &[Delegation], number: u32) -> Option<Delegation>
+fn first_from(delegations: &[Delegation], number: u32) -> Option<&Delegation>
     requires { StandInOrder delegations.now }
-    ensures { result ≡ find (λ d. nat_le number d.number) delegations.now }
+    ensures { option_copied result ≡ find (λ d. nat_le number d.number) delegations.now }
 {
     let at = place_from(delegations, number);
-    delegations.get(at).copied()
+    delegations.get(at)
 }
 
 // How many of these delegations have a number below this one, by halving.

@@ -281,6 +281,13 @@ impl FileShare {
     pub fn delegation_named_by(&self, stateid: Stateid) -> Option<Delegation>
         ensures { result ≡ delegation_named_by stateid self.now.delegations }
     {
+        self.delegation_named(stateid).copied()
+    }
+
+    /// The delegation that the stateid names, no matter its seqid, if there is one, where it is kept.
+    pub fn delegation_named(&self, stateid: Stateid) -> Option<&Delegation>
+        ensures { option_copied result ≡ delegation_named_by stateid self.now.delegations }
+    {
         self.delegations.named_by(stateid)
     }
 

@@ -25,7 +25,7 @@ pub use file_share::FileShare;
 pub use laws::{delegations_stay_apart, delegations_stay_single, opens_stay_compatible};
 pub use modes::Modes;
 pub use open_state::OpenState;
-pub use opens::{DelegationFound, OpenFound, Opens};
+pub use opens::{DelegationFound, DelegationRef, OpenFound, Opens};
 pub use share::Share;
 pub use share_error::ShareError;
 pub use shares::{SHARE_COUNT, Shares};

@@ -3,7 +3,7 @@ ghost use Rattle.std.specs.List.{list_any};
 ghost use Rattle.std.specs.Option.{option_copied};
 ghost use Rattle.nfs_share.specs.AllOpens.{HasLendingRoomAt, HasRoomAt, IsAboveAllLent, IsNewestAt, IsNextDue, at_node, delegation_count, delegation_named_in, delegation_numbered_in, delegations_in, delegations_of, lent_at, lesser_at, named_in, open_count, opens_in, opens_of, with_delegations, with_opens};
 ghost use Rattle.nfs_share.specs.Delegations.{can_delegate, first_delegation, has_conflict, has_delegation, is_delegation_numbered, is_lent_to, is_stateid_of_delegation, with_recalls, without_lent};
-ghost use Rattle.nfs_share.specs.OpenFound.{delegation_seen, open_seen};
+ghost use Rattle.nfs_share.specs.OpenFound.{delegation_ref_seen, delegation_seen, open_seen};
 ghost use Rattle.nfs_share.specs.Opens.{after_downgrade, is_denied, is_numbered, is_of, is_of_client, is_refused, is_stateid_of, open_of, open_with_number, with_each, with_next_seqid, with_opening, without};
 
 use crate::numbers::{close_in, give_back_in, grant_in, reserve_delegation_number, reserve_number};
@@ -40,6 +40,13 @@ pub struct OpenFound<'a> {
 pub struct DelegationFound {
     pub node: u32,
     pub state: Delegation,
+}
+
+/// A delegation where it is kept, and the node of its file.
+#[derive(Clone, Copy)]
+pub struct DelegationRef<'a> {
+    pub node: u32,
+    pub state: &'a Delegation,
 }
 
 impl Model for Opens {
@@ -257,9 +264,21 @@ impl Opens {
         ensures { option_map delegation_seen result
             ≡ delegation_named_in stateid (delegations_in self.now) }
     {
+        let found = self.delegation_named(stateid)?;
+        Some(DelegationFound {
+            node: found.node,
+            state: *found.state,
+        })
+    }
+
+    /// The delegation that the stateid names, no matter its seqid, if there is one, where it is kept.
+    pub fn delegation_named(&self, stateid: Stateid) -> Option<DelegationRef<'_>>
+        ensures { option_map delegation_ref_seen result
+            ≡ delegation_named_in stateid (delegations_in self.now) }
+    {
         let node = self.lent.find(stateid.number)?;
         let file = self.files.get(node as usize)?;
-        lent_at(node, file.delegation_named_by(stateid))
+        kept_at(node, file.delegation_named(stateid))
     }
 
     /// The delegation with this number, if there is one.
@@ -500,6 +519,16 @@ fn found_at(node: u32, open: Option<&OpenState>) -> Option<OpenFound<'_>>
 {
     match open {
         Some(state) => Some(OpenFound { node, state }),
+        None => None,
+    }
+}
+
+// The delegation, if there is one, as one of this node's file, where it is kept.
+fn kept_at(node: u32, lent: Option<&Delegation>) -> Option<DelegationRef<'_>>
+    ensures { option_map delegation_ref_seen result ≡ lent_at node (option_copied lent.entry) }
+{
+    match lent {
+        Some(state) => Some(DelegationRef { node, state }),
         None => None,
     }
 }
