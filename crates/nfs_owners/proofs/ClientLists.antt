@@ -239,7 +239,7 @@ records_empty = record {
 }
 
 -- a record that is found is the one with its id
-found_of_id : (test : ClientRecord → Bool) (records : List ClientRecord) (r : ClientRecord) → IsDistinct have_same_id records → find test records ≡ Some r → find (is_of r.id) records ≡ Some r
+pub found_of_id : (test : ClientRecord → Bool) (records : List ClientRecord) (r : ClientRecord) → IsDistinct have_same_id records → find test records ≡ Some r → find (is_of r.id) records ≡ Some r
 unfolding IsDistinct
 found_of_id test [] r distinct found = absurd cc
 found_of_id test (s ∷ records) r distinct found =

@@ -16,6 +16,7 @@ use Rattle.nfs_owners.specs.Registry.{after_mark, have_same_id, is_of, is_of_cli
 use Rattle.nfs_owners.specs.declared.client_record.ClientRecord.{ClientRecord}
 use Rattle.nfs_owners.specs.declared.client_record.PathMark.{PathMark}
 use Rattle.nfs_owners.specs.laws.Marks.{distinct_mapped, same_record}
+use Rattle.nfs_owners.proofs.ClientLists.{found_of_id}
 use Rattle.nfs_owners.proofs.Lists.{all_find, both_false, distinct_filter, distinct_none, distinct_push, neither, none_each}
 
 abbrev Rows : Type 0
@@ -304,6 +305,15 @@ pub without_its_id : (id : List ℕ) (records : List ClientRecord) (r : ClientRe
     → without_number r.state.client.number records ≡ without_id id records
 without_its_id id records r names clients found =
     filter_agree (is_of_client r.state.client.number) (is_of id) records (one_with_id id records r names clients (sym found))
+
+-- So is that of a client's number, where it has the id.
+pub without_its_number : (id : List ℕ) (number : ℕ) (records : List ClientRecord) (r : ClientRecord) → IsDistinct have_same_id records → IsDistinct have_same_client records
+    → Some r ≡ find (is_of_client number) records → is_of id r ≡ true → without_number number records ≡ without_id id records
+without_its_number id number records r names clients found here =
+    let its : r.state.client.number ≡ number =
+    eqb-true r.state.client.number number (all_find (λ s. s ≡ s) (is_of_client number) records r (sym found) (all_of (λ s. s ≡ s) (λ s. refl) records)).1 in
+    let named = subst (λ i. find (is_of i) records ≡ Some r) ((bytes_eq-Decides r.id id).0 here) (found_of_id (is_of_client number) records r names (sym found)) in
+    subst (λ n. without_number n records ≡ without_id id records) its (without_its_id id records r names clients (sym named))
 
 -- Where the record with an id is gone, none has the id, nor the client's number if no other one had it.
 

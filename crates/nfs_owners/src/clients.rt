@@ -205,7 +205,8 @@ impl Clients {
             ClientChange::Confirms(record)
             | ClientChange::Refreshes(record)
             | ClientChange::Replaces(record, _) => {
-                self.unconfirmed.remove_id(record.id.as_slice());
+                let number = record.state.client.number;
+                self.unconfirmed.remove_id(record.id.as_slice(), number);
                 self.confirmed.put(record);
             }
         }

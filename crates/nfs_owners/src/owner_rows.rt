@@ -4,7 +4,7 @@ ghost use Rattle.nfs_rows.specs.Rows.{IsAbove, is_numbered, newest_of, without};
 ghost use Rattle.nfs_owners.specs.Closers.{AreClosers, closed_at, closed_by, with_at};
 ghost use Rattle.nfs_owners.specs.Kept.{closes};
 ghost use Rattle.nfs_owners.specs.Owner.{has_client, owner_of, with_request};
-ghost use Rattle.nfs_owners.specs.OwnerRows.{IsNumberedAnew, IsRowOf, confirmed, owners_in, with_state_at};
+ghost use Rattle.nfs_owners.specs.OwnerRows.{IsNumberedAnew, IsRowOf, confirmed, name_hash, owners_in, with_state_at};
 ghost use Rattle.nfs_owners.specs.Owners.{AreOwners, without_owners_of};
 ghost use Rattle.nfs_owners.specs.StateOwner.{owner_seen};
 ghost use Rattle.nfs_owners.specs.declared.owner.TheConstants.{OWNER_LIMIT};
@@ -29,14 +29,16 @@ pub(crate) struct OwnerRows {
 
 impl Model for OwnerRows {
     ghost use Rattle.std.specs.List.{AllByRecursion};
-    ghost use Rattle.nfs_rows.specs.Rows.{RoomyRows};
     ghost use Rattle.nfs_owners.specs.Closers.{AreClosers, closed_at};
-    ghost use Rattle.nfs_owners.specs.OwnerRows.{IsFiled};
-    ghost use Rattle.nfs_owners.specs.declared.owner.Owner.{Owner};
+    ghost use Rattle.nfs_owners.specs.OwnerRows.{IsFiled, RoomyOwnerRows};
 
-    ghost Value = { RoomyRows Owner };
+    ghost Value = { RoomyOwnerRows };
 
-    ghost view = { λ o. o.rows };
+    ghost view = { λ o. record {
+      rows = o.rows.rows;
+      room = o.rows.room;
+      names = o.names;
+    } };
 
     ghost invariant = { λ o. AllByRecursion (IsFiled o.names) o.rows.rows
         × AreClosers o.closers (closed_at o.rows.rows) };
@@ -79,11 +81,24 @@ impl OwnerRows {
         requires { AreOwners (owners_in self.now.rows) }
         ensures { IsRowOf (owner_seen name.entry) self.now.rows result }
     {
+        self.row_of_hash(self.hash(name), name)
+    }
+
+    // The hash of an owner's name.
+    pub fn hash(&self, name: OwnerRef<'_>) -> u64
+        ensures { result ≡ name_hash self.now.names (owner_seen name.entry) }
+    {
+        name.hash(self.names)
+    }
+
+    // The number of the row of the owner with this name, whose hash is at hand, if it is known.
+    pub fn row_of_hash(&self, hash: u64, name: OwnerRef<'_>) -> Option<u64>
+        requires owners { AreOwners (owners_in self.now.rows) }
+        requires hash { hash ≡ name_hash self.now.names (owner_seen name) }
+        ensures { IsRowOf (owner_seen name.entry) self.now.rows result }
+    {
         let _rows = self.rows.len();
-        match self
-            .rows
-            .find_named(name.hash(self.names), |owner| owner.has_name(name))
-        {
+        match self.rows.find_named(hash, |owner| owner.has_name(name)) {
             Some((row, _)) => Some(row),
             None => None,
         }
@@ -119,16 +134,16 @@ impl OwnerRows {
         Ok(())
     }
 
-    // Adds a row with this owner. It takes no memory.
-    pub fn add(&mut self, owner: Owner)
+    // Adds a row with this owner, whose name has this hash. It takes no memory.
+    pub fn add(&mut self, hash: u64, owner: Owner)
         requires room { 0 < self.old.room }
+        requires hash { hash ≡ name_hash self.old.names owner.name }
         requires few { length self.old.rows ≤ OWNER_LIMIT }
         ensures owners { owners_in self.new.rows ≡ owners_in self.old.rows ++ owner ∷ [] }
         ensures room { self.old.room ≡ self.new.room + 1 }
     {
         let row = next_row(&mut self.rows, &mut self.closers);
         self.closers.note(owner.state.kept.closed(), row);
-        let hash = owner.name.as_ref().hash(self.names);
         self.rows.add(row, hash, owner.name.client.number, owner);
     }
 

@@ -142,9 +142,11 @@ impl Owners {
         ensures room { self.old.room ≤ self.new.room + 1 }
         ensures known { IsTrue (is_known name self.old.owners) → self.new.room ≡ self.old.room }
     {
-        match self.owners.row_of(name.as_ref()) {
+        let owner = name.as_ref();
+        let hash = self.owners.hash(owner);
+        match self.owners.row_of_hash(hash, owner) {
             Some(row) => self.owners.keep_at(row, number, kept),
-            None => self.owners.add(Owner::new(name, number, kept)),
+            None => self.owners.add(hash, Owner::new(name, number, kept)),
         }
     }
 

@@ -1,6 +1,7 @@
 ghost use Rattle.std.specs.Prelude.{◌≡◌, ◌<◌, [], ◌∷◌, ◌++◌, IsOk, IsFalse, OnOk, find, map};
 ghost use Rattle.std.specs.List.{IsDistinct, list_any};
 ghost use Rattle.std.specs.Option.{option_copied};
+ghost use Rattle.nfs_rows.specs.NameHash.{hash_of};
 ghost use Rattle.nfs_rows.specs.Rows.{is_numbered, without};
 ghost use Rattle.nfs_owners.specs.Records.{have_same_client};
 ghost use Rattle.nfs_owners.specs.Registry.{after_mark, is_of, is_of_client, takes_number, without_id, without_number};
@@ -35,6 +36,7 @@ impl Model for Records {
     ghost view = { λ r. record {
       records = records_in r.rows.rows;
       room = r.room;
+      ids = r.ids;
     } };
 
     ghost invariant = { λ r. AreRows r.ids r.rows r.by_client r.newest r.room };
@@ -58,7 +60,19 @@ impl Records {
     pub fn of_id(&self, id: &[u8]) -> Option<&ClientRecord>
         ensures { option_copied result ≡ find (is_of id.now) self.now.records }
     {
+        // A hash costs more than this look.
+        if self.rows.is_empty() {
+            return None;
+        }
         let hash = hash_of(self.ids, 0, 0, id);
+        self.of_hash(hash, id)
+    }
+
+    // The record with this id, whose hash is at hand, if there is one.
+    fn of_hash(&self, hash: u64, id: &[u8]) -> Option<&ClientRecord>
+        requires { hash ≡ hash_of self.now.ids 0 0 id.now }
+        ensures { option_copied result ≡ find (is_of id.now) self.now.records }
+    {
         match self.rows.find_named(hash, |record| record.is_of(id)) {
             Some((_, record)) => Some(record),
             None => None,
@@ -99,13 +113,16 @@ impl Records {
             (takes_number newcomer.id newcomer.state.client.number) self.old.records) }
         ensures { self.new.records ≡ without_id newcomer.id self.old.records ++ newcomer ∷ [] }
     {
-        self.remove_id(newcomer.id.as_slice());
-        self.push(newcomer);
+        let id = newcomer.id.as_slice();
+        let hash = hash_of(self.ids, 0, 0, id);
+        self.remove_hash(hash, id);
+        self.push(hash, newcomer);
     }
 
-    // Adds the record at the end, where there has to be room.
-    fn push(&mut self, newcomer: ClientRecord)
+    // Adds the record at the end, where there has to be room. The hash of its id is at hand.
+    fn push(&mut self, hash: u64, newcomer: ClientRecord)
         requires room { 0 < self.old.room }
+        requires hash { hash ≡ hash_of self.old.ids 0 0 newcomer.id }
         requires name { IsFalse (list_any (is_of newcomer.id) self.old.records) }
         requires client { IsFalse
             (list_any (is_of_client newcomer.state.client.number) self.old.records) }
@@ -114,18 +131,34 @@ impl Records {
         self.room -= 1;
         self.newest += 1;
         let number = newcomer.state.client.number;
-        let hash = hash_of(self.ids, 0, 0, newcomer.id.as_slice());
         self.rows.add(self.newest, hash, number, newcomer);
         let _ = self.by_client.insert(number, self.newest);
     }
 
-    /// Removes the record with this id.
-    pub fn remove_id(&mut self, id: &[u8])
+    /// Removes the record with this id. Where it is that of the client with this number, no hash is needed.
+    pub fn remove_id(&mut self, id: &[u8], number: u32)
         ensures records { self.new.records ≡ without_id id.now self.old.records }
         ensures room { self.new.room ≡ self.old.room }
     {
         let _rows = &self.rows;
-        if let Some(record) = self.of_id(id) {
+        match self.of_client(number) {
+            Some(record) if record.is_of(id) => self.remove_client(number),
+            _ => {
+                let hash = hash_of(self.ids, 0, 0, id);
+                self.remove_hash(hash, id);
+            }
+        }
+    }
+
+    // Removes the record with this id, whose hash is at hand.
+    fn remove_hash(&mut self, hash: u64, id: &[u8])
+        requires { hash ≡ hash_of self.old.ids 0 0 id.now }
+        ensures records { self.new.records ≡ without_id id.now self.old.records }
+        ensures room { self.new.room ≡ self.old.room }
+        ensures ids { self.new.ids ≡ self.old.ids }
+    {
+        let _rows = &self.rows;
+        if let Some(record) = self.of_hash(hash, id) {
             let number = record.state.client.number;
             self.remove_client(number);
         }
@@ -135,6 +168,7 @@ impl Records {
     pub fn remove_client(&mut self, number: u32)
         ensures records { self.new.records ≡ without_number number self.old.records }
         ensures room { self.new.room ≡ self.old.room }
+        ensures ids { self.new.ids ≡ self.old.ids }
     {
         if let Some(row) = self.by_client.swap_remove(&number) {
             remove_row(&mut self.rows, row);

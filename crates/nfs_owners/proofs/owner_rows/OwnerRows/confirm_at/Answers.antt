@@ -1,9 +1,8 @@
 use Rattle.std.proofs.Common.{◌∙◌, ap, refl, subst, sym}
 use Rattle.std.specs.List.{AllByRecursion}
-use Rattle.nfs_rows.specs.Rows.{RoomyRows}
 use Rattle.nfs_rows.proofs.Callers.{with_change_none, with_value_is}
 use Rattle.nfs_owners.specs.Closers.{AreClosers, closed_at}
-use Rattle.nfs_owners.specs.OwnerRows.{IsFiled, confirmed, with_state_at}
+use Rattle.nfs_owners.specs.OwnerRows.{IsFiled, RoomyOwnerRows, confirmed, with_state_at}
 use Rattle.nfs_owners.specs.declared.owner.Owner.{Owner}
 use Rattle.nfs_owners.specs.declared.owner_rows.OwnerRows.TheInside.{Inside}
 use Rattle.nfs_owners.proofs.Closing.{closed_same}
@@ -31,7 +30,7 @@ invariant_of-self c =
 pub returns-clause-rows : goal.returns-clause-rows
 returns-clause-rows c =
     let rows = c.self.inside.rows.rows in
-    let after = ap (λ (o : RoomyRows Owner). with_state_at confirmed c.args.row o.rows) c.self.view_is in
+    let after = ap (λ (o : RoomyOwnerRows). with_state_at confirmed c.args.row o.rows) c.self.view_is in
     elim c.match-find_mut.branch [
       | in-Some w ↦
           ap (λ (s : Inside). s.rows.rows) w.self-inside-is

@@ -1,11 +1,10 @@
 use Rattle.std.proofs.Common.{◌≡◌, ◌∙◌, ap, not, rules, subst, sym}
 use Rattle.std.specs.List.{AllByRecursion}
-use Rattle.nfs_rows.specs.Rows.{RoomyRows, is_of_client, without}
+use Rattle.nfs_rows.specs.Rows.{is_of_client, without}
 use Rattle.nfs_rows.proofs.Each.{all_filter}
 use Rattle.nfs_owners.specs.Closers.{AreClosers, closed_at}
 use Rattle.nfs_owners.specs.Owner.{has_client}
-use Rattle.nfs_owners.specs.OwnerRows.{IsFiled}
-use Rattle.nfs_owners.specs.declared.owner.Owner.{Owner}
+use Rattle.nfs_owners.specs.OwnerRows.{IsFiled, RoomyOwnerRows}
 use Rattle.nfs_owners.proofs.Closing.{empty_nothing}
 use Rattle.nfs_owners.proofs.Filing.{client_rows, same_without}
 use Rattle.nfs_owners.proofs.owner_rows.OwnerRows.remove_client.Goals as goal
@@ -29,4 +28,4 @@ returns-clause-rows c =
     let test = has_client c.args.client in
     c.remove_of_client.ensures.rows test (λ shown answer says. search rules)
     ∙ same_without (is_of_client c.args.client.number test) (λ r. test r.value) rows (client_rows c.self.inside.names c.args.client rows c.self.invariant.0)
-    ∙ ap (λ (o : RoomyRows Owner). without (λ r. test r.value) o.rows) c.self.view_is
+    ∙ ap (λ (o : RoomyOwnerRows). without (λ r. test r.value) o.rows) c.self.view_is
