@@ -8,8 +8,8 @@ use Rattle.nfs_rows.specs.NameHash.{hash_of}
 use Rattle.nfs_owners.specs.Registry.{have_same_id, is_of_client}
 use Rattle.nfs_owners.specs.declared.client_record.ClientRecord.{ClientRecord}
 
--- The records of one kind in the order in which they were added, how many more fit without taking memory, and the seed of
--- the hashes of their ids.
+-- The records of one kind in the order in which they were added, how many more fit without taking memory, and the seed
+-- of the hashes of their ids.
 pub record RoomyRecords : Type 0 where
   pub records : List ClientRecord
   pub room : ℕ
