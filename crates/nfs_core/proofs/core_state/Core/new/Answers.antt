@@ -7,7 +7,7 @@ use Rattle.nfs_core.proofs.RecallsLeft.{Left-new}
 use Rattle.nfs_core.proofs.core_state.Core.new.Goals as goal
 
 pub returns-clause-lawful : goal.returns-clause-lawful
-returns-clause-lawful c = Lawful-new c.new-journal.result.history (stored_of c.in_ok-tables.field-0) (search rules) (search rules)
+returns-clause-lawful c = Lawful-new c.new-journal.result.history (stored_of c.in_ok-tables.tables) (search rules) (search rules)
 
 pub invariant_of-result : goal.invariant_of-result
 invariant_of-result c =
