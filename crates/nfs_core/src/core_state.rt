@@ -39,7 +39,6 @@ use std::alloc::Global;
 use std::marker::Model;
 
 /// The state of a server (RFC 7530, section 9), and the journal of the changes that led to it.
-#[derive(Drop)]
 pub struct Core {
     alloc: Global,
     held: Holdings,
@@ -60,6 +59,14 @@ impl Model for Core {
         Lawful c.held.store.journal.history (state_of c.held.store.tables)
         × OwnersAgree c.held.store
         × AreLeftOf c.held.store.journal.history (left_of c.held.recalls) };
+}
+
+// By hand, so that it is one step to let a core go, and not one for each part of its tables.
+impl Drop for Core {
+    fn drop(self) {
+        let Core { alloc: _, held } = self;
+        drop(held);
+    }
 }
 
 impl Core {
@@ -87,11 +94,12 @@ impl Core {
         ensures lawful { IfOk result (λ core. IsLawful core) }
         ensures error { IfErr result (λ e. e ≡ CoreError.Memory) }
     {
-        let tables = Tables::of_tree(alloc, tree, seeds)?;
-        let Ok(tree) = tree.clone() else {
+        // The tables come last: nothing has to let them go then.
+        let Ok(copy) = tree.clone() else {
             return Err(CoreError::Memory);
         };
-        let journal = Journal::new(alloc, tree, lease, epoch, policy);
+        let tables = Tables::of_tree(alloc, tree, seeds)?;
+        let journal = Journal::new(alloc, copy, lease, epoch, policy);
         let store = Store { tables, journal };
         let recalls = PendingRecalls::new(alloc);
         Ok(Core {

@@ -56,13 +56,16 @@ impl Tables {
     pub fn of_tree(alloc: Global, tree: &Tree, seeds: Seeds) -> Result<Tables, AllocError>
         ensures { IfOk result (λ t. stored_of t ≡ empty_store tree.now.nodes) }
     {
+        let files = StoredFiles::of_tree(alloc, tree)?;
+        let opens = Opens::new(alloc, tree.len(), seeds.owners)?;
+        let locks = Locks::new(alloc, tree.len(), seeds.owners)?;
         Ok(Tables {
             clients: Clients::new(alloc, seeds.ids),
             owners: Owners::new(alloc, seeds.owners),
-            opens: Opens::new(alloc, tree.len(), seeds.owners)?,
-            locks: Locks::new(alloc, tree.len(), seeds.owners)?,
+            opens,
+            locks,
             numbers: Numbers::new(),
-            files: StoredFiles::of_tree(alloc, tree)?,
+            files,
         })
     }
 
