@@ -1,4 +1,4 @@
-ghost use Rattle.std.specs.Prelude.{◌≡◌, ◌<◌, ◌≤◌, [], IsOk, OnOk, Some, length, slice_get};
+ghost use Rattle.std.specs.Prelude.{◌≡◌, ◌<◌, ◌≤◌, ◌/◌, ◌&&◌, [], IsOk, None, OnOk, Some, length, nat_eq, nat_lt, slice_get};
 ghost use Rattle.nfs_nodes.specs.Nodes.{Forgets, HasAt, node_of};
 
 use indexmap::IndexMap;
@@ -53,7 +53,10 @@ impl Nodes {
     }
 
     /// Whether there is no room, and fewer than half of the numbers are those of so many states.
-    pub fn is_full_of_others(&self, states: usize) -> bool {
+    pub fn is_full_of_others(&self, states: usize) -> bool
+        ensures { result
+            ≡ (nat_eq self.now.room 0 && nat_lt states (length self.now.entries / 2)) }
+    {
         let len = self.nodes.len();
         self.nodes.capacity() == len && states < len / 2
     }
@@ -79,6 +82,7 @@ impl Nodes {
     /// Removes the number, if it is at the node.
     pub fn remove(&mut self, number: u32, node: u32)
         ensures nodes { Forgets number node self.old self.new }
+        ensures gone { node_of number self.old ≡ Some node → node_of number self.new ≡ None }
         ensures room { self.old.room ≤ self.new.room }
     {
         if self.find(number) == Some(node) {

@@ -1,4 +1,4 @@
-ghost use Rattle.std.specs.Prelude.{◌≡◌, ℕ, None, Option, nat_eq, true};
+ghost use Rattle.std.specs.Prelude.{◌≡◌, ℕ, None, Option, false, nat_eq, true};
 ghost use Rattle.indexmap.specs.IndexMap.{get};
 ghost use Rattle.nfs_owners.specs.Closers.{AreClosers, nothing, with_at};
 
@@ -10,7 +10,8 @@ use std::alloc::Global;
 pub(crate) struct Closers {
     // The row's number at that of the state.
     pub index: IndexMap<u32, u64>,
-    // The index may lack some: two rows had closed one state, or there was no room in it. So each row has to be looked at.
+    // The index may lack some: two rows had closed one state, there was no room in it, or the rows were numbered anew. So
+    // each row has to be looked at.
     pub partial: bool,
 }
 
@@ -67,10 +68,11 @@ impl Closers {
 
     // The index begins anew where no rows are left.
     pub fn settle(&mut self, is_empty: bool)
-        ensures { (f : ℕ → Option ℕ) → (is_empty ≡ true → f ≡ nothing)
+        ensures closers { (f : ℕ → Option ℕ) → (is_empty ≡ true → f ≡ nothing)
             → AreClosers self.old f → AreClosers self.new f }
+        ensures anew { is_empty ≡ true → self.new.partial ≡ false }
     {
-        if is_empty {
+        if is_empty && self.partial {
             self.index.clear();
             self.partial = false;
         }

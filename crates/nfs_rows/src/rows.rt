@@ -20,7 +20,7 @@ pub struct Rows<T> {
     places: Vec<Place>,
     // The number of the row with a hash, as long as no two rows had one.
     index: IndexMap<u64, u64>,
-    // Two rows have had one hash, and there have been rows since.
+    // Two rows have had one hash, or the rows were numbered anew, and there have been rows since.
     clashed: bool,
     // How many additions were promised to take no memory.
     room: usize,
@@ -193,7 +193,8 @@ impl<T> Rows<T> {
         Some(value)
     }
 
-    /// Removes the rows of this client that pass the test. It looks at no row of another client.
+    /// Removes the rows of this client that pass the test. It goes through all places, and looks at no value of another
+    /// client's.
     pub fn remove_of_client<F: Fn(&T) -> bool>(&mut self, client: u32, test: F)
     where
         T: Drop,

@@ -96,7 +96,7 @@ fn forget_other(files: &[FileShare], nodes: &mut Nodes, place: usize)
     }
 }
 
-// Whether the node has a open with this number.
+// Whether the node has an open with this number.
 fn has_number_at(files: &[FileShare], node: u32, number: u32) -> bool
     ensures { result ≡ list_any (is_numbered number) (opens_of node (opens_in files.now)) }
 {

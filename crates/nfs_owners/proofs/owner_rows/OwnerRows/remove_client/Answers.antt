@@ -18,7 +18,7 @@ invariant_of-self c =
     let gone : left ≡ without (λ r. test r.value) rows =
     c.remove_of_client.ensures.rows test (λ shown answer says. search rules) ∙ same_without (is_of_client c.args.client.number test) (λ r. test r.value) rows (client_rows names c.args.client rows c.self.invariant.0) in (
       subst (AllByRecursion (IsFiled names)) (sym gone) (all_filter (IsFiled names) (λ r. not (test r.value)) rows c.self.invariant.0),
-      c.settle.ensures (closed_at left) (λ empty. sym (empty_nothing left (sym c.is_empty.ensures ∙ empty)))
+      c.settle.ensures.closers (closed_at left) (λ empty. sym (empty_nothing left (sym c.is_empty.ensures ∙ empty)))
           (subst (AreClosers c.forget_client.new.closers) (ap closed_at (sym gone)) (c.forget_client.ensures c.self.invariant.1)),
     )
 
