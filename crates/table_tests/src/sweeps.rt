@@ -48,8 +48,12 @@ fn introduction(alloc: Global, id: &[u8]) -> Option<Op>
 /// was refused.
 fn start(alloc: Global, seeds: Seeds) -> Option<LeasedCore<Renewing>> {
     let tree = Tree::from_toml(alloc, "file = [{ path = \"a\" }]").ok()?;
-    let core = Core::new(alloc, &tree, 90, 7, tree.policy(), seeds).ok()?;
-    let leases = PlainLeases::new(alloc, 90).ok()?;
+    let Ok(leases) = PlainLeases::new(alloc, 90) else {
+        return None;
+    };
+    let Ok(core) = Core::new(alloc, &tree, 90, 7, tree.policy(), seeds) else {
+        return None;
+    };
     let moment = Moment::new(100).unwrap();
     Some(LeasedCore::new(core, Renewing { leases, moment }))
 }
