@@ -33,9 +33,13 @@ fn serve_links<R: Threads + Wait + Sleeper + RandomSource + Sync>(
     links: u32,
 ) -> Option<Outcome> {
     let tree = Tree::from_toml(alloc, "file = [{ path = \"a\" }]").ok()?;
-    let seeds = Seeds::new(rt).ok()?;
-    let core = Core::new(alloc, &tree, 90, 7, tree.policy(), seeds).ok()?;
     let opened = Opened::new(alloc, links).ok()?;
+    let Ok(seeds) = Seeds::new(rt) else {
+        return None;
+    };
+    let Ok(core) = Core::new(alloc, &tree, 90, 7, tree.policy(), seeds) else {
+        return None;
+    };
     serve_links_in::<Brand, R>(rt, alloc, opened, core, &tree)
 }
 
