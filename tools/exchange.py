@@ -91,7 +91,7 @@ def credential_of(head):
 
 
 class Named(Plain):
-    """Sends a row to a server that goes on. `word` is what the ids of the row's clients have, and no other row's."""
+    """Sends a row to a server that goes on. `word` is what the ids of the row's clients end with."""
 
     def __init__(self, seconds, site, row, word):
         super().__init__(seconds)

@@ -2,8 +2,8 @@
 for a name, which the server's first answer that has it binds to a number of the server's; calls and wanted replies
 have that number in its place from then on.
 
-Names are one row's: its clients have ids that no other row has, and whoever sends the row has them begin anew at its
-end, which leaves nothing of it."""
+Names are one row's: the ids of its clients end with a word, and their verifiers are no other row's. Whoever sends the
+row has them begin anew at its end, which leaves nothing of it; so a later row may have the same word."""
 import itertools
 import os
 from collections import namedtuple
@@ -64,12 +64,12 @@ def learn(address, path=(), uid=None):
 
 
 class Names(Exact):
-    """The names of a row, and what they are bound to. `word` is what its clients' ids have, and no other row's."""
+    """The names of a row, and what they are bound to. `word` is what its clients' ids end with."""
 
     xids = itertools.count(int.from_bytes(os.urandom(3), "big") << 7)
 
     def __init__(self, site, row, word):
-        self.site, self.epoch, self.word = site, row.epoch, word
+        self.site, self.epoch, self.word, self.mask = site, row.epoch, word, os.urandom(8)
         self.tables = {HANDLE.name: dict(site.handles)}
         # The names that were looked for in vain.
         self.missing = set()
@@ -146,7 +146,7 @@ class Names(Exact):
         if isinstance(value, Stateid):
             return Stateid(value.seqid, *words_of(self.other(value)))
         if isinstance(value, Setclientid):
-            return value._replace(id=self.own(value.id))
+            return value._replace(verifier=self.own_verifier(value.verifier), id=self.own(value.id))
         if isinstance(value, Putfh):
             return Putfh(self.table(HANDLE).get(value.filehandle, value.filehandle))
         if isinstance(value, tuple) and hasattr(value, "_fields"):
@@ -166,8 +166,12 @@ class Names(Exact):
         return found
 
     def own(self, name):
-        """A client's id that no other row has. One that would be too long has the word in the place of its end."""
+        """A client's id with the word at its end. One that would be too long has it in the place of its end."""
         return name[:OWNER_LIMIT - len(self.word)] + self.word
+
+    def own_verifier(self, verifier):
+        """One that no other row has: so a client begins anew even where an earlier row left one of the same id."""
+        return bytes(byte ^ change for byte, change in zip(verifier, self.mask))
 
     def spelled(self, operation):
         """The bytes of an operation with its names replaced; else as they are, also padding."""

@@ -2,11 +2,12 @@ ghost use Rattle.std.specs.Prelude.{◌≡◌, [], ℕ, IsFalse};
 ghost use Rattle.nfs_owners.specs.Registry.{is_live};
 
 use crate::client::converse;
-use nfs_core::Core;
+use nfs_core::{Core, Seeds};
 use nfs_threads::{WorkerAccount, serve_on};
 use nfs_tree::Tree;
 use std::alloc::Global;
 use std::net::{Net, TcpListener, TcpStream};
+use std::random::RandomSource;
 use std::sync::Wait;
 use std::sync::atomic::AtomicUsize;
 use std::thread::Threads;
@@ -23,7 +24,14 @@ struct Outcome {
 }
 
 // Serves two clients at once that have these connections with the listener; none where memory was refused.
-fn serve_two<R: Threads + Wait + Clock + Net<Listener = TcpListener, Stream = TcpStream> + Sync>(
+fn serve_two<
+    R: Threads
+        + Wait
+        + Clock
+        + Net<Listener = TcpListener, Stream = TcpStream>
+        + RandomSource
+        + Sync,
+>(
     rt: &R,
     alloc: Global,
     listener: &TcpListener,
@@ -33,7 +41,10 @@ fn serve_two<R: Threads + Wait + Clock + Net<Listener = TcpListener, Stream = Tc
         return None;
     };
     let tree = &tree;
-    let Ok(core) = Core::new(alloc, tree, 90, 7, tree.policy()) else {
+    let Ok(seeds) = Seeds::new(rt) else {
+        return None;
+    };
+    let Ok(core) = Core::new(alloc, tree, 90, 7, tree.policy(), seeds) else {
         return None;
     };
     let (first, second) = clients;

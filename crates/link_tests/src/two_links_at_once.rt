@@ -5,13 +5,14 @@ ghost use Rattle.nfs_shared.specs.Naming.{CanBegin};
 
 use crate::board::Board;
 use crate::board_link::BoardLink;
-use nfs_core::{Core, Moment};
+use nfs_core::{Core, Moment, Seeds};
 use nfs_server::ServeError;
 use nfs_shared::{Naming, Opened, Receipt, Seat, Shared, SharedParts};
 use nfs_threads::{WorkerEnd, serve_all, workers_keep_receipts};
 use nfs_tree::Tree;
 use std::alloc::Global;
 use std::marker::Brand;
+use std::random::RandomSource;
 use std::sync::Wait;
 use std::thread::Threads;
 use std::time::Clock as Sleeper;
@@ -26,14 +27,19 @@ struct Outcome {
 }
 
 // Serves this number of links at once; none where memory was refused.
-fn serve_links<R: Threads + Wait + Sleeper + Sync>(
+fn serve_links<R: Threads + Wait + Sleeper + RandomSource + Sync>(
     rt: &R,
     alloc: Global,
     links: u32,
 ) -> Option<Outcome> {
     let tree = Tree::from_toml(alloc, "file = [{ path = \"a\" }]").ok()?;
-    let core = Core::new(alloc, &tree, 90, 7, tree.policy()).ok()?;
     let opened = Opened::new(alloc, links).ok()?;
+    let Ok(seeds) = Seeds::new(rt) else {
+        return None;
+    };
+    let Ok(core) = Core::new(alloc, &tree, 90, 7, tree.policy(), seeds) else {
+        return None;
+    };
     serve_links_in::<Brand, R>(rt, alloc, opened, core, &tree)
 }
 

@@ -3,11 +3,10 @@ ghost use Rattle.nfs_owners.specs.Registry.{no_clients};
 
 use crate::new_file::NewFile;
 use crate::told::{Told, tell};
-use nfs_core::{Core, CoreError, LEASE_MAX, LEASE_MIN};
+use nfs_core::{Core, LEASE_MAX, LEASE_MIN, Seeds};
 use nfs_program::{Fault, read_tree};
 use nfs_server::Counted;
 use nfs_tree::{DEFAULT_TREE, Tree, TreeError};
-use std::alloc::Global;
 use std::io::Eprint;
 use std::{fs, io};
 
@@ -28,8 +27,8 @@ pub(crate) fn journal_file<'r, 'p, E: Eprint + Drop>(
     }
 }
 
-/// A core for the tree, with the tree's policy.
-pub(crate) fn core_of(alloc: Global, tree: &Tree, lease: u32, epoch: u32) -> Result<Core, CoreError>
+/// A core for the tree, with the tree's policy and random seeds.
+pub(crate) fn core_of(rt: &HostRuntime, tree: &Tree, lease: u32, epoch: u32) -> Result<Core, Fault>
     requires lease { (LEASE_MIN ≤ lease) × (lease ≤ LEASE_MAX) }
     ensures journal { IfOk result (λ core. core.journal ≡ record {
       nodes = tree.now.nodes;
@@ -40,7 +39,11 @@ pub(crate) fn core_of(alloc: Global, tree: &Tree, lease: u32, epoch: u32) -> Res
     }) }
     ensures clients { IfOk result (λ core. core.stored.clients ≡ no_clients) }
 {
-    Core::new(alloc, tree, lease, epoch, tree.policy())
+    let seeds = Seeds::new(rt)?;
+    let Ok(core) = Core::new(rt.alloc(), tree, lease, epoch, tree.policy(), seeds) else {
+        return Err(Fault::NoMemory);
+    };
+    Ok(core)
 }
 
 /// The tree that the file describes, or the default tree if no file is given. Why it can't be had is told by a line.

@@ -14,7 +14,7 @@ mod told;
 
 use crate::inputs::{core_of, file, journal_file, tree};
 use crate::serve::serve;
-use nfs_core::Moment;
+use nfs_core::{Moment, Seeds};
 use nfs_options::{Declined, OnceOptions, Subcommand, options};
 use nfs_program::{Fault, run_audit, run_once};
 use nfs_server::{Counted, Sides};
@@ -68,8 +68,9 @@ fn once(rt: &HostRuntime, options: &OnceOptions<'_>) -> u8
         Ok(tree) => tree,
         Err(fault) => return report(rt, fault),
     };
-    let Ok(core) = core_of(rt.alloc(), &tree, options.lease, options.epoch) else {
-        return report(rt, Fault::NoMemory);
+    let core = match core_of(rt, &tree, options.lease, options.epoch) {
+        Ok(core) => core,
+        Err(fault) => return report(rt, fault),
     };
     let now = Moment::new(options.moment).unwrap();
     let mut device = Sides {
@@ -95,9 +96,13 @@ fn audit(rt: &HostRuntime, path: &str) -> u8 {
         Ok(bytes) => bytes,
         Err(fault) => return report(rt, fault),
     };
+    let seeds = match Seeds::new(rt) {
+        Ok(seeds) => seeds,
+        Err(refused) => return report(rt, Fault::from(refused)),
+    };
     let mut sink = Counted::new(rt.stdout());
     let mut errors = rt.stderr();
-    run_audit(rt.alloc(), bytes.as_slice(), &mut sink, &mut errors)
+    run_audit(rt.alloc(), bytes.as_slice(), seeds, &mut sink, &mut errors)
 }
 
 // The functions below ignore an error in writing, since there is no other place to report it.

@@ -35,12 +35,12 @@ pub(crate) fn serve<
         Ok(tree) => tree,
         Err(fault) => return report(rt, fault),
     };
-    match core_of(rt.alloc(), &tree, options.lease, options.epoch) {
+    match core_of(rt, &tree, options.lease, options.epoch) {
         Ok(mut core) => {
             bound_memory(&mut core, options.memory);
             serve_core(rt, threads, options, core, &tree)
         }
-        Err(_) => report(rt, Fault::NoMemory),
+        Err(fault) => report(rt, fault),
     }
 }
 

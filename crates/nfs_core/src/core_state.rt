@@ -31,7 +31,7 @@ use nfs_owners::ClientState;
 use nfs_rpc::Recall;
 use nfs_state::{
     Entry, Expire, JOURNAL_LIMIT, Journal, LEASE_MAX, LEASE_MIN, Moment, Path, Request, Revoke,
-    Store, Tables,
+    Seeds, Store, Tables,
 };
 use nfs_tree::{Policy, Tree};
 use nfs_xdr::{Callback, ClientId, Op, OpResult, Principal, Refusal, Stateid};
@@ -39,7 +39,6 @@ use std::alloc::Global;
 use std::marker::Model;
 
 /// The state of a server (RFC 7530, section 9), and the journal of the changes that led to it.
-#[derive(Drop)]
 pub struct Core {
     alloc: Global,
     held: Holdings,
@@ -62,15 +61,25 @@ impl Model for Core {
         × AreLeftOf c.held.store.journal.history (left_of c.held.recalls) };
 }
 
+// By hand, so that it is one step to let a core go, and not one for each part of its tables.
+impl Drop for Core {
+    fn drop(self) {
+        let Core { alloc: _, held } = self;
+        drop(held);
+    }
+}
+
 impl Core {
     /// A server with the files of this tree, to which no client has come. `lease` is in seconds, and `epoch` is the
-    /// number of the server's run. Fails if memory runs out while the tree is copied.
+    /// number of the server's run. What is stored is found by hashes that are keyed by the seeds. Fails if memory runs out
+    /// while the tree is copied.
     pub fn new(
         alloc: Global,
         tree: &Tree,
         lease: u32,
         epoch: u32,
         policy: Policy,
+        seeds: Seeds,
     ) -> Result<Core, CoreError>
         requires { (LEASE_MIN ≤ lease) × (lease ≤ LEASE_MAX) }
         ensures journal { IfOk result (λ core. core.journal ≡ record {
@@ -85,10 +94,13 @@ impl Core {
         ensures lawful { IfOk result (λ core. IsLawful core) }
         ensures error { IfErr result (λ e. e ≡ CoreError.Memory) }
     {
-        let store = Store {
-            tables: Tables::of_tree(alloc, tree)?,
-            journal: Journal::new(alloc, tree.clone()?, lease, epoch, policy),
+        // The tables come last: nothing has to let them go then.
+        let Ok(copy) = tree.clone() else {
+            return Err(CoreError::Memory);
         };
+        let tables = Tables::of_tree(alloc, tree, seeds)?;
+        let journal = Journal::new(alloc, copy, lease, epoch, policy);
+        let store = Store { tables, journal };
         let recalls = PendingRecalls::new(alloc);
         Ok(Core {
             alloc,

@@ -25,5 +25,6 @@ pub use laws::{
 };
 pub use nfs_rpc::Recall;
 pub use nfs_state::{
-    Entry, JOURNAL_LIMIT, Journal, LEASE_MAX, LEASE_MIN, Moment, STATE_LIMIT, limits_of_the_state,
+    Entry, JOURNAL_LIMIT, Journal, LEASE_MAX, LEASE_MIN, Moment, NoRandomSeed, STATE_LIMIT, Seeds,
+    limits_of_the_state,
 };

@@ -1,12 +1,12 @@
 ghost use Rattle.nfs_journal.specs.Audits.{Audits};
 
 use crate::{AuditError, FiledJournal};
-use nfs_core::{Core, FollowError, at_most_one_state};
+use nfs_core::{Core, FollowError, Seeds, at_most_one_state};
 use std::alloc::Global;
 
-/// A core to which the journal leads. WrongAnswer with the number of the first entry that can't follow those before it,
+/// A core to which the journal leads, with these seeds. WrongAnswer with the number of the first entry that can't follow those before it,
 /// if the journal isn't lawful; never Format.
-pub fn audit(alloc: Global, journal: FiledJournal) -> Result<Core, AuditError>
+pub fn audit(alloc: Global, journal: FiledJournal, seeds: Seeds) -> Result<Core, AuditError>
     ensures { Audits result journal }
 {
     at_most_one_state();
@@ -15,7 +15,14 @@ pub fn audit(alloc: Global, journal: FiledJournal) -> Result<Core, AuditError>
         tree,
         entries,
     } = journal;
-    let Ok(mut core) = Core::new(alloc, &tree, opening.lease, opening.epoch, opening.policy) else {
+    let Ok(mut core) = Core::new(
+        alloc,
+        &tree,
+        opening.lease,
+        opening.epoch,
+        opening.policy,
+        seeds,
+    ) else {
         return Err(AuditError::Memory);
     };
     let mut number = 0;

@@ -1,5 +1,5 @@
 -- Lemmas on lists: what holds of each element, and what a search finds.
-use Rattle.std.proofs.Common.{inl, inr, ◌≡◌, ℕ, zero, suc, ◌+◌, ◌<◌, Bool, true, false, cond, ◌||◌, List, [], ◌∷◌, ◌++◌, length, drop, get_or, map, set, take, Some, refl, sym, ◌∙◌, ap, subst, arith}
+use Rattle.std.proofs.Common.{inl, inr, ◌≡◌, Bool, true, false, cond, ◌||◌, List, [], ◌∷◌, ◌++◌, map, Some, refl, sym, ◌∙◌, ap, subst}
 use Rattle.std.specs.Prelude.{filter, find, option_map, unwrap_or}
 use Rattle.std.specs.List.{AllByRecursion, list_any}
 use Rattle.std.proofs.lemmas.Bool.{cases_Bool, cond-false, cond-true}
@@ -37,26 +37,6 @@ module _ {X : Type 0} where
         | inl passes ↦ cond-true (p y) (Some y) (find p (xs ++ ys)) passes ∙ sym (cond-true (p y) (Some y) (find p xs) passes) ∙ is
         | inr fails ↦ cond-false (p y) (Some y) (find p (xs ++ ys)) fails ∙ find_before p xs ys x (sym (cond-false (p y) (Some y) (find p xs) fails) ∙ is)
       ]
-
-  -- one more element of a list that a loop changes
-  pub all_set : (P : X → Type 0) (xs : List X) (i : ℕ) (x : X) → i < length xs → AllByRecursion P (take i xs) → P x → AllByRecursion P (take (i + 1) (set xs i x))
-  all_set P [] i x below h new = absurd (omega (arith, below))
-  all_set P (y ∷ xs) zero x below h new = (new, tt)
-  all_set P (y ∷ xs) (suc i) x below h new =
-      let next : suc i + 1 ≡ suc (i + 1) = omega arith in
-      rw next (h.0, all_set P xs i x (omega (arith, below)) h.1 new)
-
-  pub all_left : (P : X → Type 0) (xs : List X) (i : ℕ) (x : X) → i < length xs → AllByRecursion P (drop i xs) → AllByRecursion P (drop (i + 1) (set xs i x))
-  all_left P [] i x below h = absurd (omega (arith, below))
-  all_left P (y ∷ xs) zero x below h = h.1
-  all_left P (y ∷ xs) (suc i) x below h =
-      let next : suc i + 1 ≡ suc (i + 1) = omega arith in
-      rw next (all_left P xs i x (omega (arith, below)) h)
-
-  pub all_here : (P : X → Type 0) (xs : List X) (i : ℕ) (d : X) → i < length xs → AllByRecursion P (drop i xs) → P (get_or xs i d)
-  all_here P [] i d below h = absurd (omega (arith, below))
-  all_here P (y ∷ xs) zero d below h = h.0
-  all_here P (y ∷ xs) (suc i) d below h = all_here P xs i d (omega (arith, below)) h
 
   pub all_map : (P : X → Type 0) (f : X → X) (xs : List X) → AllByRecursion (λ x. P (f x)) xs → AllByRecursion P (map f xs)
   all_map P f [] h = tt
@@ -117,11 +97,3 @@ module _ {X Y : Type 0} (v : X → Y) where
   pub any_seen : (p : Y → Bool) (xs : List X) → list_any (λ x. p (v x)) xs ≡ list_any p (map v xs)
   any_seen p [] = refl
   any_seen p (x ∷ xs) = ap (λ b. p (v x) || b) (any_seen p xs)
-
-  pub filter_seen : (p : Y → Bool) (xs : List X) → map v (filter (λ x. p (v x)) xs) ≡ filter p (map v xs)
-  filter_seen p [] = refl
-  filter_seen p (x ∷ xs) =
-      elim (p (v x)) as (λ b. map v (cond b (x ∷ filter (λ x. p (v x)) xs) (filter (λ x. p (v x)) xs)) ≡ cond b (v x ∷ filter p (map v xs)) (filter p (map v xs))) [
-        | true ↦ ap (λ ys. v x ∷ ys) (filter_seen p xs)
-        | false ↦ filter_seen p xs
-      ]

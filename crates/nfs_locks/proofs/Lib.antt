@@ -1,6 +1,10 @@
 pub mod Elements
 pub mod Files
-pub mod SameSet
+pub mod Indexed
 pub mod Compatible
 pub mod Meetings
 pub mod Unique
+pub mod Alone
+pub mod Rowed
+pub mod Setting
+pub mod Removing

@@ -1,5 +1,5 @@
 -- A report among more lock states, and that there is one report.
-use Rattle.std.proofs.Common.{inl, inr, ◌≡◌, ℕ, ◌+◌, ◌≤◌, ◌==◌, nat_lt, true, false, ◌&&◌, List, [], ◌∷◌, ◌++◌, Some, None, Option, refl, sym, ◌∙◌, ap, arith}
+use Rattle.std.proofs.Common.{inl, inr, ◌≡◌, ℕ, ◌+◌, ◌≤◌, ◌==◌, nat_lt, true, false, not, ◌&&◌, List, [], ◌∷◌, ◌++◌, map, Some, None, Option, refl, sym, ◌∙◌, ap, subst, arith}
 use Rattle.std.specs.Cmp.{IsTotalOrder, nat_cmp_total, on_total, then_total, upto}
 use Rattle.std.specs.Cmp.Lexicographic.{nat_list_cmp_total}
 use Rattle.std.specs.List.{AllByRecursion}
@@ -14,6 +14,8 @@ use Rattle.nfs_locks.specs.ReportSeen.{comes_before, first_of}
 use Rattle.nfs_locks.proofs.Compatible.{equal_owners}
 use Rattle.nfs_locks.proofs.Elements.{all_push, all_weaken, find_before, find_beyond}
 use Rattle.nfs_ranges.specs.Bytes.{IsIn}
+use Rattle.nfs_ranges.specs.Modes.{conflicts}
+use Rattle.nfs_ranges.specs.Questions.{IsFirstConflict}
 use Rattle.nfs_ranges.specs.declared.mode.Mode.{Mode}
 use Rattle.nfs_ranges.specs.declared.range.Range.{Range}
 
@@ -155,3 +157,22 @@ one_more locks x owner range mode (Some a) None here there =
 one_more locks x owner range mode (Some a) (Some b) here there =
     cond_both (comes_before b a) b a (λ m. IsReportAt (locks ++ x ∷ []) owner range mode m.0 m.1)
     (last_wins owner range mode locks x a b here there) (others_win owner range mode locks x a b here there)
+
+-- a lock state whose modes refuse no byte of the range
+pub no_meeting : (l : ByteLocks) (owner : LockOwner) (range : Range) (mode : Mode) → IsFirstConflict l.modes range mode None → IsMeeting (l ∷ []) owner range mode None
+no_meeting l owner range mode none = ((λ byte inside. and_right (not (is_lock_of owner l)) (conflicts mode (l.modes byte)) (none byte inside)), tt)
+
+first_alone : (a : Option (ℕ × Report)) → first_of a None ≡ a
+first_alone None = refl
+first_alone (Some a) = refl
+
+-- it changes nothing
+pub none_more : (locks : List ByteLocks) (x : ByteLocks) (owner : LockOwner) (range : Range) (mode : Mode) (a : Option (ℕ × Report))
+    → IsMeeting locks owner range mode a → IsFirstConflict x.modes range mode None → IsMeeting (locks ++ x ∷ []) owner range mode a
+none_more locks x owner range mode a here none =
+    subst (IsMeeting (locks ++ x ∷ []) owner range mode) (first_alone a) (one_more locks x owner range mode a None here (no_meeting x owner range mode none))
+
+-- the lock states of a list that grows at its end
+pub map_push : {X Y : Type 0} (f : X → Y) (xs : List X) (x : X) → map f (xs ++ x ∷ []) ≡ map f xs ++ f x ∷ []
+map_push f [] x = refl
+map_push f (y ∷ xs) x = ap (λ more. f y ∷ more) (map_push f xs x)

@@ -2,52 +2,60 @@ ghost use Rattle.std.specs.Prelude.{◌≡◌, ◌≤◌, ◌<◌, ◌&&◌, [],
 ghost use Rattle.std.specs.List.{AllByRecursion, find, list_any};
 ghost use Rattle.std.specs.Option.{option_copied};
 ghost use Rattle.nfs_locks.specs.AllLocks.{HasLockRoom, HasRangeRoom, is_full_for};
+ghost use Rattle.nfs_locks.specs.KeptLocks.{NumbersRise};
 ghost use Rattle.nfs_locks.specs.Locks.{IsAbove, holds_bytes, is_lock_of, is_lock_of_client, is_numbered, is_stateid_of, is_under, with_first_lock, with_lock_change, without, would_be_full};
 ghost use Rattle.nfs_locks.specs.Report.{IsReport};
 ghost use Rattle.nfs_locks.specs.ReportSeen.{report_seen};
 ghost use Rattle.nfs_locks.specs.StoredLocks.{lock_seen, locks_seen, stored_locks};
 
-use crate::changes::change_each;
+use crate::owner_hash::owner_hash;
+use crate::removals::{remove_named, remove_under};
 use crate::report::report_among;
-use crate::reserves::{reserve_each, roomy_ranges};
+use crate::reserves::{reserve, roomy_ranges};
 use crate::{FirstLock, LockState, Report};
 use nfs_forms::{ClientId, LockOwner, Stateid};
 use nfs_ranges::{Mode, Piece, Range, Ranges};
+use nfs_rows::Rows;
 use std::alloc::{AllocError, Global};
+use std::hash::RandomState;
 use std::marker::Model;
 
 /// The lock states of a file, in the order in which they began.
 #[derive(Drop)]
 pub(crate) struct FileLocks {
-    states: Vec<LockState>,
+    states: Rows<LockState>,
     // ranges that are free and have room, for the next lock state
     spare: Option<Ranges>,
+    // the key of the hashes of owners
+    names: RandomState,
 }
 
 impl Model for FileLocks {
-    ghost use Rattle.std.specs.Prelude.{◌≡◌, ◌<◌, ◌-◌, [], IfSome, is_some};
-    ghost use Rattle.std.specs.Vec.{vec_capacity, vec_len};
+    ghost use Rattle.std.specs.Prelude.{◌≡◌, ◌<◌, [], IfSome, is_some};
+    ghost use Rattle.nfs_locks.specs.KeptLocks.{AreRowsOf, states_of};
     ghost use Rattle.nfs_locks.specs.StoredLocks.{StoredLocks};
 
     ghost Value = { StoredLocks };
 
     ghost view = { λ f. record {
-      states = f.states.items;
-      room = vec_capacity f.states - vec_len f.states;
+      states = states_of f.states.rows;
+      room = f.states.room;
       spare = is_some f.spare;
     } };
 
-    ghost invariant = { λ f. IfSome f.spare (λ r. (r.pieces ≡ []) × (0 < r.room)) };
+    ghost invariant = { λ f. AreRowsOf f.names f.states.rows
+        × IfSome f.spare (λ r. (r.pieces ≡ []) × (0 < r.room)) };
 }
 
 impl FileLocks {
-    /// A file without lock states, taking no memory.
-    pub fn new(alloc: Global) -> FileLocks
+    /// A file without lock states, taking no memory. Owners are hashed with this key.
+    pub fn new(alloc: Global, names: RandomState) -> FileLocks
         ensures { result.states ≡ [] }
     {
         FileLocks {
-            states: Vec::new(alloc),
+            states: Rows::new(alloc),
             spare: None,
+            names,
         }
     }
 
@@ -63,14 +71,37 @@ impl FileLocks {
         ensures { option_copied result
             ≡ find (λ l. is_stateid_of stateid (lock_seen l)) self.now.states }
     {
-        self.states.iter().find(|state| state.is_named_by(stateid))
+        let state = self.numbered(stateid.number)?;
+        if state.is_of_client(stateid.client) {
+            Some(state)
+        } else {
+            None
+        }
+    }
+
+    // The lock state with this number, if there is one; its number is that of no other.
+    fn numbered(&self, number: u32) -> Option<&LockState>
+        ensures found { option_copied result
+            ≡ find (λ l. is_numbered number (lock_seen l)) self.now.states }
+        ensures order { NumbersRise self.now.states }
+    {
+        // `len` tells that the rows stand in the order of their numbers.
+        let _count = self.states.len();
+        self.states.find(u64::from(number))
     }
 
     /// Whether the stateid names a lock state.
     pub fn names(&self, stateid: Stateid) -> bool
         ensures { result ≡ list_any (λ l. is_stateid_of stateid (lock_seen l)) self.now.states }
     {
-        self.states.iter().any(|state| state.is_named_by(stateid))
+        self.named_by(stateid).is_some()
+    }
+
+    /// Whether a lock state has this number.
+    pub fn has_number(&self, number: u32) -> bool
+        ensures { result ≡ list_any (λ l. is_numbered number (lock_seen l)) self.now.states }
+    {
+        self.numbered(number).is_some()
     }
 
     /// The lock state of this owner, if there is one.
@@ -78,14 +109,18 @@ impl FileLocks {
         ensures { option_copied result
             ≡ find (λ l. is_lock_of owner.now (lock_seen l)) self.now.states }
     {
-        self.states.iter().find(|state| state.is_of(owner))
+        let hash = owner_hash(self.names, owner);
+        match self.states.find_named(hash, |state| state.is_of(owner)) {
+            Some((_, state)) => Some(state),
+            None => None,
+        }
     }
 
     /// Whether an owner of this client has a lock state.
     pub fn has_client(&self, client: ClientId) -> bool
         ensures { result ≡ list_any (λ l. is_lock_of_client client (lock_seen l)) self.now.states }
     {
-        self.states.iter().any(|state| state.is_of_client(client))
+        self.states.iter().any(|row| row.1.is_of_client(client))
     }
 
     /// Whether this owner holds a byte.
@@ -93,7 +128,10 @@ impl FileLocks {
         ensures { result ≡ list_any
             (λ l. is_lock_of owner.now (lock_seen l) && holds_bytes (lock_seen l)) self.now.states }
     {
-        self.states.iter().any(|state| state.is_held_by(owner))
+        let hash = owner_hash(self.names, owner);
+        self.states
+            .find_named(hash, |state| state.is_held_by(owner))
+            .is_some()
     }
 
     /// Whether a change of the lock state with this number would make too many runs of bytes.
@@ -102,9 +140,10 @@ impl FileLocks {
             (λ l. is_numbered number (lock_seen l) && would_be_full change (lock_seen l))
             self.now.states }
     {
-        self.states
-            .iter()
-            .any(|state| state.is_full_for(number, change))
+        match self.numbered(number) {
+            Some(state) => state.is_full_for(change),
+            None => false,
+        }
     }
 
     /// The lock that is in the way of the owner's lock of the range in this mode, if there is one.
@@ -121,7 +160,7 @@ impl FileLocks {
         ensures room { OnOk result (HasLockRoom self.new) }
         ensures ready { HasLockRoom self.old → IsOk result }
     {
-        self.states.reserve(1)?;
+        self.states.reserve()?;
         if self.spare.is_none() {
             self.spare = Some(roomy_ranges(alloc)?);
         }
@@ -134,7 +173,10 @@ impl FileLocks {
         ensures room { OnOk result (AllByRecursion (HasRangeRoom number) self.new.states) }
         ensures ready { AllByRecursion (HasRangeRoom number) self.old.states → IsOk result }
     {
-        reserve_each(&mut self.states, number)
+        let Some(state) = self.states.find_mut(u64::from(number)) else {
+            return Ok(());
+        };
+        reserve(&mut state.ranges)
     }
 
     /// LOCK of an owner that has no lock state of the file: makes one with this number, which has to be above those of
@@ -146,8 +188,10 @@ impl FileLocks {
             ≡ with_first_lock first number (locks_seen self.old.states) }
     {
         if let Some(ranges) = self.spare.take() {
-            self.states
-                .push_reserved(LockState::new(first, number, ranges));
+            let hash = owner_hash(self.names, &first.owner);
+            let client = first.owner.client.number;
+            let state = LockState::new(first, number, ranges);
+            self.states.add(u64::from(number), hash, client, state);
         }
     }
 
@@ -158,7 +202,9 @@ impl FileLocks {
         ensures { locks_seen self.new.states
             ≡ with_lock_change number change (locks_seen self.old.states) }
     {
-        change_each(&mut self.states, number, change);
+        if let Some(state) = self.states.find_mut(u64::from(number)) {
+            state.change(change);
+        }
     }
 
     /// CLOSE: removes the lock states under the open with this number.
@@ -166,7 +212,7 @@ impl FileLocks {
         ensures { locks_seen self.new.states
             ≡ without (is_under open_number) (locks_seen self.old.states) }
     {
-        self.states.retain(|state| state.open_number != open_number);
+        remove_under(&mut self.states, open_number);
     }
 
     /// Removes the lock state of this owner.
@@ -174,7 +220,8 @@ impl FileLocks {
         ensures { locks_seen self.new.states
             ≡ without (is_lock_of owner.now) (locks_seen self.old.states) }
     {
-        self.states.retain(|state| !state.is_of(owner));
+        let hash = owner_hash(self.names, owner);
+        remove_named(&mut self.states, hash, owner);
     }
 
     /// Removes the lock states of all owners of this client.
@@ -182,6 +229,7 @@ impl FileLocks {
         ensures { locks_seen self.new.states
             ≡ without (is_lock_of_client client) (locks_seen self.old.states) }
     {
-        self.states.retain(|state| !state.is_of_client(client));
+        self.states
+            .remove_of_client(client.number, |state| state.is_of_client(client));
     }
 }

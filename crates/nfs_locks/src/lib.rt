@@ -2,13 +2,15 @@
 //! sections 9.2, 9.3 and 16.10 to 16.12).
 #![tactic(auto)]
 
-mod changes;
 mod file_locks;
 mod first_lock;
 mod laws;
 mod lock_state;
 mod locks;
+mod numbers;
+mod owner_hash;
 mod owner_order;
+mod removals;
 mod report;
 mod reserves;
 

@@ -92,13 +92,11 @@ impl LockState {
         self.is_of(owner) && !self.ranges.is_empty()
     }
 
-    /// Whether the lock state has this number, and the change would make too many runs of bytes.
-    pub(crate) fn is_full_for(&self, number: u32, change: Piece) -> bool
-        ensures { result
-            ≡ (is_numbered number (lock_seen self.now)
-            && would_be_full change (lock_seen self.now)) }
+    /// Whether the change would make too many runs of bytes.
+    pub(crate) fn is_full_for(&self, change: Piece) -> bool
+        ensures { result ≡ would_be_full change (lock_seen self.now) }
     {
-        self.number == number && !self.ranges.has_place_for(change)
+        !self.ranges.has_place_for(change)
     }
 
     /// LOCK or LOCKU: changes the bytes that are held, and gives the lock state its next seqid. It takes no memory.

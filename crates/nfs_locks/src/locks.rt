@@ -1,18 +1,21 @@
-ghost use Rattle.std.specs.Prelude.{◌≡◌, ◌<◌, ◌-◌, ◌&&◌, [], IfOk, IfSome, IsFalse, IsOk, OnOk, length, map, option_map, position, replicate};
+ghost use Rattle.std.specs.Prelude.{◌≡◌, ◌-◌, ◌&&◌, [], IfOk, IsFalse, IsOk, OnOk, map, option_map, replicate};
 ghost use Rattle.std.specs.List.{list_any};
 ghost use Rattle.std.specs.Option.{option_copied};
 ghost use Rattle.nfs_locks.specs.AllLocks.{HasLockRoomAt, HasRoomFor, IsAboveAll, at_node, holds, is_full_for, lock_count, lock_named_in, locks_in, locks_of, stored_in, with_locks};
 ghost use Rattle.nfs_locks.specs.LockFound.{lock_found_seen};
-ghost use Rattle.nfs_locks.specs.Locks.{holds_bytes, is_lock_of, is_lock_of_client, is_stateid_of, is_under, lock_of, with_first_lock, with_lock_change, without};
+ghost use Rattle.nfs_locks.specs.Locks.{holds_bytes, is_lock_of, is_lock_of_client, is_under, lock_of, with_first_lock, with_lock_change, without};
 ghost use Rattle.nfs_locks.specs.Report.{IsReport};
 ghost use Rattle.nfs_locks.specs.ReportSeen.{report_seen};
 ghost use Rattle.nfs_locks.specs.StoredLocks.{lock_seen};
 
 use crate::file_locks::FileLocks;
+use crate::numbers::{close_in, reserve_number};
 use crate::{FirstLock, LockState, Report};
 use nfs_forms::{ClientId, LockOwner, Stateid};
+use nfs_nodes::Nodes;
 use nfs_ranges::{Mode, Piece, Range};
 use std::alloc::{AllocError, Global};
+use std::hash::RandomState;
 use std::marker::Model;
 
 /// The lock states of all files, by the numbers of their nodes. A node that there isn't has no lock states, and a change
@@ -20,6 +23,10 @@ use std::marker::Model;
 #[derive(Drop)]
 pub struct Locks {
     files: Vec<FileLocks>,
+    // The nodes of the lock states by their numbers, and of some that there are no more.
+    nodes: Nodes,
+    // How many lock states there are.
+    count: usize,
 }
 
 /// A lock state, and the node of its file.
@@ -30,46 +37,43 @@ pub struct LockFound<'a> {
 }
 
 impl Model for Locks {
-    ghost use Rattle.std.specs.Prelude.{◌<◌, ◌^◌, List, length};
+    ghost use Rattle.std.specs.Prelude.{List, map};
+    ghost use Rattle.nfs_locks.specs.AllLocks.{locks_in};
+    ghost use Rattle.nfs_locks.specs.LockNodes.{number_of, within_room};
     ghost use Rattle.nfs_locks.specs.StoredLocks.{StoredLocks};
+    ghost use Rattle.nfs_nodes.specs.Numbers.{AreFound};
 
     ghost Value = { List StoredLocks };
 
-    ghost view = { λ l. l.files.items };
+    ghost view = { λ l. map (within_room l.nodes.room) l.files.items };
 
-    ghost invariant = { λ l. length l.files.items < 2 ^ 32 };
+    ghost invariant = { λ l. AreFound number_of l.nodes l.count (locks_in l.files.items) };
 }
 
 impl Locks {
     /// No lock states of any of these nodes.
-    pub fn new(alloc: Global, nodes: u32) -> Result<Locks, AllocError>
+    pub fn new(alloc: Global, nodes: u32, names: RandomState) -> Result<Locks, AllocError>
         ensures { IfOk result (λ locks. stored_in locks ≡ replicate nodes []) }
     {
         let mut files = Vec::new(alloc);
         files.reserve(nodes as usize)?;
         for _ in 0..nodes {
-            files.push_reserved(FileLocks::new(alloc));
+            files.push_reserved(FileLocks::new(alloc, names));
         }
-        Ok(Locks { files })
+        Ok(Locks {
+            files,
+            nodes: Nodes::new(alloc),
+            count: 0,
+        })
     }
 
     /// The lock state that the stateid names, no matter its seqid, if there is one.
     pub fn find(&self, stateid: Stateid) -> Option<LockFound<'_>>
         ensures { option_map lock_found_seen result ≡ lock_named_in stateid (locks_in self.now) }
     {
-        match self.node_of(stateid) {
-            Some(node) => found_at(node as u32, self.files[node].named_by(stateid)),
-            None => None,
-        }
-    }
-
-    // The node with a lock state that the stateid names.
-    fn node_of(&self, stateid: Stateid) -> Option<usize>
-        ensures node { result ≡ position
-            (λ f. list_any (λ l. is_stateid_of stateid (lock_seen l)) f.states) self.now }
-        ensures below { IfSome result (λ node. node < length self.now) }
-    {
-        self.files.iter().position(|file| file.names(stateid))
+        let node = self.nodes.find(stateid.number)?;
+        let file = self.files.get(node as usize)?;
+        found_at(node, file.named_by(stateid))
     }
 
     /// The lock state that this owner has of the node's file, if there is one.
@@ -98,7 +102,7 @@ impl Locks {
     pub fn places_left(&self, limit: usize) -> usize
         ensures { result ≡ limit - lock_count (locks_in self.now) }
     {
-        places_left(&self.files, limit)
+        limit.saturating_sub(self.count)
     }
 
     /// Whether a change of the lock state of the node's file with this number would make more runs of bytes than an owner
@@ -134,6 +138,7 @@ impl Locks {
     {
         let node = node as usize;
         if node < self.files.len() {
+            reserve_number(&self.files, &mut self.nodes, self.count)?;
             self.files[node].reserve(alloc)?;
         }
         Ok(())
@@ -160,9 +165,11 @@ impl Locks {
         ensures { locks_in self.new
             ≡ with_locks node (with_first_lock first number) (locks_in self.old) }
     {
-        let node = node as usize;
-        if node < self.files.len() {
-            self.files[node].begin(first, number);
+        let at = node as usize;
+        if at < self.files.len() {
+            self.files[at].begin(first, number);
+            self.nodes.add(number, node);
+            self.count += 1;
         }
     }
 
@@ -187,7 +194,7 @@ impl Locks {
     {
         let node = node as usize;
         if node < self.files.len() {
-            self.files[node].close(open_number);
+            self.count -= close_in(&mut self.files[node], open_number);
         }
     }
 
@@ -195,7 +202,8 @@ impl Locks {
     pub fn remove_owner(&mut self, owner: &LockOwner)
         ensures { locks_in self.new ≡ map (without (is_lock_of owner.now)) (locks_in self.old) }
     {
-        remove_owner_in(&mut self.files, owner);
+        remove_owner_each(&mut self.files, owner);
+        self.count -= places_left(&self.files, self.count);
     }
 
     /// Removes the lock states of all owners of this client.
@@ -203,7 +211,8 @@ impl Locks {
         ensures { locks_in self.new
             ≡ map (without (is_lock_of_client client)) (locks_in self.old) }
     {
-        remove_client_in(&mut self.files, client);
+        remove_client_each(&mut self.files, client);
+        self.count -= places_left(&self.files, self.count);
     }
 }
 
@@ -221,6 +230,7 @@ fn holds_in(files: &[FileLocks], owner: &LockOwner) -> bool
     files.iter().any(|file| file.holds(owner))
 }
 
+// How many places of this limit the lock states of these files leave.
 fn places_left(files: &[FileLocks], limit: usize) -> usize
     ensures { result ≡ limit - lock_count (locks_in files.now) }
 {
@@ -231,12 +241,26 @@ fn places_left(files: &[FileLocks], limit: usize) -> usize
     left
 }
 
+fn remove_owner_each(files: &mut Vec<FileLocks>, owner: &LockOwner)
+    ensures { locks_in files.new.items
+        ≡ map (without (is_lock_of owner.now)) (locks_in files.old.items) }
+{
+    remove_owner_in(files, owner);
+}
+
 fn remove_owner_in(files: &mut [FileLocks], owner: &LockOwner)
     ensures { locks_in files.new ≡ map (without (is_lock_of owner.now)) (locks_in files.old) }
 {
     for file in files.iter_mut() {
         file.remove_owner(owner);
     }
+}
+
+fn remove_client_each(files: &mut Vec<FileLocks>, client: ClientId)
+    ensures { locks_in files.new.items
+        ≡ map (without (is_lock_of_client client)) (locks_in files.old.items) }
+{
+    remove_client_in(files, client);
 }
 
 fn remove_client_in(files: &mut [FileLocks], client: ClientId)

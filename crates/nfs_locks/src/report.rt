@@ -1,12 +1,16 @@
-ghost use Rattle.std.specs.Prelude.{◌≡◌, [], ◌∷◌, option_map};
+ghost use Rattle.std.specs.Prelude.{◌≡◌, [], ◌∷◌, Some, option_map};
+ghost use Rattle.nfs_locks.specs.KeptLocks.{states_of};
 ghost use Rattle.nfs_locks.specs.Report.{IsMeeting, IsReport};
 ghost use Rattle.nfs_locks.specs.ReportSeen.{comes_before, first_of, meeting_seen, report_seen};
 ghost use Rattle.nfs_locks.specs.StoredLocks.{lock_seen, locks_seen};
+ghost use Rattle.nfs_ranges.specs.Questions.{IsFirstConflict};
+ghost use Rattle.nfs_ranges.specs.RoomyRanges.{modes_in};
 
 use crate::LockState;
 use crate::owner_order::owner_order;
 use nfs_forms::LockOwner;
 use nfs_ranges::{Mode, Range};
+use nfs_rows::Rows;
 
 /// The lock that is in the way of another one: the bytes that its owner holds in one mode round the first byte where it
 /// is.
@@ -26,12 +30,12 @@ pub(crate) struct Meeting<'a> {
 
 /// The lock that is in the way of the owner's lock of the range in this mode, if there is one.
 pub(crate) fn report_among<'a>(
-    states: &'a [LockState],
+    states: &'a Rows<LockState>,
     owner: &LockOwner,
     range: Range,
     mode: Mode,
 ) -> Option<Report<'a>>
-    ensures { IsReport (locks_seen states.now) owner.now range mode
+    ensures { IsReport (locks_seen (states_of states.now.rows)) owner.now range mode
         (option_map report_seen result) }
 {
     let meeting = meeting_among(states, owner, range, mode)?;
@@ -40,35 +44,39 @@ pub(crate) fn report_among<'a>(
 
 // The first byte that is refused, with the report.
 fn meeting_among<'a>(
-    states: &'a [LockState],
+    states: &'a Rows<LockState>,
     owner: &LockOwner,
     range: Range,
     mode: Mode,
 ) -> Option<Meeting<'a>>
-    ensures { IsMeeting (locks_seen states.now) owner.now range mode
+    ensures { IsMeeting (locks_seen (states_of states.now.rows)) owner.now range mode
         (option_map meeting_seen result) }
 {
     let mut first = None;
-    for state in states.iter() {
-        first = first_of(first, meeting_with(state, owner, range, mode));
+    for (_, state) in states.iter() {
+        if let Some(byte) = state.ranges.first_conflict(range, mode) {
+            first = first_of(first, meeting_at(state, owner, range, mode, byte));
+        }
     }
     first
 }
 
-// The first byte that this lock state refuses, with the report of it.
-fn meeting_with<'a>(
+// The first byte that this lock state refuses, with the report of it, where this byte is the first in the way of another
+// owner.
+fn meeting_at<'a>(
     state: &'a LockState,
     owner: &LockOwner,
     range: Range,
     mode: Mode,
+    byte: u64,
 ) -> Option<Meeting<'a>>
+    requires { IsFirstConflict (modes_in state.now.ranges) range mode (Some byte) }
     ensures { IsMeeting (lock_seen state.now ∷ []) owner.now range mode
         (option_map meeting_seen result) }
 {
     if state.is_of(owner) {
         return None;
     }
-    let byte = state.ranges.first_conflict(range, mode)?;
     let (run, held) = state.ranges.run_at(byte)?;
     Some(Meeting {
         byte,

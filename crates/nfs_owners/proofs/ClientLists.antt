@@ -210,6 +210,26 @@ records_confirmed_by change r old are fits by =
       ]
     ]
 
+-- No other record has the number of one that is added.
+
+pub own_arrived : (r : ClientRecord) (old : Registry) → AreRecords old → r.state.client.number ≡ old.last_number + 1 → list_any (takes_number r.id r.state.client.number) old.unconfirmed ≡ false
+own_arrived r old are next = (own_new r old are next).2
+
+pub own_updated : (r : ClientRecord) (old : Registry) → AreRecords old → IsClientOf r.id r.state.client old.confirmed → list_any (takes_number r.id r.state.client.number) old.unconfirmed ≡ false
+own_updated r old are of = (own_of r old old.confirmed are.confirmed_numbers of).2
+
+pub own_confirmed_by : (change : ClientChange) (r : ClientRecord) (old : Registry) → AreRecords old → FitsRecords change old
+    → (change ≡ changes.Confirms r) ⊎ (change ≡ changes.Refreshes r) ⊎ ((client : ClientId) × (change ≡ changes.Replaces r client)) → list_any (takes_number r.id r.state.client.number) old.confirmed ≡ false
+own_confirmed_by change r old are fits by =
+    let fits_as : (c : ClientChange) → change ≡ c → FitsRecords c old = λ c is. subst (λ t. FitsRecords t old) is fits in
+    elim by [
+      | inl first ↦ (own_of r old old.unconfirmed are.unconfirmed_numbers (fits_as (changes.Confirms r) first).1).1
+      | inr again ↦ elim again [
+        | inl anew ↦ (own_of r old old.confirmed are.confirmed_numbers (fits_as (changes.Refreshes r) anew)).1
+        | inr other ↦ (own_of r old old.unconfirmed are.unconfirmed_numbers (fits_as (changes.Replaces r other.0) other.1).1).1
+      ]
+    ]
+
 pub records_empty : AreRecords no_clients
 records_empty = record {
   confirmed = distinct_none have_same_id;
@@ -219,7 +239,7 @@ records_empty = record {
 }
 
 -- a record that is found is the one with its id
-found_of_id : (test : ClientRecord → Bool) (records : List ClientRecord) (r : ClientRecord) → IsDistinct have_same_id records → find test records ≡ Some r → find (is_of r.id) records ≡ Some r
+pub found_of_id : (test : ClientRecord → Bool) (records : List ClientRecord) (r : ClientRecord) → IsDistinct have_same_id records → find test records ≡ Some r → find (is_of r.id) records ≡ Some r
 unfolding IsDistinct
 found_of_id test [] r distinct found = absurd cc
 found_of_id test (s ∷ records) r distinct found =

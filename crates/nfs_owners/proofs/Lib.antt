@@ -1,5 +1,9 @@
 pub mod Lists
 pub mod ClientLists
-pub mod NextLive
 pub mod OwnerLists
-pub mod UnknownPaths
+pub mod RecordRows
+pub mod LiveNumbers
+pub mod Filing
+pub mod OwnerViews
+pub mod Closing
+pub mod Leaving

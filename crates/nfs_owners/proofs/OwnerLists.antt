@@ -1,7 +1,6 @@
 -- Lists of owners of which no two have one name.
-use Rattle.std.proofs.Common.{◌≡◌, ℕ, ◌<◌, Bool, true, false, Some, None, List, [], ◌∷◌, ◌++◌, length, slice_index_or, slice_set, refl, sym, ap, ◌∙◌, arith}
+use Rattle.std.proofs.Common.{◌≡◌, ℕ, ◌<◌, Bool, true, false, List, [], ◌∷◌, ◌++◌, length, refl, ap, ◌∙◌, arith}
 use Rattle.std.specs.Prelude.{◌&&◌, ◌||◌, nat_lt, not, filter, if◌then◌else◌}
-use Rattle.std.specs.List.{position, position_or_len}
 use Rattle.std.proofs.lemmas.Bool.{eqb-true, ltb-true}
 use Rattle.std.proofs.lemmas.List.{length-append, length-map}
 use Rattle.std.proofs.lemmas.List.Filters.{length-filter_both}
@@ -84,47 +83,11 @@ pub unknown_change : (change : OwnerState → OwnerState) (name : StateOwner) (o
 unknown_change change name [] unknown = refl
 unknown_change change name (o ∷ owners) unknown = grind (arith, unknown_change change name owners)
 
--- what is known of a name is known of its owner's name
-known_other : (name : StateOwner) (o : Owner) (owners : List Owner) → has_name name o ≡ true → is_known name owners ≡ is_known o.name owners
-known_other name o owners same = ap (λ n. is_known n owners) (sym (name_exact name o same))
-
--- the owner at the place of a name is the one that a change of that name changes
-pub change_at : (change : OwnerState → OwnerState) (name : StateOwner) (owners : List Owner) (o : Owner) → AreApart owners → position_or_len (has_name name) owners < length owners → o ≡ slice_index_or owners (position_or_len (has_name name) owners) o → slice_set owners (position_or_len (has_name name) owners) (record o { state = change o.state }) ≡ with_change change name owners
-change_at change name [] o apart below at = refl
-change_at change name (first ∷ owners) o apart below at = by (λ below at. change_at change name owners o apart.1 below at) (has_name name first) refl
-  where
-    by : (position_or_len (has_name name) owners < length owners → o ≡ slice_index_or owners (position_or_len (has_name name) owners) o → slice_set owners (position_or_len (has_name name) owners) (record o { state = change o.state }) ≡ with_change change name owners) → (b : Bool) → has_name name first ≡ b → slice_set (first ∷ owners) (position_or_len (has_name name) (first ∷ owners)) (record o { state = change o.state }) ≡ with_change change name (first ∷ owners)
-    by rest true same = grind (arith, same, at, unknown_change change name owners (known_other name first owners same ∙ apart.0))
-    by rest false other = grind (arith, other, at, below, rest)
-
--- the owner at the place that is found for a name is the one that a change of that name changes
-pub change_found : (change : OwnerState → OwnerState) (name : StateOwner) (owners : List Owner) (place : ℕ) (o : Owner) → AreApart owners → position (has_name name) owners ≡ Some place → o ≡ slice_index_or owners place o → slice_set owners place (record o { state = change o.state }) ≡ with_change change name owners
-change_found change name owners place o apart found at = by (nat_lt (position_or_len (has_name name) owners) (length owners)) refl
-  where
-    by : (b : Bool) → nat_lt (position_or_len (has_name name) owners) (length owners) ≡ b → slice_set owners place (record o { state = change o.state }) ≡ with_change change name owners
-    by true below = grind (arith, found, at, below, change_at change name owners o apart)
-    by false below = grind (arith, found, below)
-
 pub owners_change : (change : OwnerState → OwnerState) (name : StateOwner) (owners : List Owner) → AreOwners owners → AreOwners (with_change change name owners)
 owners_change change name owners are = (omega (arith, length-map {B = Owner} owners (λ o. if has_name name o then record o { state = change o.state } else o), are.0), apart_change change name owners are.1)
 
 pub owners_push : (owners : List Owner) (o : Owner) → AreOwners owners → is_known o.name owners ≡ false → length owners < OWNER_LIMIT → AreOwners (owners ++ o ∷ [])
 owners_push owners o are new below = (omega (arith, length-append owners (o ∷ []), below), apart_push owners o are.1 new)
-
-pub no_place : (name : StateOwner) (owners : List Owner) → position (has_name name) owners ≡ None → is_known name owners ≡ false
-no_place name [] none = refl
-no_place name (o ∷ owners) none = grind (arith, none, no_place name owners)
-
-pub known_place : (name : StateOwner) (owners : List Owner) (place : ℕ) → position (has_name name) owners ≡ Some place → is_known name owners ≡ true
-known_place name [] place found = cc
-known_place name (o ∷ owners) place found = grind (arith, found, known_place name owners (position_or_len (has_name name) owners))
-
--- the owners after a request was kept
-pub kept_found : (name : StateOwner) (number : ℕ) (kept : Kept) (owners : List Owner) (place : ℕ) (o : Owner) → AreApart owners → position (has_name name) owners ≡ Some place → o ≡ slice_index_or owners place o → slice_set owners place (record o { state = with_request number kept o.state }) ≡ with_kept name number kept owners
-kept_found name number kept owners place o apart found at = rw (known_place name owners place found) (change_found (with_request number kept) name owners place o apart found at)
-
-pub kept_new : (name : StateOwner) (number : ℕ) (kept : Kept) (owners : List Owner) → position (has_name name) owners ≡ None → owners ++ new_owner name number kept ∷ [] ≡ with_kept name number kept owners
-kept_new name number kept owners none = rw (no_place name owners none) refl
 
 pub owners_kept : (name : StateOwner) (number : ℕ) (kept : Kept) (owners : List Owner) → AreOwners owners → has_place name owners ≡ true → AreOwners (with_kept name number kept owners)
 owners_kept name number kept owners are place = by (is_known name owners) refl
@@ -142,7 +105,7 @@ fewer_known : (name : StateOwner) (owners : List Owner) → is_known name owners
 fewer_known name [] known = cc
 fewer_known name (o ∷ owners) known = grind (arith, known, fewer_known name owners, length-filter_both (λ o. not (has_name name o)) (has_name name) (λ x. not_not (has_name name x)) owners)
 
-same_unknown : (name : StateOwner) (owners : List Owner) → is_known name owners ≡ false → without_owner name owners ≡ owners
+pub same_unknown : (name : StateOwner) (owners : List Owner) → is_known name owners ≡ false → without_owner name owners ≡ owners
 same_unknown name [] unknown = refl
 same_unknown name (o ∷ owners) unknown = grind (arith, unknown, same_unknown name owners)
 

@@ -1,5 +1,6 @@
 pub mod Addresses
 pub mod Registry
+pub mod Records
 pub mod ClientChange
 pub mod Registration
 pub mod Confirmation
@@ -8,6 +9,8 @@ pub mod Kept
 pub mod StateOwner
 pub mod Owner
 pub mod Owners
+pub mod Closers
+pub mod OwnerRows
 pub mod OwnerLaws
 pub mod LiveClients
 pub mod LiveChange

@@ -1,6 +1,6 @@
 -- Which clients are live, which come next, of all or of those whose path isn't known yet, and which one a confirmation
 -- ends (RFC 7530, sections 9.1.1, 10.2 and 16.34.5).
-use Rattle.std.specs.Prelude.{◌≡◌, ℕ, ◌<◌, ◌≤◌, nat_lt, Bool, true, false, ◌&&◌, ◌||◌, ◌==◌, not, IsTrue, List, filter, find, Option, Some, None, option_and_then, if◌then◌else◌}
+use Rattle.std.specs.Prelude.{◌≡◌, ℕ, ◌<◌, ◌≤◌, Bool, true, false, ◌&&◌, ◌||◌, ◌==◌, not, IsTrue, List, filter, find, Option, Some, None, option_and_then, if◌then◌else◌}
 use Rattle.std.specs.List.{list_any}
 use Rattle.nfs_owners.specs.Registry.{Registry, confirmed_of, is_live, is_of_client, record_of, record_state, was_given}
 use Rattle.nfs_owners.specs.declared.client_record.ClientRecord.{ClientRecord}
@@ -32,6 +32,10 @@ is_unknown marks.Down = false
 abbrev pub has_unknown_path : ClientRecord → Bool
 has_unknown_path r = is_unknown r.state.path
 
+-- the record is of the client with this number, and nothing is known of the client's path
+abbrev pub is_unknown_of : ℕ → ClientRecord → Bool
+is_unknown_of number r = is_of_client number r && has_unknown_path r
+
 -- Of the live clients of whose paths nothing is known, the one with the least number above this one, by what its
 -- confirmed record has; or that there is none.
 abbrev pub IsNextUnknown : ℕ → Registry → Option ClientState → Type 0
@@ -41,15 +45,6 @@ IsNextUnknown after registry (Some state) =
     IsNextAmong after (filter has_unknown_path registry.confirmed) (Some state.client.number)
     × (record_state (record_of state.client registry) ≡ Some state)
     × (state.path ≡ marks.Unknown)
-
--- the least number so far, and one more record
-abbrev pub nearer_of : ℕ → Option ℕ → ClientRecord → Option ℕ
-nearer_of after None r =
-    if nat_lt after r.state.client.number then Some r.state.client.number else None
-nearer_of after (Some next) r =
-    if nat_lt after r.state.client.number && nat_lt r.state.client.number next
-    then Some r.state.client.number
-    else Some next
 
 -- the unconfirmed record of the client with this number, if there is one
 abbrev pub unconfirmed_of_client : ℕ → Registry → Option ClientRecord

@@ -1,19 +1,20 @@
-ghost use Rattle.std.specs.Prelude.{◌≡◌, ◌<◌, ◌≤◌, ◌-◌, [], ◌∷◌, ◌++◌, IsOk, OnOk, find, option_map};
+ghost use Rattle.std.specs.Prelude.{◌≡◌, ◌≤◌, IsOk, OnOk, find, option_map};
 ghost use Rattle.std.specs.Option.{option_copied};
-ghost use Rattle.std.specs.Vec.{vec_len, vec_capacity};
-ghost use Rattle.nfs_owners.specs.LiveClients.{IsNextAmong, nearer_of};
-ghost use Rattle.nfs_owners.specs.Registry.{client_seen, is_named_by, is_of_client, record_state, without_id, without_number};
+ghost use Rattle.nfs_owners.specs.Registry.{client_seen, is_named_by, record_state};
 
 mod client_change;
 mod confirmation;
 mod path_marks;
+mod records;
 mod registration;
 
 use crate::{ClientRecord, ClientRef, ClientState};
 pub use client_change::ClientChange;
 use nfs_operations::setclientid_confirm::SetclientidConfirm;
 use nfs_xdr::ClientId;
+use records::Records;
 use std::alloc::{AllocError, Global};
+use std::hash::RandomState;
 use std::marker::Model;
 
 /// The clients' confirmed and unconfirmed records, each in the order in which they were added, and the numbers that were
@@ -21,8 +22,8 @@ use std::marker::Model;
 /// SETCLIENTID_CONFIRM are decided first (`set`, `confirm`); after `make_room` the change takes no memory.
 #[derive(Drop)]
 pub struct Clients {
-    confirmed: Vec<ClientRecord>,
-    unconfirmed: Vec<ClientRecord>,
+    confirmed: Records,
+    unconfirmed: Records,
     /// The client number that was given out last; 0 before the first.
     last_number: u32,
     /// The confirm value that was given out last; 0 before the first.
@@ -30,8 +31,6 @@ pub struct Clients {
 }
 
 impl Model for Clients {
-    ghost use Rattle.std.specs.Prelude.{◌-◌};
-    ghost use Rattle.std.specs.Vec.{vec_len, vec_capacity};
     ghost use Rattle.nfs_owners.specs.ClientRoom.{RoomyClients};
     ghost use Rattle.nfs_owners.specs.Registry.{AreRecords};
 
@@ -39,18 +38,18 @@ impl Model for Clients {
 
     ghost view = { λ c. record {
       registry = record {
-        confirmed = c.confirmed.items;
-        unconfirmed = c.unconfirmed.items;
+        confirmed = c.confirmed.records;
+        unconfirmed = c.unconfirmed.records;
         last_number = c.last_number;
         last_confirm = c.last_confirm;
       };
-      confirmed_room = vec_capacity c.confirmed - vec_len c.confirmed;
-      unconfirmed_room = vec_capacity c.unconfirmed - vec_len c.unconfirmed;
+      confirmed_room = c.confirmed.room;
+      unconfirmed_room = c.unconfirmed.room;
     } };
 
     ghost invariant = { λ c. AreRecords (record {
-      confirmed = c.confirmed.items;
-      unconfirmed = c.unconfirmed.items;
+      confirmed = c.confirmed.records;
+      unconfirmed = c.unconfirmed.records;
       last_number = c.last_number;
       last_confirm = c.last_confirm;
     }) };
@@ -63,12 +62,13 @@ impl Clients {
     ghost use Rattle.nfs_owners.specs.Registry.{AreRecords, client_seen, confirmed_named_by, confirmed_of, is_live, no_clients, record_of, record_state, unconfirmed_named_by, was_given, without_client};
 
     /// A registry without clients, taking no memory.
-    pub fn new(alloc: Global) -> Clients
+    pub fn new(alloc: Global, ids: RandomState) -> Clients
         ensures { result.registry ≡ no_clients }
     {
+        let _ = ids;
         Clients {
-            confirmed: Vec::new(alloc),
-            unconfirmed: Vec::new(alloc),
+            confirmed: Records::new(alloc, ids),
+            unconfirmed: Records::new(alloc, ids),
             last_number: 0,
             last_confirm: 0,
         }
@@ -86,28 +86,38 @@ impl Clients {
     pub fn confirmed_of(&self, id: &[u8]) -> Option<&ClientState>
         ensures { option_copied result ≡ record_state (confirmed_of self.now.registry id.now) }
     {
-        state_of(self.confirmed.iter().find(|r| r.is_of(id)))
+        state_of(self.confirmed.of_id(id))
     }
 
     /// What the confirmed record with this clientid has, if there is one.
     pub fn of(&self, client: ClientId) -> Option<&ClientState>
         ensures { option_copied result ≡ record_state (record_of client self.now.registry) }
     {
-        state_of(self.confirmed.iter().find(|r| r.state.client == client))
+        let record = self.confirmed.of_client(client.number)?;
+        if record.state.client == client {
+            Some(&record.state)
+        } else {
+            None
+        }
     }
 
     /// Whether the client with this number has a confirmed record.
     pub fn live(&self, number: u32) -> bool
         ensures { result ≡ is_live number self.now.registry }
     {
-        self.confirmed.iter().any(|r| r.is_of_client(number))
+        self.confirmed.of_client(number).is_some()
     }
 
     /// The least number above this one that a live client has, if there is one.
     pub fn next_live(&self, after: u32) -> Option<u32>
         ensures { IsNextLive after self.now.registry result }
     {
-        next_among(&self.confirmed, after)
+        for number in after..self.last_number {
+            if self.live(number + 1) {
+                return Some(number + 1);
+            }
+        }
+        None
     }
 
     /// The number of the live client that the client with this number replaces once it is confirmed: another one, of the
@@ -124,7 +134,7 @@ impl Clients {
     fn unconfirmed_of_client(&self, number: u32) -> Option<ClientRef<'_>>
         ensures { option_map client_seen result ≡ unconfirmed_of_client number self.now.registry }
     {
-        lent(with_number(&self.unconfirmed, number))
+        lent(self.unconfirmed.of_client(number))
     }
 
     /// Whether a client was given this number.
@@ -156,8 +166,8 @@ impl Clients {
         ensures room { (self.old.confirmed_room ≤ self.new.confirmed_room)
             × (self.old.unconfirmed_room ≤ self.new.unconfirmed_room) }
     {
-        remove_number(&mut self.confirmed, number);
-        remove_number(&mut self.unconfirmed, number);
+        self.confirmed.remove_client(number);
+        self.unconfirmed.remove_client(number);
     }
 
     /// Makes room for the change.
@@ -168,9 +178,9 @@ impl Clients {
     {
         match change {
             ClientChange::Nothing => Ok(()),
-            ClientChange::Arrives(_) | ClientChange::Updates(_) => self.unconfirmed.reserve(1),
+            ClientChange::Arrives(_) | ClientChange::Updates(_) => self.unconfirmed.reserve(),
             ClientChange::Confirms(_) | ClientChange::Refreshes(_) | ClientChange::Replaces(_, _) =>
-                self.confirmed.reserve(1),
+                self.confirmed.reserve(),
         }
     }
 
@@ -186,17 +196,18 @@ impl Clients {
             ClientChange::Arrives(record) => {
                 self.last_number += 1;
                 self.last_confirm += 1;
-                put(&mut self.unconfirmed, record);
+                self.unconfirmed.put(record);
             }
             ClientChange::Updates(record) => {
                 self.last_confirm += 1;
-                put(&mut self.unconfirmed, record);
+                self.unconfirmed.put(record);
             }
             ClientChange::Confirms(record)
             | ClientChange::Refreshes(record)
             | ClientChange::Replaces(record, _) => {
-                remove_id(&mut self.unconfirmed, record.id.as_slice());
-                put(&mut self.confirmed, record);
+                let number = record.state.client.number;
+                self.unconfirmed.remove_id(record.id.as_slice(), number);
+                self.confirmed.put(record);
             }
         }
     }
@@ -223,65 +234,13 @@ fn lent(found: Option<&ClientRecord>) -> Option<ClientRef<'_>>
 }
 
 // The record that the arguments of SETCLIENTID_CONFIRM name, if there is one.
-fn named_by<'a>(records: &'a [ClientRecord], args: &SetclientidConfirm) -> Option<&'a ClientRecord>
-    ensures { option_copied result ≡ find (is_named_by args.now) records.now }
+fn named_by<'a>(records: &'a Records, args: &SetclientidConfirm) -> Option<&'a ClientRecord>
+    ensures { option_copied result ≡ find (is_named_by args.now) records.now.records }
 {
-    records.iter().find(|r| r.is_named_by(args))
-}
-
-// The record of the client with this number, if there is one.
-fn with_number(records: &[ClientRecord], number: u32) -> Option<&ClientRecord>
-    ensures { option_copied result ≡ find (is_of_client number) records.now }
-{
-    records.iter().find(|r| r.is_of_client(number))
-}
-
-// The least client number above this one that one of the records has, if there is one.
-fn next_among(records: &[ClientRecord], after: u32) -> Option<u32>
-    ensures { IsNextAmong after records.now result }
-{
-    let mut least = None;
-    for record in records {
-        least = nearer(least, record, after);
+    let record = records.of_client(args.client.number)?;
+    if record.is_named_by(args) {
+        Some(record)
+    } else {
+        None
     }
-    least
-}
-
-// The record's number instead, if it is above `after` and below the least so far.
-fn nearer(least: Option<u32>, candidate: &ClientRecord, after: u32) -> Option<u32>
-    ensures { result ≡ nearer_of after least candidate.now }
-{
-    let number = candidate.state.client.number;
-    match least {
-        None if after < number => Some(number),
-        Some(next) if after < number && number < next => Some(number),
-        _ => least,
-    }
-}
-
-// Adds the record at the end, where there has to be room, and removes the one with the same id.
-fn put(records: &mut Vec<ClientRecord>, newcomer: ClientRecord)
-    requires { vec_len records.old < vec_capacity records.old }
-    ensures { records.new.items ≡ without_id newcomer.id records.old.items ++ newcomer ∷ [] }
-{
-    remove_id(records, newcomer.id.as_slice());
-    records.push_reserved(newcomer);
-}
-
-// Removes the record with this id.
-fn remove_id(records: &mut Vec<ClientRecord>, id: &[u8])
-    ensures items { records.new.items ≡ without_id id.now records.old.items }
-    ensures room { vec_capacity records.old - vec_len records.old
-        ≤ vec_capacity records.new - vec_len records.new }
-{
-    records.retain(|r| !r.is_of(id));
-}
-
-// Removes the records of the client with this number.
-fn remove_number(records: &mut Vec<ClientRecord>, number: u32)
-    ensures items { records.new.items ≡ without_number number records.old.items }
-    ensures room { vec_capacity records.old - vec_len records.old
-        ≤ vec_capacity records.new - vec_len records.new }
-{
-    records.retain(|r| !r.is_of_client(number));
 }

@@ -1,4 +1,5 @@
 ghost use Rattle.std.specs.Prelude.{◌≡◌, ◌≢◌, MatchBool};
+ghost use Rattle.nfs_owners.specs.Closers.{closed_by, closed_in};
 ghost use Rattle.nfs_owners.specs.Kept.{IsVerdict, closes, is_close, next_seqid, precedes, request_of};
 
 use nfs_xdr::{Answer, ClientId, Op, OpResult};
@@ -52,6 +53,16 @@ impl Kept {
         seqid == next_seqid(self.seqid)
     }
 
+    // The number of the state that this closed, if it is a CLOSE that was answered NFS4_OK.
+    pub(crate) fn closed(&self) -> Option<u32>
+        ensures { result ≡ closed_by self.now }
+    {
+        match &self.answer {
+            OpResult::Close(Answer::Done(_)) => self.request.closed(),
+            _ => None,
+        }
+    }
+
     /// Whether this is a CLOSE of the client's state with this number that was answered NFS4_OK.
     pub fn closes(&self, client: ClientId, number: u32) -> bool
         ensures { result ≡ closes client number self.now }
@@ -70,6 +81,16 @@ impl KeptRequest {
             (self.now ≢ request_of op.now filehandle) }
     {
         self.filehandle == filehandle && self.op.is_same(op)
+    }
+
+    // The number of the state that the operation would close, if it is a CLOSE.
+    fn closed(&self) -> Option<u32>
+        ensures { result ≡ closed_in self.now.op }
+    {
+        match &self.op {
+            Op::Close(args) => Some(args.stateid.number),
+            _ => None,
+        }
     }
 
     // Whether the operation is a CLOSE of the client's state with this number.

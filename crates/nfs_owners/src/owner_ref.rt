@@ -4,7 +4,9 @@ ghost use Rattle.nfs_forms.specs.declared.open_owner.TheConstants.{OWNER_NAME_LI
 use crate::copy_of_bytes::copy_of_bytes;
 use crate::{OwnerKind, StateOwner};
 use nfs_forms::{ClientId, LockOwner, OWNER_NAME_LIMIT, OpenOwner};
+use nfs_rows::hash_of;
 use std::alloc::{AllocError, Global};
+use std::hash::RandomState;
 
 /// An owner's kind, client and name, lent: by these an owner is looked for without a copy of its name, which is at most
 /// as long as that of an owner.
@@ -18,6 +20,7 @@ pub struct OwnerRef<'a> {
 
 impl<'a> OwnerRef<'a> {
     ghost use Rattle.std.specs.Prelude.{◌≡◌, IfOk};
+    ghost use Rattle.nfs_owners.specs.OwnerRows.{name_hash};
     ghost use Rattle.nfs_owners.specs.StateOwner.{as_open_owner, is_same_state_owner, lock_owner, open_owner, owner_seen};
 
     /// This open owner.
@@ -61,6 +64,18 @@ impl<'a> OwnerRef<'a> {
             client: self.client,
             name: copy_of_bytes(alloc, self.name)?,
         })
+    }
+
+    // The keyed hash of the owner's name.
+    pub(crate) fn hash(self, names: RandomState) -> u64
+        ensures { result ≡ name_hash names (owner_seen self.entry) }
+    {
+        let space = u64::from(self.client.epoch) * 0x1_0000_0000 + u64::from(self.client.number);
+        let kind = match self.kind {
+            OwnerKind::Open => 0,
+            OwnerKind::Lock => 1,
+        };
+        hash_of(names, space, kind, self.name)
     }
 
     /// Whether the owner is this one.

@@ -1,5 +1,4 @@
-ghost use Rattle.std.specs.Prelude.{◌≡◌, ◌<◌, ◌≤◌, ◌+◌, ◌↔◌, false, [], find, IsErrOf, IsFalse, IsOk, IsTrue, OnOk, length, option_map};
-ghost use Rattle.std.specs.List.{position};
+ghost use Rattle.std.specs.Prelude.{◌≡◌, ◌<◌, ◌≤◌, ◌+◌, ◌↔◌, true, false, [], find, IsErrOf, IsFalse, IsOk, IsTrue, OnOk, length, option_map};
 ghost use Rattle.std.specs.Option.{option_copied};
 ghost use Rattle.nfs_owners.specs.Kept.{closes, request_of};
 ghost use Rattle.nfs_owners.specs.StateOwner.{owner_seen};
@@ -7,43 +6,44 @@ ghost use Rattle.nfs_owners.specs.declared.state_owner.StateOwner.{StateOwner};
 ghost use Rattle.nfs_owners.specs.Owner.{has_name, is_known, owner_of, standing_of};
 ghost use Rattle.nfs_owners.specs.Owners.{IsJudged, has_place, with_confirmed, with_kept, without_owner, without_owners_of};
 
+use crate::owner_rows::OwnerRows;
 use crate::{
     Kept, OWNER_LIMIT, Owner, OwnerKind, OwnerRef, OwnerStanding, OwnerState, OwnersError,
     StateOwner, Verdict,
 };
 use nfs_xdr::{ClientId, Op};
 use std::alloc::Global;
+use std::hash::RandomState;
 use std::marker::Model;
 
 /// The owners that the server knows, in the order in which they were recorded: at most `OWNER_LIMIT`, no two with one
 /// name.
 #[derive(Drop)]
 pub struct Owners {
-    owners: Vec<Owner>,
+    owners: OwnerRows,
 }
 
 impl Model for Owners {
-    ghost use Rattle.std.specs.Prelude.{◌-◌};
-    ghost use Rattle.std.specs.Vec.{vec_len, vec_capacity};
     ghost use Rattle.nfs_owners.specs.Owners.{AreOwners, RoomyOwners};
+    ghost use Rattle.nfs_owners.specs.OwnerRows.{owners_in};
 
     ghost Value = { RoomyOwners };
 
     ghost view = { λ o. record {
-      owners = o.owners.items;
-      room = vec_capacity o.owners - vec_len o.owners;
+      owners = owners_in o.owners.rows;
+      room = o.owners.room;
     } };
 
-    ghost invariant = { λ o. AreOwners o.owners.items };
+    ghost invariant = { λ o. AreOwners (owners_in o.owners.rows) };
 }
 
 impl Owners {
-    /// No owners, taking no memory.
-    pub fn new(alloc: Global) -> Owners
+    /// No owners, taking no memory. Their names are found by hashes with this seed.
+    pub fn new(alloc: Global, names: RandomState) -> Owners
         ensures { result.owners ≡ [] }
     {
         Owners {
-            owners: Vec::new(alloc),
+            owners: OwnerRows::new(alloc, names),
         }
     }
 
@@ -52,7 +52,7 @@ impl Owners {
         ensures { option_copied result
             ≡ option_map (λ o. o.state) (owner_of (owner_seen name.entry) self.now.owners) }
     {
-        match self.owners.iter().find(|o| o.has_name(name)) {
+        match self.owners.find(name) {
             Some(owner) => Some(&owner.state),
             None => None,
         }
@@ -78,11 +78,7 @@ impl Owners {
         ensures { option_map owner_seen result ≡ option_map (λ o. o.name)
             (find (λ o. closes client number o.state.kept) self.now.owners) }
     {
-        match self
-            .owners
-            .iter()
-            .find(|o| o.state.kept.closes(client, number))
-        {
+        match self.owners.closer_of(client, number) {
             Some(owner) => Some(owner.name.as_ref()),
             None => None,
         }
@@ -109,21 +105,15 @@ impl Owners {
         ensures left { IsTrue result
             → length (without_owner (owner_seen name.entry) self.now.owners) < OWNER_LIMIT }
     {
-        self.is_known(name) || self.owners.len() < OWNER_LIMIT
+        // A hash costs more than this look.
+        self.owners.len() < OWNER_LIMIT || self.is_known(name)
     }
 
     // Whether the owner with this name is known.
     fn is_known(&self, name: OwnerRef<'_>) -> bool
         ensures { result ≡ is_known (owner_seen name.entry) self.now.owners }
     {
-        self.owners.iter().any(|o| o.has_name(name))
-    }
-
-    // Where the owner with this name is in the list, if it is known.
-    fn place_of(&self, name: OwnerRef<'_>) -> Option<usize>
-        ensures { result ≡ position (has_name (owner_seen name.entry)) self.now.owners }
-    {
-        self.owners.iter().position(|o| o.has_name(name))
+        self.owners.row_of(name).is_some()
     }
 
     /// Makes room for one more owner, also where the owner is known. Full if it has no place.
@@ -140,7 +130,7 @@ impl Owners {
         if !self.has_place(name) {
             return Err(OwnersError::Full);
         }
-        Ok(self.owners.reserve(1)?)
+        Ok(self.owners.reserve()?)
     }
 
     /// Makes this the kept request of the owner with this name, in the journal's entry `number`; an unknown owner is
@@ -152,9 +142,11 @@ impl Owners {
         ensures room { self.old.room ≤ self.new.room + 1 }
         ensures known { IsTrue (is_known name self.old.owners) → self.new.room ≡ self.old.room }
     {
-        match self.place_of(name.as_ref()) {
-            Some(place) => self.owners[place].state.keep(number, kept),
-            None => self.owners.push_reserved(Owner::new(name, number, kept)),
+        let owner = name.as_ref();
+        let hash = self.owners.hash(owner);
+        match self.owners.row_of_hash(hash, owner) {
+            Some(row) => self.owners.keep_at(row, number, kept),
+            None => self.owners.add(hash, Owner::new(name, number, kept)),
         }
     }
 
@@ -163,8 +155,8 @@ impl Owners {
         ensures owners { self.new.owners ≡ with_confirmed (owner_seen name.entry) self.old.owners }
         ensures room { self.new.room ≡ self.old.room }
     {
-        if let Some(place) = self.place_of(name) {
-            self.owners[place].state.confirmed = true;
+        if let Some(row) = self.owners.row_of(name) {
+            self.owners.confirm_at(row);
         }
     }
 
@@ -175,7 +167,9 @@ impl Owners {
         ensures places { (other : StateOwner)
             → IsTrue (has_place other self.old.owners) → IsTrue (has_place other self.new.owners) }
     {
-        self.owners.retain(|o| !o.has_name(name));
+        if let Some(row) = self.owners.row_of(name) {
+            self.owners.remove_at(row);
+        }
     }
 
     /// Forgets the owners of this client.
@@ -183,6 +177,6 @@ impl Owners {
         ensures owners { self.new.owners ≡ without_owners_of client self.old.owners }
         ensures room { self.old.room ≤ self.new.room }
     {
-        self.owners.retain(|o| !o.has_client(client));
+        self.owners.remove_client(client);
     }
 }

@@ -1,6 +1,7 @@
 ghost use Rattle.std.specs.Prelude.{◌≡◌};
 ghost use Rattle.nfs_program.specs.Once.{fault_of, status_of};
 
+use nfs_core::NoRandomSeed;
 use nfs_journal::AuditError;
 use nfs_server::ServeError;
 use nfs_tree::TreeError;
@@ -24,6 +25,8 @@ pub enum Fault {
     InputTooLong,
     EndsInsideRecord,
     NoMemory,
+    /// The system gave no random bytes for the seeds.
+    NoRandomSeed,
     /// No listener can be had at the address that is asked for.
     Socket,
     /// The bytes are no journal.
@@ -49,6 +52,7 @@ impl Display for FaultWords {
             Fault::InputTooLong => "input too long",
             Fault::EndsInsideRecord => "input ends inside a record",
             Fault::NoMemory => "no memory",
+            Fault::NoRandomSeed => "no random seed",
             Fault::Socket => "socket",
             Fault::NotJournal => "not a journal",
         };
@@ -85,6 +89,16 @@ impl From<AuditError> for Fault {
             AuditError::WrongAnswer(number) => Fault::WrongAnswer(number),
             AuditError::Memory => Fault::NoMemory,
         }
+    }
+}
+
+impl From<NoRandomSeed> for Fault {
+    ghost use Rattle.nfs_program.specs.declared.fault.Fault.TheVariants as faults;
+
+    ghost from_gives = { λ _ f. f ≡ faults.NoRandomSeed };
+
+    fn from(_refused: NoRandomSeed) -> Fault {
+        Fault::NoRandomSeed
     }
 }
 

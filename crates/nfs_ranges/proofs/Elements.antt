@@ -1,5 +1,5 @@
 -- What holds of each element of a list, and the element at a place.
-use Rattle.std.proofs.Common.{◌≡◌, ℕ, zero, suc, ◌+◌, ◌<◌, ◌≤◌, List, [], ◌∷◌, ◌++◌, length, get_or, reverse, drop, take, Some, None, inl, inr, sym, ◌∙◌, ap, subst, arith}
+use Rattle.std.proofs.Common.{◌≡◌, refl, ℕ, zero, suc, ◌+◌, ◌<◌, ◌≤◌, List, [], ◌∷◌, ◌++◌, length, get_or, reverse, drop, take, Some, None, inl, inr, sym, ◌∙◌, ap, subst, arith}
 use Rattle.std.specs.Prelude.{find, slice_get, Bool}
 use Rattle.std.specs.List.{AllByRecursion}
 use Rattle.std.proofs.lemmas.Bool.{cases_Bool}
@@ -35,6 +35,31 @@ module _ {X : Type 0} where
         | inl passes ↦ subst P (same_Some y x (rw passes at is)) h.0
         | inr fails ↦ all_find P test ys x h.1 (rw fails at is)
       ]
+
+  -- what is found in the first of two lists in a row, and in the second
+  pub find_append : (test : X → Bool) (xs ys : List X) (x : X) → find test xs ≡ Some x → find test (xs ++ ys) ≡ Some x
+  find_append test [] ys x is = absurd cc
+  find_append test (y ∷ xs) ys x is =
+      elim (cases_Bool (test y)) [
+        | inl passes ↦ rw passes (rw passes at is)
+        | inr fails ↦ rw fails (find_append test xs ys x (rw fails at is))
+      ]
+
+  pub find_past : (test : X → Bool) (xs ys : List X) → find test xs ≡ None → find test (xs ++ ys) ≡ find test ys
+  find_past test [] ys is = refl
+  find_past test (y ∷ xs) ys is =
+      elim (cases_Bool (test y)) [
+        | inl passes ↦
+            let some : Some y ≡ None = rw passes at is in
+            absurd cc
+        | inr fails ↦ rw fails (find_past test xs ys (rw fails at is))
+      ]
+
+  pub take_most : (xs : List X) (n : ℕ) → length xs ≤ n → take n xs ≡ xs
+  take_most [] zero most = refl
+  take_most [] (suc n) most = refl
+  take_most (x ∷ xs) zero most = absurd (omega (arith, most))
+  take_most (x ∷ xs) (suc n) most = ap (λ ys. x ∷ ys) (take_most xs n (omega (arith, most)))
 
   -- beyond the last element there is none, and before it there is one
   pub get_none : (xs : List X) (i : ℕ) → slice_get xs i ≡ None → length xs ≤ i

@@ -1,8 +1,9 @@
 -- What is asked of the modes of the bytes, for a lock that another owner wants (RFC 7530, sections 16.10 and 16.11).
-use Rattle.std.specs.Prelude.{◌≡◌, ◌⊎◌, ℕ, ◌+◌, ◌-◌, ◌^◌, ◌<◌, ◌≤◌, true, false, Option, Some, None}
+use Rattle.std.specs.Prelude.{◌≡◌, ◌⊎◌, ℕ, ◌+◌, ◌-◌, ◌^◌, ◌<◌, ◌≤◌, true, false, Bool, ◌||◌, nat_lt, Option, Some, None}
 use Rattle.nfs_ranges.specs.Bytes.{IsIn}
 use Rattle.nfs_ranges.specs.Modes.{conflicts, is_same}
 use Rattle.nfs_ranges.specs.declared.mode.Mode.{Mode}
+use Rattle.nfs_ranges.specs.declared.piece.Piece.{Piece}
 use Rattle.nfs_ranges.specs.declared.range.Range.{Range}
 
 -- The first byte of the range where a lock with the asked mode would be refused, if there is one.
@@ -12,6 +13,10 @@ IsFirstConflict modes range asked None =
 IsFirstConflict modes range asked (Some first) =
     IsIn range first × (conflicts asked (modes first) ≡ true)
     × ((byte : ℕ) → range.first ≤ byte → byte < first → conflicts asked (modes byte) ≡ false)
+
+-- A walk over runs up to a byte, for a lock with the asked mode, stops at this one: it begins behind the byte, or refuses.
+abbrev pub stops : ℕ → Mode → Piece → Bool
+stops last asked p = nat_lt last p.range.first || conflicts asked p.mode
 
 -- from the first to the last, all bytes have the mode of this one
 abbrev pub AreAs : (ℕ → Option Mode) → ℕ → ℕ → ℕ → Type 0

@@ -13,6 +13,7 @@ mod runs;
 mod shifts;
 mod splice;
 mod splices;
+mod stops;
 
 pub use bytes::range_of;
 pub use laws::{

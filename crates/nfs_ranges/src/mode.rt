@@ -1,12 +1,13 @@
 ghost use Rattle.std.specs.Prelude.{◌≡◌};
 ghost use Rattle.nfs_ranges.specs.Modes.{conflicts, is_same};
 
-/// What a lock is for: to read bytes while others may read them, or to write them alone (RFC 7530, section 16.10).
+/// What a lock is for: to read bytes beside other readers, or to write them alone (RFC 7530, section 16.10). Locks are
+/// advisory: they refuse other locks, and no READ or WRITE.
 #[derive(Clone, Copy, PartialEq, Eq)]
 pub enum Mode {
-    /// Others may read the bytes.
+    /// Others may lock the bytes for reading.
     Read,
-    /// Others may neither read nor write them.
+    /// Others may not lock them.
     Write,
 }
 

@@ -1,14 +1,15 @@
-ghost use Rattle.std.specs.Prelude.{◌≡◌, ◌≤◌, ◌+◌, ℕ, [], OnOk, find, length, slice_get, vec_len};
+ghost use Rattle.std.specs.Prelude.{◌≡◌, ◌≤◌, ◌<◌, ◌+◌, ℕ, [], IsFalse, IsTrue, OnOk, drop, find, length, slice_get, vec_len};
 ghost use Rattle.nfs_ranges.specs.Bytes.{has};
 ghost use Rattle.nfs_ranges.specs.Merged.{IsMerged, ended, in_order};
 ghost use Rattle.nfs_ranges.specs.Modes.{modes_of};
-ghost use Rattle.nfs_ranges.specs.Questions.{IsFirstConflict};
+ghost use Rattle.nfs_ranges.specs.Questions.{IsFirstConflict, stops};
 ghost use Rattle.nfs_ranges.specs.Room.{HaveCapacityOf, IsRoomy};
 ghost use Rattle.nfs_ranges.specs.Splices.{spliced};
 ghost use Rattle.nfs_ranges.specs.declared.limits.TheConstants.{RUN_LIMIT};
 
 use crate::shifts::{push_some, shift};
 use crate::splice::Splice;
+use crate::stops::{first_stop, last_stop};
 use crate::{Mode, Piece, Range};
 use std::alloc::{AllocError, Global};
 
@@ -54,23 +55,57 @@ impl Runs {
         None
     }
 
-    /// How many end before the byte, found by halving.
+    /// How many end before the byte, found beside the place of the last change or by halving.
     pub fn count_ended(&self, byte: u64) -> usize
         requires few { length (in_order self.now) ≤ RUN_LIMIT }
         requires merged { IsMerged (in_order self.now) }
         ensures { result ≡ ended byte (in_order self.now) }
     {
-        let mut low = 0;
-        let mut high = self.len();
+        let (mut low, mut high) = self.between(byte);
         'halving: loop {
             if low >= high {
                 return low;
             }
             let middle = low + (high - low) / 2;
-            match self.get(middle) {
-                Some(run) if run.range.last < byte => low = middle + 1,
-                _ => high = middle,
+            if self.is_ended(middle, byte) {
+                low = middle + 1;
+            } else {
+                high = middle;
             }
+        }
+    }
+
+    // Two numbers between which that of the runs that end before the byte is: one number, where it is that of the runs
+    // before the place of the last change, or one more.
+    fn between(&self, byte: u64) -> (usize, usize)
+        requires few { length (in_order self.now) ≤ RUN_LIMIT }
+        requires merged { IsMerged (in_order self.now) }
+        ensures low { result.0 ≤ ended byte (in_order self.now) }
+        ensures high { ended byte (in_order self.now) ≤ result.1 }
+        ensures bound { result.1 ≤ length (in_order self.now) }
+    {
+        let place = self.before.len();
+        if place > 0 && !self.is_ended(place - 1, byte) {
+            return (0, place - 1);
+        }
+        if !self.is_ended(place, byte) {
+            return (place, place);
+        }
+        if !self.is_ended(place + 1, byte) {
+            return (place + 1, place + 1);
+        }
+        (place + 2, self.len())
+    }
+
+    // Whether there is a run at this place of the order, and it ends before the byte.
+    fn is_ended(&self, place: usize, byte: u64) -> bool
+        requires merged { IsMerged (in_order self.now) }
+        ensures some { IsTrue result → place < ended byte (in_order self.now) }
+        ensures none { IsFalse result → ended byte (in_order self.now) ≤ place }
+    {
+        match self.get(place) {
+            Some(run) => run.range.last < byte,
+            None => false,
         }
     }
 
@@ -94,18 +129,31 @@ impl Runs {
         requires merged { IsMerged (in_order self.now) }
         ensures { IsFirstConflict (modes_of (in_order self.now)) range asked result }
     {
-        let mut place = self.count_ended(range.first);
-        'walk: loop {
-            let Some(run) = self.get(place) else {
-                return None;
-            };
-            if range.last < run.range.first {
-                return None;
-            }
-            if asked.conflicts_with(run.mode) {
-                return Some(run.range.first.max(range.first));
-            }
-            place += 1;
+        let run = self.first_stop(self.count_ended(range.first), range.last, asked)?;
+        if range.last < run.range.first {
+            None
+        } else {
+            Some(run.range.first.max(range.first))
+        }
+    }
+
+    // The first run from this place of the order on that begins behind the byte, or refuses the mode.
+    fn first_stop(&self, place: usize, last: u64, asked: Mode) -> Option<Piece>
+        requires { place ≤ length (in_order self.now) }
+        ensures { result ≡ find (stops last asked) (drop place (in_order self.now)) }
+    {
+        let count = self.before.len();
+        if place >= count {
+            return last_stop(
+                &self.behind,
+                self.behind.len() - (place - count),
+                last,
+                asked,
+            );
+        }
+        match first_stop(&self.before[place..], last, asked) {
+            Some(run) => Some(run),
+            None => last_stop(&self.behind, self.behind.len(), last, asked),
         }
     }
 

@@ -5,10 +5,9 @@ use Rattle.std.specs.Prelude.{◌&&◌, ◌==◌, IsTrue, IsFalse, find, option_
 use Rattle.std.specs.List.{AllByRecursion, Contains, list_any}
 use Rattle.std.proofs.lemmas.List.Elements.{All-contains, All-from_recursion}
 use Rattle.nfs_rules.specs.entries.Revoke.{IsNoneBefore, IsRevocation}
-use Rattle.nfs_share.specs.AllOpens.{DelegationAt, IsNextDue, delegation_named_in, delegation_numbered_in, delegations_of, lent_at, lent_found}
-use Rattle.nfs_share.specs.Delegations.{delegation_named_by, is_delegation_numbered, is_due, is_due_from, is_stateid_of_delegation}
+use Rattle.nfs_share.specs.AllOpens.{DelegationAt, IsNextDue, delegation_numbered_in, delegations_of, lent_at, lent_found}
+use Rattle.nfs_share.specs.Delegations.{is_delegation_numbered, is_due, is_due_from}
 use Rattle.nfs_share.specs.declared.delegation.Delegation.{Delegation}
-use Rattle.nfs_forms.specs.declared.stateid.Stateid.{Stateid}
 use Rattle.nfs_state.specs.State.{State, History}
 use Rattle.nfs_state.specs.declared.effect.Effect.{Effect}
 use Rattle.nfs_state.specs.declared.entry.Revoke.{Revoke}
@@ -46,21 +45,6 @@ found_passes P p (first ∷ ds) d found holds = by (λ found. found_passes P p d
 lent_is : (node : ℕ) (found : Option Delegation) (at : DelegationAt) → lent_at node found ≡ Some at → found ≡ Some at.state
 lent_is node None at is = absurd cc
 lent_is node (Some d) at is = ap (option_map (λ (at : DelegationAt). at.state)) is
-
-lent_node : (node : ℕ) (found : Option Delegation) (at : DelegationAt) → lent_at node found ≡ Some at → at.node ≡ node
-lent_node node None at is = absurd cc
-lent_node node (Some d) at is = search is
-
--- The delegation that a stateid names is the one that it names among those of the same node.
-pub named_again : (id : Stateid) (all : List (List Delegation)) (at : DelegationAt) (found : Option Delegation) → Some at ≡ delegation_named_in id all → found ≡ delegation_named_by id (delegations_of at.node all)
-    → lent_at at.node found ≡ delegation_named_in id all
-named_again id all at found is named = by (position (list_any (is_stateid_of_delegation id)) all) is
-  where
-    by : (node : Option ℕ) → Some at ≡ lent_found (is_stateid_of_delegation id) all node → lent_at at.node found ≡ lent_found (is_stateid_of_delegation id) all node
-    by None is = absurd cc
-    by (Some node) is =
-        ap (lent_at at.node) named
-        ∙ ap (λ n. lent_at n (delegation_named_by id (delegations_of n all))) (lent_node node _ at (sym is))
 
 -- what holds of all delegations holds of the one with a number
 pub numbered_has : (P : Delegation → Type 0) (number : ℕ) (all : List (List Delegation)) (at : DelegationAt) → delegation_numbered_in number all ≡ Some at → OfAll P all → P at.state × IsTrue (at.state.number == number)

@@ -1,10 +1,8 @@
 ghost use Rattle.std.specs.Prelude.{◌≡◌, option_map};
-ghost use Rattle.std.specs.Option.{option_copied};
 ghost use Rattle.nfs_owners.specs.StateOwner.{open_owner};
 ghost use Rattle.nfs_rules.specs.Finding.{delegation_by, delegation_or_refusal_seen, found_delegation_seen, found_or_refusal_seen, found_seen, lock_by, lock_or_refusal_seen, open_by, open_or_refusal_seen, target_seen};
 ghost use Rattle.nfs_rules.specs.Refusing.{first_refusal};
 ghost use Rattle.nfs_share.specs.AllOpens.{delegation_named_in};
-ghost use Rattle.nfs_share.specs.Delegations.{delegation_named_by};
 ghost use Rattle.nfs_state.specs.Owners.{is_confirmed};
 ghost use Rattle.nfs_state.specs.Room.{state_of};
 ghost use Rattle.nfs_rules.specs.Stateids as stateids;
@@ -76,16 +74,11 @@ fn find_delegation(tables: &Tables, stateid: Stateid) -> Option<FoundDelegation<
     ensures { option_map found_delegation_seen result
         ≡ delegation_named_in stateid (state_of tables.now).delegations }
 {
-    let node = tables.opens.find_delegation(stateid)?.node;
-    let state = named_among(tables.opens.delegations_of(node), stateid)?;
-    Some(FoundDelegation { node, state })
-}
-
-// The one of these delegations that the stateid names.
-fn named_among(delegations: &[Delegation], stateid: Stateid) -> Option<&Delegation>
-    ensures { option_copied result ≡ delegation_named_by stateid delegations.now }
-{
-    delegations.iter().find(|d| d.is_named_by(stateid))
+    let found = tables.opens.delegation_named(stateid)?;
+    Some(FoundDelegation {
+        node: found.node,
+        state: found.state,
+    })
 }
 
 /// Whether the owner is known and confirmed.

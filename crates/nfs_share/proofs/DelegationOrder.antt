@@ -1,5 +1,5 @@
 -- The order of the delegations of a file, and which of them is the next that is due.
-use Rattle.std.proofs.Common.{◌≡◌, ℕ, ◌<◌, ◌≤◌, Bool, true, false, List, [], ◌∷◌, ◌++◌, None, Some, refl, suc, sym, ◌∙◌, ap, arith}
+use Rattle.std.proofs.Common.{◌≡◌, ℕ, ◌<◌, ◌≤◌, Bool, false, List, [], ◌∷◌, ◌++◌, None, Some, refl, suc, sym, ◌∙◌, ap, arith}
 use Rattle.std.specs.Prelude.{Option, IsTrue, ◌==◌, ◌||◌, cond, filter, find, is_none, is_some, map, nat_le}
 use Rattle.std.specs.List.{AllByRecursion, Contains, list_any}
 use Rattle.std.proofs.lemmas.Bool.{cond_both, eqb-false, eqb-true, false_from_ne_true, false≢true, leb-false, leb-true, true_from_ne_false}

@@ -175,7 +175,7 @@ meets_comm : (a b : Modes) → modes.meets a b ≡ modes.meets b a
 meets_comm a b =
     λ i. and_comm a.read b.read i || and_comm a.write b.write i
 
-meets-union : (a b c : Modes) → modes.meets (modes.union a b) c ≡ (modes.meets a c || modes.meets b c)
+pub meets-union : (a b c : Modes) → modes.meets (modes.union a b) c ≡ (modes.meets a c || modes.meets b c)
 meets-union a b c =
     (λ i. and_of_or a.read b.read c.read i || and_of_or a.write b.write c.write i)
     ∙ or_swap (a.read && c.read) (b.read && c.read) (a.write && c.write) (b.write && c.write)

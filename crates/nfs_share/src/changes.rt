@@ -1,65 +1,61 @@
-ghost use Rattle.std.specs.Prelude.{◌≡◌};
+ghost use Rattle.std.specs.Prelude.{◌≡◌, IfNone, IfSome, None, Some, find};
 ghost use Rattle.std.specs.Vec.{vec_capacity};
-ghost use Rattle.nfs_share.specs.Opens.{with_next_seqid, after_downgrade, is_numbered, is_of, after_open, with_each};
+ghost use Rattle.nfs_rows.specs.Rows.{is_numbered as is_row, value_in};
 ghost use Rattle.nfs_share.specs.Delegations.{with_recalls};
+ghost use Rattle.nfs_share.specs.KeptOpens.{with_change};
+ghost use Rattle.nfs_share.specs.Opens.{after_downgrade, after_open, share_of, with_next_seqid};
+ghost use Rattle.nfs_share.specs.declared.open_state.OpenState.{OpenState};
 
 use crate::{Delegation, FileUse, OpenState, Share};
-use nfs_forms::{Moment, OpenOwner};
+use nfs_forms::Moment;
+use nfs_rows::Rows;
 
-/// Adds the share to the owner's open.
-pub(crate) fn join_each(opens: &mut Vec<OpenState>, owner: &OpenOwner, share: Share)
-    ensures items { opens.new.items
-        ≡ with_each (is_of owner.now) (after_open share) opens.old.items }
-    ensures capacity { vec_capacity opens.new ≡ vec_capacity opens.old }
+/// Adds the share to the open with this number, if there is one, and returns all that the open does and denies then.
+pub(crate) fn join_in(opens: &mut Rows<OpenState>, number: u32, share: Share) -> Option<Share>
+    ensures rows { opens.new ≡ record opens.old {
+      rows = with_change number (after_open share) opens.old.rows;
+    } }
+    ensures some { IfSome result (λ after. (o : OpenState)
+        → Some o ≡ value_in (find (is_row number) opens.old.rows)
+        → after ≡ share_of (after_open share o)) }
+    ensures none { IfNone result (None ≡ value_in (find (is_row number) opens.old.rows)) }
 {
-    join_in(opens, owner, share);
-}
-
-fn join_in(opens: &mut [OpenState], owner: &OpenOwner, share: Share)
-    ensures { opens.new ≡ with_each (is_of owner.now) (after_open share) opens.old }
-{
-    for open in opens.iter_mut() {
-        if open.is_of(owner) {
+    match opens.find_mut(u64::from(number)) {
+        Some(open) => {
             open.join(share);
+            Some(open.share())
         }
+        None => None,
     }
 }
 
 /// Gives the open with this number its next seqid.
-pub(crate) fn advance_each(opens: &mut Vec<OpenState>, number: u32)
-    ensures items { opens.new.items
-        ≡ with_each (is_numbered number) with_next_seqid opens.old.items }
-    ensures capacity { vec_capacity opens.new ≡ vec_capacity opens.old }
+pub(crate) fn advance_in(opens: &mut Rows<OpenState>, number: u32)
+    ensures { opens.new ≡ record opens.old {
+      rows = with_change number with_next_seqid opens.old.rows;
+    } }
 {
-    advance_in(opens, number);
-}
-
-fn advance_in(opens: &mut [OpenState], number: u32)
-    ensures { opens.new ≡ with_each (is_numbered number) with_next_seqid opens.old }
-{
-    for open in opens.iter_mut() {
-        if open.number == number {
-            open.advance();
-        }
+    if let Some(open) = opens.find_mut(u64::from(number)) {
+        open.advance();
     }
 }
 
-/// Downgrades the open with this number to the share.
-pub(crate) fn downgrade_each(opens: &mut Vec<OpenState>, number: u32, share: Share)
-    ensures items { opens.new.items
-        ≡ with_each (is_numbered number) (after_downgrade share) opens.old.items }
-    ensures capacity { vec_capacity opens.new ≡ vec_capacity opens.old }
+/// Downgrades the open with this number to the share, if there is one, and returns all that the open does and denies then.
+pub(crate) fn downgrade_in(opens: &mut Rows<OpenState>, number: u32, share: Share) -> Option<Share>
+    ensures rows { opens.new ≡ record opens.old {
+      rows = with_change number (after_downgrade share) opens.old.rows;
+    } }
+    ensures some { IfSome result (λ after. (o : OpenState)
+        → Some o ≡ value_in (find (is_row number) opens.old.rows)
+        → after ≡ share_of (after_downgrade share o)) }
+    ensures none { IfNone result (None ≡ value_in (find (is_row number) opens.old.rows)) }
 {
-    downgrade_in(opens, number, share);
-}
-
-fn downgrade_in(opens: &mut [OpenState], number: u32, share: Share)
-    ensures { opens.new ≡ with_each (is_numbered number) (after_downgrade share) opens.old }
-{
-    for open in opens.iter_mut() {
-        if open.number == number {
+    match opens.find_mut(u64::from(number)) {
+        Some(open) => {
             open.downgrade(share);
+            Some(open.share())
         }
+        None => None,
     }
 }
 

@@ -1,5 +1,5 @@
 ghost use Rattle.std.specs.Prelude.{◌≡◌};
-ghost use Rattle.nfs_share.specs.Delegations.{conflicts, delegation_stateid, first_delegation, is_due, is_due_from, is_in_way, is_lent_to, is_of_user, is_stateid_of_delegation, with_recall};
+ghost use Rattle.nfs_share.specs.Delegations.{conflicts, delegation_stateid, first_delegation, is_due, is_in_way, is_lease_before, is_lent_to, is_of_user, is_stateid_of_delegation, with_recall};
 
 use crate::{Modes, Share};
 use nfs_forms::{ClientId, Moment, Stateid};
@@ -111,17 +111,7 @@ impl Delegation {
     pub fn is_due(&self, lease: u32, now: Moment) -> bool
         ensures { result ≡ is_due lease now self.now }
     {
-        match self.recalled {
-            Some(moment) => moment.seconds() + u64::from(lease) < now.seconds(),
-            None => false,
-        }
-    }
-
-    /// Whether the delegation is due, and its number isn't below this one.
-    pub(crate) fn is_due_from(&self, from: u32, lease: u32, now: Moment) -> bool
-        ensures { result ≡ is_due_from from lease now self.now }
-    {
-        from <= self.number && self.is_due(lease, now)
+        is_lease_before(self.recalled, lease, now)
     }
 
     /// Calls the delegation back, unless it was called back before.
@@ -131,5 +121,15 @@ impl Delegation {
         if self.recalled.is_none() {
             self.recalled = Some(moment);
         }
+    }
+}
+
+/// Whether there is a moment, and it lies more than the lease before now.
+pub(crate) fn is_lease_before(moment: Option<Moment>, lease: u32, now: Moment) -> bool
+    ensures { result ≡ is_lease_before lease now moment }
+{
+    match moment {
+        Some(moment) => moment.seconds() + u64::from(lease) < now.seconds(),
+        None => false,
     }
 }

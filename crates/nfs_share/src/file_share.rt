@@ -1,15 +1,17 @@
-ghost use Rattle.std.specs.Prelude.{◌≡◌, ◌≤◌, ◌<◌, ◌+◌, ◌↔◌, IfErr, IfNone, IfOk, IsErrOf, IsFalse, IsOk, IsTrue, OnErr, OnOk, OnSome, Some, filter, find, length, nat_le, [], ◌∷◌, ◌++◌, option_map};
+ghost use Rattle.std.specs.Prelude.{◌≡◌, ◌≤◌, ◌<◌, ◌+◌, ◌↔◌, IfErr, IfOk, IsErrOf, IsFalse, IsOk, IsTrue, OnErr, OnOk, Some, filter, find, length, nat_le, [], ◌∷◌, ◌++◌, option_map};
 ghost use Rattle.std.specs.List.{list_any};
 ghost use Rattle.std.specs.Option.{option_copied};
 ghost use Rattle.nfs_share.specs.Delegations.{IsAboveLent, IsNextDueOf, bars, can_delegate, conflicts, delegation_named_by, delegation_stateid, delegation_with_number, first_delegation, has_conflict, has_delegation, is_delegation_numbered, is_due_from, is_lent_to, is_stateid_of_delegation, with_recalls, without_lent};
-ghost use Rattle.nfs_share.specs.Opens.{CanDowngrade, IsNewestFor, with_next_seqid, after_downgrade, is_denied, is_numbered, is_of, is_of_client, is_refused, is_stateid_of, open_named_by, after_open, next_stateid_of, open_with_number, open_of, share_of, stateid_of, with_each, with_opening, without};
+ghost use Rattle.nfs_share.specs.Opens.{CanDowngrade, IsNewestFor, with_next_seqid, after_downgrade, is_denied, is_numbered, is_of, is_of_client, is_refused, is_stateid_of, open_named_by, open_with_number, open_of, share_of, stateid_of, with_each, with_opening, without};
 ghost use Rattle.nfs_share.specs.ShareError.{IsHeldFor, IsWhyNotLent, IsWhyNotOpened};
 ghost use Rattle.nfs_share.specs.declared.delegation.FileUse.TheVariants as uses;
 
-use crate::changes::{advance_each, downgrade_each, join_each, recall_each};
+use crate::delegation_table::DelegationTable;
+use crate::open_table::OpenTable;
 use crate::{Delegation, DelegationKind, FileUse, Modes, OpenState, Share, ShareError};
 use nfs_forms::{ClientId, Moment, OpenOwner, Stateid};
 use std::alloc::{AllocError, Global};
+use std::hash::RandomState;
 use std::marker::Model;
 
 /// The opens of a file, each of which keeps others out by its share reservation (RFC 7530, section 9.9), and its
@@ -17,37 +19,32 @@ use std::marker::Model;
 /// joins the open that the owner has.
 #[derive(Drop)]
 pub struct FileShare {
-    opens: Vec<OpenState>,
-    delegations: Vec<Delegation>,
+    opens: OpenTable,
+    delegations: DelegationTable,
 }
 
 impl Model for FileShare {
-    ghost use Rattle.std.specs.Prelude.{◌-◌};
-    ghost use Rattle.std.specs.Vec.{vec_capacity, vec_len};
-    ghost use Rattle.nfs_share.specs.Delegations.{StandInOrder};
     ghost use Rattle.nfs_share.specs.Opens.{FileOpens};
 
     ghost Value = { FileOpens };
 
     ghost view = { λ f. record {
-      opens = f.opens.items;
-      delegations = f.delegations.items;
-      room = vec_capacity f.opens - vec_len f.opens;
-      lending_room = vec_capacity f.delegations - vec_len f.delegations;
+      opens = f.opens.opens;
+      delegations = f.delegations.delegations;
+      room = f.opens.room;
+      lending_room = f.delegations.room;
     } };
-
-    ghost invariant = { λ f. StandInOrder f.delegations.items };
 }
 
 impl FileShare {
-    /// A file without opens and delegations, taking no memory.
-    pub fn new(alloc: Global) -> FileShare
+    /// A file without opens and delegations, taking no memory. Owners are found by hashes with this seed.
+    pub fn new(alloc: Global, names: RandomState) -> FileShare
         ensures opens { result.opens ≡ [] }
         ensures delegations { result.delegations ≡ [] }
     {
         FileShare {
-            opens: Vec::new(alloc),
-            delegations: Vec::new(alloc),
+            opens: OpenTable::new(alloc, names),
+            delegations: DelegationTable::new(alloc),
         }
     }
 
@@ -62,28 +59,28 @@ impl FileShare {
     pub fn find(&self, number: u32) -> Option<&OpenState>
         ensures { option_copied result ≡ open_with_number number self.now.opens }
     {
-        self.opens.iter().find(|open| open.number == number)
+        self.opens.find(number)
     }
 
     /// The open that the stateid names, no matter its seqid, if there is one.
     pub fn named_by(&self, stateid: Stateid) -> Option<&OpenState>
         ensures { option_copied result ≡ open_named_by stateid self.now.opens }
     {
-        self.opens.iter().find(|open| open.is_named_by(stateid))
+        self.opens.named_by(stateid)
     }
 
     /// Whether the stateid names an open.
     pub fn names(&self, stateid: Stateid) -> bool
         ensures { result ≡ list_any (is_stateid_of stateid) self.now.opens }
     {
-        self.opens.iter().any(|open| open.is_named_by(stateid))
+        self.named_by(stateid).is_some()
     }
 
     /// The open of this owner, if there is one.
     pub fn open_of(&self, owner: &OpenOwner) -> Option<&OpenState>
         ensures { option_copied result ≡ open_of owner.now self.now.opens }
     {
-        self.opens.iter().find(|open| open.is_of(owner))
+        self.opens.open_of(owner)
     }
 
     /// All access of the owner's open, with all that it denies, if the owner has one.
@@ -98,28 +95,28 @@ impl FileShare {
     pub fn denies(&self, modes: Modes) -> bool
         ensures { result ≡ is_denied modes self.now.opens }
     {
-        self.opens.iter().any(|open| open.share().deny.meets(modes))
+        self.opens.denies(modes)
     }
 
     /// Whether an open of another owner conflicts with the share.
     pub fn refuses(&self, owner: &OpenOwner, share: Share) -> bool
         ensures { result ≡ is_refused owner.now share self.now.opens }
     {
-        self.opens.iter().any(|open| !open.is_of(owner) && share.conflicts_with(open.share()))
+        self.opens.refuses(owner, share)
     }
 
     /// Whether an owner of this client has an open.
     pub fn has_client(&self, client: ClientId) -> bool
         ensures { result ≡ list_any (is_of_client client) self.now.opens }
     {
-        self.opens.iter().any(|open| open.is_of_client(client))
+        self.opens.has_client(client)
     }
 
     /// How many opens there are of other owners.
     pub fn count_without(&self, owner: &OpenOwner) -> usize
         ensures { result ≡ length (without (is_of owner.now) self.now.opens) }
     {
-        self.opens.iter().filter(|open| !open.is_of(owner)).count()
+        self.opens.count_without(owner)
     }
 
     /// Makes room, so that the next change takes no memory.
@@ -131,7 +128,7 @@ impl FileShare {
         ensures lending { self.old.lending_room ≤ self.new.lending_room }
         ensures ready { 0 < self.old.room → IsOk result }
     {
-        self.opens.reserve(1)
+        self.opens.reserve()
     }
 
     /// OPEN (RFC 7530, section 16.16): adds the share to the owner's open, or makes an open with this number, which has
@@ -162,7 +159,7 @@ impl FileShare {
         }
         self.check_free(FileUse::Open(owner.client, share))?;
         if self.open_of(&owner).is_none() {
-            self.opens.reserve(1)?;
+            self.opens.reserve()?;
         }
         Ok(self.grant(owner, share, number))
     }
@@ -175,7 +172,7 @@ impl FileShare {
             × IsHeldFor (filter (conflicts file_use) self.now.delegations) e) }
     {
         if self.conflicts(file_use) {
-            return Err(ShareError::Held(self.conflicting(file_use)?));
+            return Err(ShareError::Held(self.delegations.conflicting(file_use)?));
         }
         Ok(())
     }
@@ -191,36 +188,12 @@ impl FileShare {
         ensures room { self.old.room ≤ self.new.room + 1 }
         ensures lending { self.old.lending_room ≤ self.new.lending_room }
     {
-        match self.join(&owner, share) {
-            Some(stateid) => stateid,
-            None => self.add(OpenState::new(owner, share, number)),
+        if let Some(stateid) = self.opens.join(&owner, share) {
+            return stateid;
         }
-    }
-
-    // Adds the share to the owner's open, if there is one, and returns the open's stateid.
-    fn join(&mut self, owner: &OpenOwner, share: Share) -> Option<Stateid>
-        ensures some { OnSome result (self.new ≡ record self.old {
-          opens = with_each (is_of owner.now) (after_open share) self.old.opens;
-        }) }
-        ensures stateid { result ≡ option_map next_stateid_of (open_of owner.now self.old.opens) }
-        ensures none { IfNone result (self.new ≡ self.old) }
-    {
-        let stateid = self.open_of(owner)?.next_stateid();
-        join_each(&mut self.opens, owner, share);
-        Some(stateid)
-    }
-
-    // Adds the open, for which there has to be room, and returns its stateid.
-    fn add(&mut self, newcomer: OpenState) -> Stateid
-        requires { 0 < self.old.room }
-        ensures stateid { result ≡ stateid_of newcomer }
-        ensures opens { self.new.opens ≡ self.old.opens ++ newcomer ∷ [] }
-        ensures delegations { self.new.delegations ≡ self.old.delegations }
-        ensures room { self.old.room ≤ self.new.room + 1 }
-        ensures lending { self.old.lending_room ≤ self.new.lending_room }
-    {
+        let newcomer = OpenState::new(owner, share, number);
         let stateid = newcomer.stateid();
-        self.opens.push_reserved(newcomer);
+        self.opens.add(newcomer);
         stateid
     }
 
@@ -230,7 +203,7 @@ impl FileShare {
           opens = with_each (is_numbered number) with_next_seqid self.old.opens;
         } }
     {
-        advance_each(&mut self.opens, number);
+        self.opens.advance(number);
     }
 
     /// OPEN_DOWNGRADE (RFC 7530, section 16.19): keeps of the open with this number the shares that this share
@@ -262,7 +235,7 @@ impl FileShare {
           opens = with_each (is_numbered number) (after_downgrade share) self.old.opens;
         } }
     {
-        downgrade_each(&mut self.opens, number, share);
+        self.opens.keep_within(number, share);
     }
 
     /// CLOSE (RFC 7530, section 16.2): removes the open with this number, if there is one.
@@ -272,7 +245,7 @@ impl FileShare {
         ensures room { self.old.room ≤ self.new.room }
         ensures lending { self.old.lending_room ≤ self.new.lending_room }
     {
-        self.opens.retain(|open| open.number != number);
+        self.opens.close(number);
     }
 
     /// Removes the open of this owner.
@@ -282,7 +255,7 @@ impl FileShare {
         ensures room { self.old.room ≤ self.new.room }
         ensures lending { self.old.lending_room ≤ self.new.lending_room }
     {
-        self.opens.retain(|open| !open.is_of(owner));
+        self.opens.remove_owner(owner);
     }
 
     /// Removes the opens of all owners of this client, and its delegation.
@@ -293,8 +266,8 @@ impl FileShare {
         ensures room { self.old.room ≤ self.new.room }
         ensures lending { self.old.lending_room ≤ self.new.lending_room }
     {
-        self.opens.retain(|open| !open.is_of_client(client));
-        self.delegations.retain(|lent| !lent.is_of_client(client));
+        self.opens.remove_client(client);
+        self.delegations.remove_client(client);
     }
 
     /// The delegations, in the order in which they came.
@@ -308,32 +281,28 @@ impl FileShare {
     pub fn delegation_named_by(&self, stateid: Stateid) -> Option<Delegation>
         ensures { result ≡ delegation_named_by stateid self.now.delegations }
     {
-        self.delegations
-            .iter()
-            .copied()
-            .find(|lent| lent.is_named_by(stateid))
+        self.delegation_named(stateid).copied()
+    }
+
+    /// The delegation that the stateid names, no matter its seqid, if there is one, where it is kept.
+    pub fn delegation_named(&self, stateid: Stateid) -> Option<&Delegation>
+        ensures { option_copied result ≡ delegation_named_by stateid self.now.delegations }
+    {
+        self.delegations.named_by(stateid)
     }
 
     /// Whether the stateid names a delegation.
     pub fn names_delegation(&self, stateid: Stateid) -> bool
         ensures { result ≡ list_any (is_stateid_of_delegation stateid) self.now.delegations }
     {
-        self.delegations
-            .iter()
-            .any(|lent| lent.is_named_by(stateid))
+        self.delegation_named_by(stateid).is_some()
     }
 
     /// The delegation with this number, if there is one.
     pub fn delegation_with_number(&self, number: u32) -> Option<Delegation>
         ensures { result ≡ delegation_with_number number self.now.delegations }
     {
-        // They stand in the order of their numbers.
-        let lent = first_from(self.delegations.as_slice(), number)?;
-        if lent.number == number {
-            Some(lent)
-        } else {
-            None
-        }
+        self.delegations.numbered(number)
     }
 
     /// Whether a delegation has this number.
@@ -347,16 +316,14 @@ impl FileShare {
     pub fn has_delegation(&self, client: ClientId) -> bool
         ensures { result ≡ has_delegation client self.now.delegations }
     {
-        self.delegations
-            .iter()
-            .any(|lent| lent.is_of_client(client))
+        self.delegations.has_client(client)
     }
 
     /// Whether a delegation is in the way of this use of the file.
     pub fn conflicts(&self, file_use: FileUse) -> bool
         ensures { result ≡ has_conflict file_use self.now.delegations }
     {
-        self.delegations.iter().any(|lent| lent.conflicts(file_use))
+        self.delegations.conflicts(file_use)
     }
 
     /// The delegations of other clients that are in the way of an open of the client with this share.
@@ -370,32 +337,14 @@ impl FileShare {
         ensures none { IsFalse (has_conflict (uses.Open client share) self.now.delegations)
             → IsOk result }
     {
-        self.conflicting(FileUse::Open(client, share))
-    }
-
-    // The delegations that are in the way of this use of the file.
-    fn conflicting(&self, file_use: FileUse) -> Result<Vec<Delegation>, AllocError>
-        ensures ok { IfOk result (λ found. found.items
-            ≡ filter (conflicts file_use) self.now.delegations) }
-        ensures none { IsFalse (has_conflict file_use self.now.delegations) → IsOk result }
-    {
-        let mut found = Vec::new(*self.delegations.allocator());
-        for lent in self.delegations.iter() {
-            if lent.conflicts(file_use) {
-                found.push(*lent)?;
-            }
-        }
-        Ok(found)
+        self.delegations.conflicting(FileUse::Open(client, share))
     }
 
     /// Whether a delegation of this kind to the client would be in the way of an open of another client.
     pub fn bars(&self, client: ClientId, kind: DelegationKind) -> bool
         ensures { result ≡ bars client kind self.now.opens }
     {
-        self.opens.iter().any(|open| {
-            !open.is_of_client(client)
-                && kind.is_in_way_of(FileUse::Open(open.owner.client, open.share()))
-        })
+        self.opens.bars(client, kind)
     }
 
     /// Whether a delegation of this kind to the client is in no open's way, no delegation of another client is in its
@@ -412,8 +361,7 @@ impl FileShare {
     pub fn next_due(&self, from: u32, lease: u32, now: Moment) -> Option<Delegation>
         ensures { IsNextDueOf from lease now self.now.delegations result }
     {
-        // They stand in the order of their numbers.
-        first_due(self.delegations.as_slice(), from, lease, now)
+        self.delegations.next_due(from, lease, now)
     }
 
     /// Makes room for a delegation, so that the next one takes no memory.
@@ -425,7 +373,7 @@ impl FileShare {
         ensures opening { self.old.room ≤ self.new.room }
         ensures ready { 0 < self.old.lending_room → IsOk result }
     {
-        self.delegations.reserve(1)
+        self.delegations.reserve()
     }
 
     /// Lends the client a delegation of this kind with this number, which has to be above those of all delegations, if
@@ -458,7 +406,7 @@ impl FileShare {
             return Err(ShareError::Invalid);
         }
         self.check_free(FileUse::Delegation(client, kind))?;
-        self.delegations.reserve(1)?;
+        self.delegations.reserve()?;
         Ok(self.lend(client, kind, number))
     }
 
@@ -474,15 +422,8 @@ impl FileShare {
         ensures room { self.old.lending_room ≤ self.new.lending_room + 1 }
         ensures opening { self.old.room ≤ self.new.room }
     {
-        let lent = Delegation {
-            client,
-            kind,
-            number,
-            recalled: None,
-        };
-        let stateid = lent.stateid();
-        self.delegations.push_reserved(lent);
-        stateid
+        self.delegations.lend(client, kind, number);
+        Delegation::new(client, kind, number).stateid()
     }
 
     /// Calls back the delegations that are in the way of this use of the file: those that weren't called back before
@@ -492,7 +433,7 @@ impl FileShare {
           delegations = with_recalls file_use moment self.old.delegations;
         } }
     {
-        recall_each(&mut self.delegations, file_use, moment);
+        self.delegations.recall(file_use, moment);
     }
 
     /// DELEGRETURN (RFC 7530, section 16.6): removes the delegation with this number, if there is one.
@@ -503,26 +444,6 @@ impl FileShare {
         ensures room { self.old.lending_room ≤ self.new.lending_room }
         ensures opening { self.old.room ≤ self.new.room }
     {
-        self.delegations.retain(|lent| lent.number != number);
+        self.delegations.give_back(number);
     }
-}
-
-// The first of these delegations that is due and has no number below `from`, if there is one.
-fn first_due(delegations: &[Delegation], from: u32, lease: u32, now: Moment) -> Option<Delegation>
-    ensures { result ≡ find (is_due_from from lease now) delegations.now }
-{
-    delegations
-        .iter()
-        .copied()
-        .find(|lent| lent.is_due_from(from, lease, now))
-}
-
-// The first of these delegations that has no number below this one, if there is one.
-fn first_from(delegations: &[Delegation], number: u32) -> Option<Delegation>
-    ensures { result ≡ find (λ d. nat_le number d.number) delegations.now }
-{
-    delegations
-        .iter()
-        .copied()
-        .find(|lent| number <= lent.number)
 }

@@ -3,12 +3,15 @@ ghost use Rattle.std.specs.List.{list_any};
 ghost use Rattle.std.specs.Option.{option_copied};
 ghost use Rattle.nfs_share.specs.AllOpens.{HasLendingRoomAt, HasRoomAt, IsAboveAllLent, IsNewestAt, IsNextDue, at_node, delegation_count, delegation_named_in, delegation_numbered_in, delegations_in, delegations_of, lent_at, lesser_at, named_in, open_count, opens_in, opens_of, with_delegations, with_opens};
 ghost use Rattle.nfs_share.specs.Delegations.{can_delegate, first_delegation, has_conflict, has_delegation, is_delegation_numbered, is_lent_to, is_stateid_of_delegation, with_recalls, without_lent};
-ghost use Rattle.nfs_share.specs.OpenFound.{delegation_seen, open_seen};
+ghost use Rattle.nfs_share.specs.OpenFound.{delegation_ref_seen, delegation_seen, open_seen};
 ghost use Rattle.nfs_share.specs.Opens.{after_downgrade, is_denied, is_numbered, is_of, is_of_client, is_refused, is_stateid_of, open_of, open_with_number, with_each, with_next_seqid, with_opening, without};
 
+use crate::numbers::{close_in, give_back_in, grant_in, reserve_delegation_number, reserve_number};
 use crate::{Delegation, DelegationKind, FileShare, FileUse, Modes, OpenState, Share};
 use nfs_forms::{ClientId, Moment, OpenOwner, Stateid};
+use nfs_nodes::Nodes;
 use std::alloc::{AllocError, Global};
+use std::hash::RandomState;
 use std::marker::Model;
 
 /// The opens and the delegations of all files, by the numbers of their nodes. A node that there isn't has none, and a
@@ -16,6 +19,13 @@ use std::marker::Model;
 #[derive(Drop)]
 pub struct Opens {
     files: Vec<FileShare>,
+    // The nodes of the opens by their numbers, and of some that there are no more.
+    nodes: Nodes,
+    // How many opens there are.
+    count: usize,
+    // The same of the delegations.
+    lent: Nodes,
+    lent_count: usize,
 }
 
 /// An open, and the node of its file.
@@ -32,47 +42,55 @@ pub struct DelegationFound {
     pub state: Delegation,
 }
 
+/// A delegation where it is kept, and the node of its file.
+#[derive(Clone, Copy)]
+pub struct DelegationRef<'a> {
+    pub node: u32,
+    pub state: &'a Delegation,
+}
+
 impl Model for Opens {
-    ghost use Rattle.std.specs.Prelude.{◌<◌, ◌^◌, List, length};
+    ghost use Rattle.std.specs.Prelude.{List, map};
+    ghost use Rattle.nfs_nodes.specs.Numbers.{AreFound};
+    ghost use Rattle.nfs_share.specs.AllOpens.{delegations_in, opens_in};
+    ghost use Rattle.nfs_share.specs.OpenNodes.{lent_number, open_number, within_rooms};
     ghost use Rattle.nfs_share.specs.Opens.{FileOpens};
 
     ghost Value = { List FileOpens };
 
-    ghost view = { λ o. o.files.items };
+    ghost view = { λ o. map (within_rooms o.nodes.room o.lent.room) o.files.items };
 
-    ghost invariant = { λ o. length o.files.items < 2 ^ 32 };
+    ghost invariant = { λ o. AreFound open_number o.nodes o.count (opens_in o.files.items)
+        × AreFound lent_number o.lent o.lent_count (delegations_in o.files.items) };
 }
 
 impl Opens {
-    /// No opens and no delegations of any of these nodes.
-    pub fn new(alloc: Global, nodes: u32) -> Result<Opens, AllocError>
+    /// No opens and no delegations of any of these nodes. Owners are found by hashes with this seed.
+    pub fn new(alloc: Global, nodes: u32, names: RandomState) -> Result<Opens, AllocError>
         ensures opens { IfOk result (λ opens. opens_in opens ≡ replicate nodes []) }
         ensures delegations { IfOk result (λ opens. delegations_in opens ≡ replicate nodes []) }
     {
         let mut files = Vec::new(alloc);
         files.reserve(nodes as usize)?;
         for _ in 0..nodes {
-            files.push_reserved(FileShare::new(alloc));
+            files.push_reserved(FileShare::new(alloc, names));
         }
-        Ok(Opens { files })
+        Ok(Opens {
+            files,
+            nodes: Nodes::new(alloc),
+            count: 0,
+            lent: Nodes::new(alloc),
+            lent_count: 0,
+        })
     }
 
     /// The open that the stateid names, no matter its seqid, if there is one.
     pub fn find(&self, stateid: Stateid) -> Option<OpenFound<'_>>
         ensures { option_map open_seen result ≡ named_in stateid (opens_in self.now) }
     {
-        match self.node_of(stateid) {
-            Some(node) => found_at(node as u32, self.files[node].named_by(stateid)),
-            None => None,
-        }
-    }
-
-    // The node with an open that the stateid names.
-    fn node_of(&self, stateid: Stateid) -> Option<usize>
-        ensures node { result ≡ position (λ f. list_any (is_stateid_of stateid) f.opens) self.now }
-        ensures below { IfSome result (λ node. node < length self.now) }
-    {
-        self.files.iter().position(|file| file.names(stateid))
+        let node = self.nodes.find(stateid.number)?;
+        let file = self.files.get(node as usize)?;
+        found_at(node, file.named_by(stateid))
     }
 
     /// The open that this owner has of the node's file, if there is one.
@@ -121,7 +139,7 @@ impl Opens {
     pub fn has_place(&self, limit: usize) -> bool
         ensures { result ≡ nat_lt (open_count (opens_in self.now)) limit }
     {
-        places_left(&self.files, limit) > 0
+        self.count < limit
     }
 
     /// Whether there are fewer opens of other owners than this limit.
@@ -129,7 +147,7 @@ impl Opens {
         ensures { result
             ≡ nat_lt (open_count (map (without (is_of owner.now)) (opens_in self.now))) limit }
     {
-        places_left_without(&self.files, owner, limit) > 0
+        has_place_without(&self.files, owner, limit)
     }
 
     /// Makes room for an open of the node's file.
@@ -143,6 +161,7 @@ impl Opens {
     {
         let node = node as usize;
         if node < self.files.len() {
+            reserve_number(&self.files, &mut self.nodes, self.count)?;
             self.files[node].reserve()?;
         }
         Ok(())
@@ -158,9 +177,13 @@ impl Opens {
         ensures delegations { delegations_in self.new ≡ delegations_in self.old }
         ensures lending { (at : ℕ) → HasLendingRoomAt at self.old → HasLendingRoomAt at self.new }
     {
-        let node = node as usize;
-        if node < self.files.len() {
-            self.files[node].grant(owner, share, number);
+        let at = node as usize;
+        if at < self.files.len() {
+            let is_new = grant_in(&mut self.files[at], owner, share, number);
+            if is_new {
+                self.nodes.add(number, node);
+                self.count += 1;
+            }
         }
     }
 
@@ -196,9 +219,10 @@ impl Opens {
             ≡ with_opens node (without (is_numbered number)) (opens_in self.old) }
         ensures delegations { delegations_in self.new ≡ delegations_in self.old }
     {
-        let node = node as usize;
-        if node < self.files.len() {
-            self.files[node].close(number);
+        let at = node as usize;
+        if at < self.files.len() {
+            self.count -= close_in(&mut self.files[at], number);
+            self.nodes.remove(number, node);
         }
     }
 
@@ -209,7 +233,8 @@ impl Opens {
         ensures room { (node : ℕ) → HasRoomAt node self.old → HasRoomAt node self.new }
         ensures lending { (at : ℕ) → HasLendingRoomAt at self.old → HasLendingRoomAt at self.new }
     {
-        remove_owner_in(&mut self.files, owner);
+        remove_owner_each(&mut self.files, owner);
+        self.count -= places_left(&self.files, self.count);
     }
 
     /// Removes the opens of all owners of this client, and its delegations.
@@ -219,7 +244,9 @@ impl Opens {
         ensures delegations { delegations_in self.new
             ≡ map (without_lent (is_lent_to client)) (delegations_in self.old) }
     {
-        remove_client_in(&mut self.files, client);
+        remove_client_each(&mut self.files, client);
+        self.count -= places_left(&self.files, self.count);
+        self.lent_count -= lending_places_left(&self.files, self.lent_count);
     }
 
     /// The delegations of the node's file.
@@ -237,21 +264,21 @@ impl Opens {
         ensures { option_map delegation_seen result
             ≡ delegation_named_in stateid (delegations_in self.now) }
     {
-        match self.node_of_delegation(stateid) {
-            Some(node) => lent_at(node as u32, self.files[node].delegation_named_by(stateid)),
-            None => None,
-        }
+        let found = self.delegation_named(stateid)?;
+        Some(DelegationFound {
+            node: found.node,
+            state: *found.state,
+        })
     }
 
-    // The node with a delegation that the stateid names.
-    fn node_of_delegation(&self, stateid: Stateid) -> Option<usize>
-        ensures node { result ≡ position (λ f.
-            list_any (is_stateid_of_delegation stateid) f.delegations) self.now }
-        ensures below { IfSome result (λ node. node < length self.now) }
+    /// The delegation that the stateid names, no matter its seqid, if there is one, where it is kept.
+    pub fn delegation_named(&self, stateid: Stateid) -> Option<DelegationRef<'_>>
+        ensures { option_map delegation_ref_seen result
+            ≡ delegation_named_in stateid (delegations_in self.now) }
     {
-        self.files
-            .iter()
-            .position(|file| file.names_delegation(stateid))
+        let node = self.lent.find(stateid.number)?;
+        let file = self.files.get(node as usize)?;
+        kept_at(node, file.delegation_named(stateid))
     }
 
     /// The delegation with this number, if there is one.
@@ -259,21 +286,9 @@ impl Opens {
         ensures { option_map delegation_seen result
             ≡ delegation_numbered_in number (delegations_in self.now) }
     {
-        match self.node_with_number(number) {
-            Some(node) => lent_at(node as u32, self.files[node].delegation_with_number(number)),
-            None => None,
-        }
-    }
-
-    // The node with a delegation that has this number.
-    fn node_with_number(&self, number: u32) -> Option<usize>
-        ensures node { result ≡ position (λ f.
-            list_any (is_delegation_numbered number) f.delegations) self.now }
-        ensures below { IfSome result (λ node. node < length self.now) }
-    {
-        self.files
-            .iter()
-            .position(|file| file.has_delegation_numbered(number))
+        let node = self.lent.find(number)?;
+        let file = self.files.get(node as usize)?;
+        lent_at(node, file.delegation_with_number(number))
     }
 
     /// Whether the client has a delegation of the node's file.
@@ -332,7 +347,7 @@ impl Opens {
     pub fn delegation_places_left(&self, limit: usize) -> usize
         ensures { result ≡ limit - delegation_count (delegations_in self.now) }
     {
-        lending_places_left(&self.files, limit)
+        limit.saturating_sub(self.lent_count)
     }
 
     /// Makes room for a delegation of the node's file.
@@ -347,6 +362,7 @@ impl Opens {
     {
         let node = node as usize;
         if node < self.files.len() {
+            reserve_delegation_number(&self.files, &mut self.lent, self.lent_count)?;
             self.files[node].reserve_delegation()?;
         }
         Ok(())
@@ -363,9 +379,11 @@ impl Opens {
         ensures opens { opens_in self.new ≡ opens_in self.old }
         ensures opening { (at : ℕ) → HasRoomAt at self.old → HasRoomAt at self.new }
     {
-        let node = node as usize;
-        if node < self.files.len() {
-            self.files[node].lend(client, kind, number);
+        let at = node as usize;
+        if at < self.files.len() {
+            self.files[at].lend(client, kind, number);
+            self.lent.add(number, node);
+            self.lent_count += 1;
         }
     }
 
@@ -393,9 +411,10 @@ impl Opens {
         ensures room { (at : ℕ) → HasLendingRoomAt at self.old → HasLendingRoomAt at self.new }
         ensures opening { (at : ℕ) → HasRoomAt at self.old → HasRoomAt at self.new }
     {
-        let node = node as usize;
-        if node < self.files.len() {
-            self.files[node].give_back(number);
+        let at = node as usize;
+        if at < self.files.len() {
+            self.lent_count -= give_back_in(&mut self.files[at], number);
+            self.lent.remove(number, node);
         }
     }
 }
@@ -412,7 +431,7 @@ fn has_delegation_in(files: &[FileShare], client: ClientId) -> bool
     files.iter().any(|file| file.has_delegation(client))
 }
 
-// How many places of this limit the delegations leave.
+// How many places of this limit the delegations of these files leave.
 fn lending_places_left(files: &[FileShare], limit: usize) -> usize
     ensures { result ≡ limit - delegation_count (delegations_in files.now) }
 {
@@ -423,7 +442,7 @@ fn lending_places_left(files: &[FileShare], limit: usize) -> usize
     left
 }
 
-// How many places of this limit the opens leave.
+// How many places of this limit the opens of these files leave.
 fn places_left(files: &[FileShare], limit: usize) -> usize
     ensures { result ≡ limit - open_count (opens_in files.now) }
 {
@@ -432,6 +451,14 @@ fn places_left(files: &[FileShare], limit: usize) -> usize
         left = left.saturating_sub(file.len());
     }
     left
+}
+
+// Whether there are fewer opens of other owners than this limit.
+fn has_place_without(files: &[FileShare], owner: &OpenOwner, limit: usize) -> bool
+    ensures { result
+        ≡ nat_lt (open_count (map (without (is_of owner.now)) (opens_in files.now))) limit }
+{
+    places_left_without(files, owner, limit) > 0
 }
 
 // How many places of this limit the opens of other owners leave.
@@ -445,6 +472,17 @@ fn places_left_without(files: &[FileShare], owner: &OpenOwner, limit: usize) -> 
     left
 }
 
+fn remove_owner_each(files: &mut Vec<FileShare>, owner: &OpenOwner)
+    ensures opens { opens_in files.new.items
+        ≡ map (without (is_of owner.now)) (opens_in files.old.items) }
+    ensures delegations { delegations_in files.new.items ≡ delegations_in files.old.items }
+    ensures room { (node : ℕ) → HasRoomAt node files.old.items → HasRoomAt node files.new.items }
+    ensures lending { (at : ℕ) → HasLendingRoomAt at files.old.items
+        → HasLendingRoomAt at files.new.items }
+{
+    remove_owner_in(files, owner);
+}
+
 fn remove_owner_in(files: &mut [FileShare], owner: &OpenOwner)
     ensures opens { opens_in files.new ≡ map (without (is_of owner.now)) (opens_in files.old) }
     ensures delegations { delegations_in files.new ≡ delegations_in files.old }
@@ -454,6 +492,15 @@ fn remove_owner_in(files: &mut [FileShare], owner: &OpenOwner)
     for file in files.iter_mut() {
         file.remove_owner(owner);
     }
+}
+
+fn remove_client_each(files: &mut Vec<FileShare>, client: ClientId)
+    ensures opens { opens_in files.new.items
+        ≡ map (without (is_of_client client)) (opens_in files.old.items) }
+    ensures delegations { delegations_in files.new.items
+        ≡ map (without_lent (is_lent_to client)) (delegations_in files.old.items) }
+{
+    remove_client_in(files, client);
 }
 
 fn remove_client_in(files: &mut [FileShare], client: ClientId)
@@ -472,6 +519,16 @@ fn found_at(node: u32, open: Option<&OpenState>) -> Option<OpenFound<'_>>
 {
     match open {
         Some(state) => Some(OpenFound { node, state }),
+        None => None,
+    }
+}
+
+// The delegation, if there is one, as one of this node's file, where it is kept.
+fn kept_at(node: u32, lent: Option<&Delegation>) -> Option<DelegationRef<'_>>
+    ensures { option_map delegation_ref_seen result ≡ lent_at node (option_copied lent.entry) }
+{
+    match lent {
+        Some(state) => Some(DelegationRef { node, state }),
         None => None,
     }
 }

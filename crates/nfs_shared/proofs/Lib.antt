@@ -7,3 +7,4 @@ pub mod Giving
 pub mod Holding
 pub mod Renewals
 pub mod Ends
+pub mod Beginning

@@ -4,6 +4,7 @@ use crate::change::Change;
 use crate::limits::STATE_LIMIT;
 use crate::owner_change::OwnerChange;
 use crate::owner_update::{Keeping, OwnerUpdate};
+use crate::seeds::Seeds;
 use crate::shortage::Shortage;
 use crate::stored_files::StoredFiles;
 use nfs_locks::{FirstLock, Locks};
@@ -51,17 +52,20 @@ impl Tables {
     ghost use Rattle.nfs_owners.specs.ClientRoom.{FitsRecords, HasNumbersFor, HasRoomFor};
     ghost use Rattle.nfs_state.specs.Stored.{empty_store};
 
-    /// The files of the tree, and no clients.
-    pub fn of_tree(alloc: Global, tree: &Tree) -> Result<Tables, AllocError>
+    /// The files of the tree, and no clients. Owners and clients will be found by hashes that are keyed by the seeds.
+    pub fn of_tree(alloc: Global, tree: &Tree, seeds: Seeds) -> Result<Tables, AllocError>
         ensures { IfOk result (λ t. stored_of t ≡ empty_store tree.now.nodes) }
     {
+        let files = StoredFiles::of_tree(alloc, tree)?;
+        let opens = Opens::new(alloc, tree.len(), seeds.owners)?;
+        let locks = Locks::new(alloc, tree.len(), seeds.owners)?;
         Ok(Tables {
-            clients: Clients::new(alloc),
-            owners: Owners::new(alloc),
-            opens: Opens::new(alloc, tree.len())?,
-            locks: Locks::new(alloc, tree.len())?,
+            clients: Clients::new(alloc, seeds.ids),
+            owners: Owners::new(alloc, seeds.owners),
+            opens,
+            locks,
             numbers: Numbers::new(),
-            files: StoredFiles::of_tree(alloc, tree)?,
+            files,
         })
     }
 

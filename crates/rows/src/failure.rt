@@ -1,3 +1,4 @@
+use nfs_core::NoRandomSeed;
 use std::alloc::{AllocError, AllocFailed};
 use thiserror::Error;
 
@@ -9,6 +10,8 @@ pub(crate) enum Failure {
     /// What was read is no input of this program, or can't be read.
     #[error("invalid input")]
     Input,
+    #[error("no random seed")]
+    Seed,
     /// An answer can't be written.
     #[error("output not written")]
     Output,
@@ -17,6 +20,12 @@ pub(crate) enum Failure {
 impl From<AllocError> for Failure {
     fn from(_refused: AllocError) -> Failure {
         Failure::Memory
+    }
+}
+
+impl From<NoRandomSeed> for Failure {
+    fn from(_refused: NoRandomSeed) -> Failure {
+        Failure::Seed
     }
 }
 

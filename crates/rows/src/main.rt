@@ -29,7 +29,7 @@ use crate::head::Head;
 use crate::session::Session;
 use crate::together::serve_together;
 use crate::way::Way;
-use nfs_core::{Core, Journal};
+use nfs_core::{Core, Journal, Seeds};
 use nfs_tree::{Tree, TreeError};
 use std::io::{Read, Write};
 use std::process::ExitCode;
@@ -53,8 +53,9 @@ fn rows<R: Threads + Wait + Sync>(rt: &HostRuntime, threads: &R) -> Result<(), F
     let alloc = rt.alloc();
     let mut session = Session::new(alloc, rt.stdin(), rt.stdout())?;
     let head = Head::read(&mut session.input)?;
+    let seeds = Seeds::new(rt)?;
     match Tree::from_toml(alloc, head.document.as_str()) {
-        Ok(tree) => serve(threads, &mut session, &head, &tree),
+        Ok(tree) => serve(threads, &mut session, &head, &tree, seeds),
         Err(TreeError::Memory) => Err(Failure::Memory),
         Err(refused) => session.tell_word(refused.number()),
     }
@@ -66,9 +67,11 @@ fn serve<R: Threads + Wait + Sync, I: Read + Drop, O: Write + Drop>(
     session: &mut Session<I, O>,
     head: &Head,
     tree: &Tree,
+    seeds: Seeds,
 ) -> Result<(), Failure> {
     session.tell_word(0)?;
-    let Ok(core) = Core::new(session.alloc, tree, head.lease, head.epoch, tree.policy()) else {
+    let (alloc, policy) = (session.alloc, tree.policy());
+    let Ok(core) = Core::new(alloc, tree, head.lease, head.epoch, policy, seeds) else {
         return Err(Failure::Memory);
     };
     let core = match head.way {

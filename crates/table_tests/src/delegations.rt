@@ -6,6 +6,8 @@ ghost use Rattle.nfs_share.specs.Delegations.{IsAboveLent};
 use nfs_forms::{ClientId, Stateid};
 use nfs_share::{Delegation, DelegationKind, FileShare, Modes, Share, ShareError};
 use std::alloc::AllocError;
+use std::hash::RandomState;
+use std::process::Abort;
 use std::test::Fail;
 
 const FIRST: ClientId = ClientId {
@@ -64,19 +66,22 @@ fn conflicts_of(
 /// isn't given, and tells of both.
 #[test]
 fn lends_to_two_readers(rt: HostRuntime) -> Result<(), Fail> {
-    let mut file = FileShare::new(rt.alloc());
-    let stateid = delegate(&mut file, FIRST, DelegationKind::Read, 7)?;
+    let mut file = FileShare::new(rt.alloc(), RandomState::new(&rt)?);
+    lend_in_turn(&rt, &mut file)
+}
+
+fn lend_in_turn(rt: &impl Abort, file: &mut FileShare) -> Result<(), Fail>
+    requires new { IsAboveLent 7 file.old.delegations }
+{
+    let stateid = delegate(file, FIRST, DelegationKind::Read, 7)?;
     assert!(rt; stateid.seqid == 1 && stateid.client == FIRST && stateid.number == 7);
-    assert_eq!(rt;
-        delegate(&mut file, SECOND, DelegationKind::Read, 8)?.number,
-        8
-    );
-    let found = conflicts_of(&file, THIRD, WRITE)?;
+    assert_eq!(rt; delegate(file, SECOND, DelegationKind::Read, 8)?.number, 8);
+    let found = conflicts_of(file, THIRD, WRITE)?;
     assert!(rt; found.len() == 2 && found[0].number == 7 && found[1].number == 8);
-    let found = conflicts_of(&file, FIRST, WRITE)?;
+    let found = conflicts_of(file, FIRST, WRITE)?;
     assert!(rt; found.len() == 1 && found[0].number == 8);
-    assert_eq!(rt; conflicts_of(&file, THIRD, READ)?.len(), 0);
-    match delegate(&mut file, THIRD, DelegationKind::Write, 9) {
+    assert_eq!(rt; conflicts_of(file, THIRD, READ)?.len(), 0);
+    match delegate(file, THIRD, DelegationKind::Write, 9) {
         Err(ShareError::Held(held)) => assert_eq!(rt; held.len(), 2),
         _ => assert!(rt; false),
     }

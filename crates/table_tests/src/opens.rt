@@ -7,6 +7,8 @@ use crate::names::name_of;
 use nfs_forms::{ClientId, OpenOwner, Stateid};
 use nfs_share::{FileShare, Modes, Share, ShareError};
 use std::alloc::{AllocError, Global};
+use std::hash::RandomState;
+use std::process::Abort;
 use std::test::Fail;
 
 const CLIENT: ClientId = ClientId {
@@ -66,23 +68,28 @@ fn downgrade(file: &mut FileShare, number: u32, share: Share) -> Result<Stateid,
 /// downgrade that open to the first.
 #[test]
 fn opens_and_downgrades(rt: HostRuntime) -> Result<(), Fail> {
-    let alloc = rt.alloc();
-    let mut file = FileShare::new(alloc);
-    try_open(alloc, &mut file, b"a", READ, 7)?;
+    let mut file = FileShare::new(rt.alloc(), RandomState::new(&rt)?);
+    downgrades_in_turn(&rt, rt.alloc(), &mut file)
+}
+
+fn downgrades_in_turn(rt: &impl Abort, alloc: Global, file: &mut FileShare) -> Result<(), Fail>
+    requires new { IsAbove 7 file.old.opens }
+{
+    try_open(alloc, file, b"a", READ, 7)?;
     assert!(rt; !file.denies(Modes::BOTH));
-    let stateid = try_open(alloc, &mut file, b"a", BOTH_ALONE, 8)?;
+    let stateid = try_open(alloc, file, b"a", BOTH_ALONE, 8)?;
     assert!(rt; stateid.seqid == 2 && stateid.client == CLIENT && stateid.number == 7);
     assert!(rt; file.share_of(&owner(alloc, b"a")?) == Some(BOTH_ALONE));
     assert!(rt; file.denies(Modes::WRITE) && !file.denies(Modes::READ));
     assert!(rt;
         matches!(
-            try_open(alloc, &mut file, b"b", WRITE, 9),
+            try_open(alloc, file, b"b", WRITE, 9),
             Err(ShareError::Denied)
         )
     );
-    assert!(rt; matches!(downgrade(&mut file, 7, WRITE), Err(ShareError::Invalid)));
-    assert_eq!(rt; downgrade(&mut file, 7, READ)?.seqid, 3);
+    assert!(rt; matches!(downgrade(file, 7, WRITE), Err(ShareError::Invalid)));
+    assert_eq!(rt; downgrade(file, 7, READ)?.seqid, 3);
     assert!(rt; file.share_of(&owner(alloc, b"a")?) == Some(READ));
-    assert_eq!(rt; try_open(alloc, &mut file, b"b", WRITE, 10)?.number, 10);
+    assert_eq!(rt; try_open(alloc, file, b"b", WRITE, 10)?.number, 10);
     Ok(())
 }

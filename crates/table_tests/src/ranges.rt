@@ -59,3 +59,21 @@ fn joins_runs_of_one_mode(rt: HostRuntime) -> Result<(), Fail> {
     assert!(rt; ranges.run_at(0) == Some((span(0, 19), Mode::Read)));
     Ok(())
 }
+
+/// Runs stand in both lists of a `Ranges`, since byte 30 was locked last; the last byte of all is one of a run of two.
+#[test]
+fn runs_stand_around_a_change(rt: HostRuntime) -> Result<(), Fail> {
+    let mut ranges = Ranges::new(rt.alloc());
+    lock(&mut ranges, span(10, 10), Mode::Read)?;
+    lock(&mut ranges, span(u64::MAX - 1, u64::MAX), Mode::Write)?;
+    lock(&mut ranges, span(30, 30), Mode::Read)?;
+    unlock(&mut ranges, span(u64::MAX, u64::MAX))?;
+    lock(&mut ranges, span(20, 20), Mode::Write)?;
+    assert!(rt; ranges.run_at(30) == Some((span(30, 30), Mode::Read)));
+    assert!(rt; ranges.run_at(u64::MAX).is_none());
+    assert!(rt;
+        ranges.run_at(u64::MAX - 1) == Some((span(u64::MAX - 1, u64::MAX - 1), Mode::Write))
+    );
+    assert!(rt; ranges.first_conflict(span(0, u64::MAX), Mode::Read) == Some(20));
+    Ok(())
+}

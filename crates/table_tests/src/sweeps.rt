@@ -8,7 +8,7 @@ use nfs_core::Core;
 use nfs_leases::{LeaseBook, LeasedCore, PlainLeases, Swept};
 use nfs_operations::setclientid::Setclientid;
 use nfs_operations::setclientid_confirm::SetclientidConfirm;
-use nfs_state::{Moment, Request};
+use nfs_state::{Moment, Request, Seeds};
 use nfs_tree::Tree;
 use nfs_xdr::{Address, Answer, Callback, Op, OpResult, Principal, Refusal, Verifier};
 use std::alloc::Global;
@@ -46,18 +46,22 @@ fn introduction(alloc: Global, id: &[u8]) -> Option<Op>
 
 /// A core that no client has come to, with a book of leases that are renewed behind the sweep's back; none where memory
 /// was refused.
-fn start(alloc: Global) -> Option<LeasedCore<Renewing>> {
+fn start(alloc: Global, seeds: Seeds) -> Option<LeasedCore<Renewing>> {
     let tree = Tree::from_toml(alloc, "file = [{ path = \"a\" }]").ok()?;
-    let core = Core::new(alloc, &tree, 90, 7, tree.policy()).ok()?;
-    let leases = PlainLeases::new(alloc, 90).ok()?;
+    let Ok(leases) = PlainLeases::new(alloc, 90) else {
+        return None;
+    };
+    let Ok(core) = Core::new(alloc, &tree, 90, 7, tree.policy(), seeds) else {
+        return None;
+    };
     let moment = Moment::new(100).unwrap();
     Some(LeasedCore::new(core, Renewing { leases, moment }))
 }
 
 /// The same, asked for once more where memory was refused.
-fn started(alloc: Global) -> Option<LeasedCore<Renewing>> {
-    match start(alloc) {
-        None => start(alloc),
+fn started(alloc: Global, seeds: Seeds) -> Option<LeasedCore<Renewing>> {
+    match start(alloc, seeds) {
+        None => start(alloc, seeds),
         some => some,
     }
 }
@@ -143,7 +147,7 @@ fn change(rt: &impl Abort, leased: &mut LeasedCore<Renewing>) {
 
 #[test]
 fn a_renewal_between_look_and_close(rt: HostRuntime) -> Result<(), Fail> {
-    let mut leased = started(rt.alloc()).ok_or("a core")?;
+    let mut leased = started(rt.alloc(), Seeds::new(&rt)?).ok_or("a core")?;
     let end = come_and_change(&rt, rt.alloc(), &mut leased);
     drop(leased);
     end

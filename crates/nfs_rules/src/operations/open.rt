@@ -1,4 +1,4 @@
-ghost use Rattle.std.specs.Prelude.{◌≡◌, ◌≢◌, ◌<◌, ◌-◌, ◌^◌, None, Ok, OnErr};
+ghost use Rattle.std.specs.Prelude.{◌≡◌, ◌≢◌, ℕ, ◌<◌, ◌-◌, ◌^◌, None, Ok, OnErr};
 ghost use Rattle.std.specs.Option.{option_copied};
 ghost use Rattle.std.specs.Result.{IsOk, result_map_both};
 ghost use Rattle.nfs_owners.specs.StateOwner.{open_owner};
@@ -238,8 +238,9 @@ fn opened_for(
     ensures { result ≡ opened passage (before_own passage owner.now (state_of tables.now))
         owner.now node kind }
 {
-    let stateid = stateid_for(tables, passage, owner, node)?;
-    let has_open = open_of(tables, passage, owner, node).is_some();
+    let open = open_of(tables, passage, owner, node);
+    let stateid = stateid_for(tables, passage, owner, open)?;
+    let has_open = open.is_some();
     if !has_lending_place(tables, has_open, kind) {
         return None;
     }
@@ -256,17 +257,24 @@ fn lending_number(tables: &Tables, has_open: bool) -> u32
     if has_open { next } else { next + 1 }
 }
 
-// The stateid that the owner gets for the file; `None` if a limit would be exceeded.
-fn stateid_for(tables: &Tables, passage: Passage, owner: &OpenOwner, node: u32) -> Option<Stateid>
+// The stateid that the owner gets for a file of which it has this open, or none; `None` if a limit would be exceeded.
+fn stateid_for(
+    tables: &Tables,
+    passage: Passage,
+    owner: &OpenOwner,
+    open: Option<&OpenState>,
+) -> Option<Stateid>
     requires states { tables.now.numbers < 2 ^ 32 - 2 }
     requires passage { IsPassage passage (open_owner owner.now) (state_of tables.now) }
-    ensures { result ≡ granted_stateid passage
+    ensures { (node : ℕ) → option_copied open.entry ≡ open_of owner.now
+        (opens_of node (before_own passage owner.now (state_of tables.now)).opens)
+        → result ≡ granted_stateid passage
         (before_own passage owner.now (state_of tables.now)) owner.now node }
 {
     if !has_owner_place(tables, passage, owner) {
         return None;
     }
-    match open_of(tables, passage, owner, node) {
+    match open {
         Some(open) => Some(open.next_stateid()),
         None => new_stateid(tables, passage, owner),
     }

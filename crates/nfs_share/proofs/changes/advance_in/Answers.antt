@@ -1,21 +1,17 @@
-use Rattle.std.proofs.Common.{◌∙◌, arith}
-use Rattle.std.proofs.lemmas.Bool.{eq-eqb, ne_eqb}
-use Rattle.nfs_share.specs.Opens.{with_next_seqid, is_numbered}
-use Rattle.nfs_share.proofs.OpensLaws.{changes_one_more, leaves_one_more}
+use Rattle.std.proofs.Common.{◌∙◌, ap, sym}
+use Rattle.std.specs.Option.{option_copied_mut}
+use Rattle.nfs_share.specs.Opens.{with_next_seqid}
+use Rattle.nfs_share.proofs.KeptOpens.{changed, unchanged}
 use Rattle.nfs_share.proofs.changes.advance_in.Goals as goal
-use Rattle.nfs_share.proofs.changes.advance_in.Goals.{then-open-number, else-open-number}
 
-pub loop-open-preserved : goal.loop-open-preserved
-loop-open-preserved c = record {
-  opens =
-      elim c.if-open-number.branch [
-        | then-open-number w ↦
-            w.opens-is
-            ∙ changes_one_more (is_numbered c.args.number) with_next_seqid c.args.opens.now c.loop-open.opens c.loop-open.open-index c.open-item.result w.advance.new.self
-            (omega arith) (omega arith) c.loop-open.invariant.opens (eq-eqb _ _ w.if-open-number.true) w.advance.ensures
-        | else-open-number w ↦
-            w.opens-is
-            ∙ leaves_one_more (is_numbered c.args.number) with_next_seqid c.args.opens.now c.loop-open.opens c.loop-open.open-index c.open-item.result
-            (omega arith) (omega arith) c.loop-open.invariant.opens (ne_eqb _ _ w.if-open-number.false)
-      ];
-}
+pub returns-in-Some : goal.returns-in-Some
+returns-in-Some c =
+    let found = c.find_mut.ensures in
+    ap (λ rows. record { rows = rows; room = c.args.opens.now.room })
+    (changed c.args.number c.from.result c.from.ensures with_next_seqid c.args.opens.now.rows c.in-Some.open.now c.advance.new.self found.order
+    (sym (ap option_copied_mut c.in-Some.is) ∙ found.value) c.advance.ensures)
+
+pub returns-in_default : goal.returns-in_default
+returns-in_default c =
+    ap (λ rows. record { rows = rows; room = c.args.opens.now.room })
+    (unchanged c.args.number c.from.result c.from.ensures with_next_seqid c.args.opens.now.rows (sym (ap option_copied_mut c.in_default.is) ∙ c.find_mut.ensures.value))

@@ -1,21 +1,29 @@
-use Rattle.std.proofs.Common.{◌∙◌, arith}
-use Rattle.std.proofs.lemmas.Bool.{eq-eqb, ne_eqb}
-use Rattle.nfs_share.specs.Opens.{after_downgrade, is_numbered}
-use Rattle.nfs_share.proofs.OpensLaws.{changes_one_more, leaves_one_more}
+use Rattle.std.proofs.Common.{◌∙◌, ap, sym}
+use Rattle.std.specs.Option.{option_copied_mut}
+use Rattle.nfs_share.specs.Opens.{after_downgrade, share_of}
+use Rattle.nfs_share.specs.declared.open_state.OpenState.{OpenState}
+use Rattle.nfs_share.proofs.AtMostOne.{same_some}
+use Rattle.nfs_share.proofs.KeptOpens.{changed, found_number, unchanged}
 use Rattle.nfs_share.proofs.changes.downgrade_in.Goals as goal
-use Rattle.nfs_share.proofs.changes.downgrade_in.Goals.{then-open-number, else-open-number}
 
-pub loop-open-preserved : goal.loop-open-preserved
-loop-open-preserved c = record {
-  opens =
-      elim c.if-open-number.branch [
-        | then-open-number w ↦
-            w.opens-is
-            ∙ changes_one_more (is_numbered c.args.number) (after_downgrade c.args.share) c.args.opens.now c.loop-open.opens c.loop-open.open-index c.open-item.result w.downgrade.new.self
-            (omega arith) (omega arith) c.loop-open.invariant.opens (eq-eqb _ _ w.if-open-number.true) w.downgrade.ensures
-        | else-open-number w ↦
-            w.opens-is
-            ∙ leaves_one_more (is_numbered c.args.number) (after_downgrade c.args.share) c.args.opens.now c.loop-open.opens c.loop-open.open-index c.open-item.result
-            (omega arith) (omega arith) c.loop-open.invariant.opens (ne_eqb _ _ w.if-open-number.false)
-      ];
-}
+pub returns-in-Some-clause-rows : goal.returns-in-Some-clause-rows
+returns-in-Some-clause-rows c =
+    let found = c.find_mut.ensures in
+    ap (λ rows. record { rows = rows; room = c.args.opens.now.room })
+    (changed c.args.number c.from.result c.from.ensures (after_downgrade c.args.share) c.args.opens.now.rows c.in-Some.open.now c.downgrade.new.self found.order
+    (sym (ap option_copied_mut c.in-Some.is) ∙ found.value) c.downgrade.ensures)
+
+pub returns-in-Some-clause-some : goal.returns-in-Some-clause-some
+returns-in-Some-clause-some c = λ o is.
+    c.share.ensures ∙ ap share_of c.downgrade.ensures
+    ∙ ap (λ (p : OpenState). share_of (after_downgrade c.args.share p))
+    (same_some c.in-Some.open.now o (sym (ap option_copied_mut c.in-Some.is) ∙ found_number c.args.number c.from.result c.from.ensures c.args.opens.now.rows c.find_mut.ensures.value ∙ sym is))
+
+pub returns-in-None-clause-rows : goal.returns-in-None-clause-rows
+returns-in-None-clause-rows c =
+    ap (λ rows. record { rows = rows; room = c.args.opens.now.room })
+    (unchanged c.args.number c.from.result c.from.ensures (after_downgrade c.args.share) c.args.opens.now.rows (sym (ap option_copied_mut c.in-None.is) ∙ c.find_mut.ensures.value))
+
+pub returns-in-None-clause-none : goal.returns-in-None-clause-none
+returns-in-None-clause-none c =
+    sym (ap option_copied_mut c.in-None.is) ∙ found_number c.args.number c.from.result c.from.ensures c.args.opens.now.rows c.find_mut.ensures.value

@@ -1,20 +1,29 @@
-use Rattle.std.proofs.Common.{◌∙◌, arith, sym}
-use Rattle.nfs_share.specs.Opens.{after_open, is_of}
-use Rattle.nfs_share.proofs.OpensLaws.{changes_one_more, leaves_one_more}
+use Rattle.std.proofs.Common.{◌∙◌, ap, sym}
+use Rattle.std.specs.Option.{option_copied_mut}
+use Rattle.nfs_share.specs.Opens.{after_open, share_of}
+use Rattle.nfs_share.specs.declared.open_state.OpenState.{OpenState}
+use Rattle.nfs_share.proofs.AtMostOne.{same_some}
+use Rattle.nfs_share.proofs.KeptOpens.{changed, found_number, unchanged}
 use Rattle.nfs_share.proofs.changes.join_in.Goals as goal
-use Rattle.nfs_share.proofs.changes.join_in.Goals.{then-is_of, else-is_of}
 
-pub loop-open-preserved : goal.loop-open-preserved
-loop-open-preserved c = record {
-  opens =
-      elim c.if-is_of.branch [
-        | then-is_of w ↦
-            w.opens-is
-            ∙ changes_one_more (is_of c.args.owner.now) (after_open c.args.share) c.args.opens.now c.loop-open.opens c.loop-open.open-index c.open-item.result w.join.new.self
-            (omega arith) (omega arith) c.loop-open.invariant.opens (sym c.is_of.ensures ∙ w.if-is_of.true) w.join.ensures
-        | else-is_of w ↦
-            w.opens-is
-            ∙ leaves_one_more (is_of c.args.owner.now) (after_open c.args.share) c.args.opens.now c.loop-open.opens c.loop-open.open-index c.open-item.result
-            (omega arith) (omega arith) c.loop-open.invariant.opens (sym c.is_of.ensures ∙ w.if-is_of.false)
-      ];
-}
+pub returns-in-Some-clause-rows : goal.returns-in-Some-clause-rows
+returns-in-Some-clause-rows c =
+    let found = c.find_mut.ensures in
+    ap (λ rows. record { rows = rows; room = c.args.opens.now.room })
+    (changed c.args.number c.from.result c.from.ensures (after_open c.args.share) c.args.opens.now.rows c.in-Some.open.now c.join.new.self found.order
+    (sym (ap option_copied_mut c.in-Some.is) ∙ found.value) c.join.ensures)
+
+pub returns-in-Some-clause-some : goal.returns-in-Some-clause-some
+returns-in-Some-clause-some c = λ o is.
+    c.share.ensures ∙ ap share_of c.join.ensures
+    ∙ ap (λ (p : OpenState). share_of (after_open c.args.share p))
+    (same_some c.in-Some.open.now o (sym (ap option_copied_mut c.in-Some.is) ∙ found_number c.args.number c.from.result c.from.ensures c.args.opens.now.rows c.find_mut.ensures.value ∙ sym is))
+
+pub returns-in-None-clause-rows : goal.returns-in-None-clause-rows
+returns-in-None-clause-rows c =
+    ap (λ rows. record { rows = rows; room = c.args.opens.now.room })
+    (unchanged c.args.number c.from.result c.from.ensures (after_open c.args.share) c.args.opens.now.rows (sym (ap option_copied_mut c.in-None.is) ∙ c.find_mut.ensures.value))
+
+pub returns-in-None-clause-none : goal.returns-in-None-clause-none
+returns-in-None-clause-none c =
+    sym (ap option_copied_mut c.in-None.is) ∙ found_number c.args.number c.from.result c.from.ensures c.args.opens.now.rows c.find_mut.ensures.value

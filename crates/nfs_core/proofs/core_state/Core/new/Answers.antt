@@ -7,12 +7,12 @@ use Rattle.nfs_core.proofs.RecallsLeft.{Left-new}
 use Rattle.nfs_core.proofs.core_state.Core.new.Goals as goal
 
 pub returns-clause-lawful : goal.returns-clause-lawful
-returns-clause-lawful c = Lawful-new c.new.result.history (stored_of c.in_ok-of_tree.field-0) (search rules) (search rules)
+returns-clause-lawful c = Lawful-new c.new-journal.result.history (stored_of c.in_ok-tables.tables) (search rules) (search rules)
 
 pub invariant_of-result : goal.invariant_of-result
 invariant_of-result c =
-    let no_owners = ap (λ (stored : Stored). stored.owners) c.in_ok-of_tree.ensures in (
+    let no_owners = ap (λ (stored : Stored). stored.owners) c.in_ok-tables.ensures in (
       returns-clause-lawful c,
-      subst (Agrees c.new.result.history) (sym no_owners) tt,
-      Left-new c.new.result.history _ (search rules) c.new-recalls.ensures,
+      subst (Agrees c.new-journal.result.history) (sym no_owners) tt,
+      Left-new c.new-journal.result.history _ (search rules) c.new-recalls.ensures,
     )

@@ -1,11 +1,12 @@
-use Rattle.std.proofs.Common.{◌∙◌, Bool, ◌&&◌, List, ap, sym}
+use Rattle.std.proofs.Common.{◌∙◌, Bool, ◌&&◌, ap, sym}
 use Rattle.std.specs.List.{list_any}
 use Rattle.std.proofs.lemmas.Bool.{ltb-false, ltb-true}
 use Rattle.nfs_locks.specs.AllLocks.{is_full_for, locks_in, locks_of}
 use Rattle.nfs_locks.specs.Locks.{ByteLocks, is_numbered, would_be_full}
-use Rattle.nfs_locks.specs.StoredLocks.{StoredLocks, lock_seen}
+use Rattle.nfs_locks.specs.StoredLocks.{lock_seen}
 use Rattle.nfs_locks.proofs.Elements.{any_seen}
 use Rattle.nfs_locks.proofs.Files.{locks_at, no_locks_at}
+use Rattle.nfs_locks.proofs.Indexed.{in_view}
 use Rattle.nfs_locks.proofs.locks.Locks.is_full_for.Goals as goal
 
 pub returns-in-Some : goal.returns-in-Some
@@ -15,10 +16,10 @@ returns-in-Some c =
     c.is_full_for.ensures
     ∙ any_seen lock_seen test file.states
     ∙ ap (list_any test) (sym (locks_at c.deref.result.now c.args.node file (ltb-true _ _ (sym c.in-Some.ensures.lookup.0)) c.in-Some.ensures.lookup.1))
-    ∙ ap (λ (files : List StoredLocks). is_full_for c.args.number c.args.change (locks_of c.args.node (locks_in files))) (c.deref.ensures.value ∙ c.self.view_is)
+    ∙ ap (λ locks. is_full_for c.args.number c.args.change (locks_of c.args.node locks)) (ap locks_in c.deref.ensures.value ∙ in_view c.self.inside.nodes.room c.self.inside.files.items c.args.self.now c.self.view_is)
 
 pub returns-in-None : goal.returns-in-None
 returns-in-None c =
     sym (ap (is_full_for c.args.number c.args.change)
-    (ap (λ (files : List StoredLocks). locks_of c.args.node (locks_in files)) (sym (c.deref.ensures.value ∙ c.self.view_is))
+    (ap (locks_of c.args.node) (sym (ap locks_in c.deref.ensures.value ∙ in_view c.self.inside.nodes.room c.self.inside.files.items c.args.self.now c.self.view_is))
     ∙ no_locks_at c.deref.result.now c.args.node (ltb-false _ _ (sym c.in-None.ensures.lookup.0))))

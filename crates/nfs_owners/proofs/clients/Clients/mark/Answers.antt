@@ -5,9 +5,9 @@ use Rattle.nfs_owners.proofs.clients.Clients.mark.Goals as goal
 pub invariant_of-self : goal.invariant_of-self
 invariant_of-self c =
     let old : Registry = record {
-      confirmed = c.self.inside.confirmed.items;
-      unconfirmed = c.self.inside.unconfirmed.items;
+      confirmed = c.self.inside.confirmed.records;
+      unconfirmed = c.self.inside.unconfirmed.records;
       last_number = c.self.inside.last_number;
       last_confirm = c.self.inside.last_confirm;
     } in
-    rw c.mark_each.ensures.items (mark_keeps_records c.args.number c.args.path old c.self.invariant)
+    rw c.mark.ensures.records (mark_keeps_records c.args.number c.args.path old c.self.invariant)

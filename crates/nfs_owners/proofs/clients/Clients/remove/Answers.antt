@@ -7,11 +7,11 @@ use Rattle.nfs_owners.proofs.clients.Clients.remove.Goals as goal
 pub invariant_of-self : goal.invariant_of-self
 invariant_of-self c =
     let old : Registry = record {
-      confirmed = c.self.inside.confirmed.items;
-      unconfirmed = c.self.inside.unconfirmed.items;
+      confirmed = c.self.inside.confirmed.records;
+      unconfirmed = c.self.inside.unconfirmed.records;
       last_number = c.self.inside.last_number;
       last_confirm = c.self.inside.last_confirm;
     } in
     let stays : ClientRecord → Bool = λ r. not (is_of_client c.args.number r) in
-    rw c.remove_number.ensures.items (rw c.remove_number-2.ensures.items
+    rw c.remove_client.ensures.records (rw c.remove_client-2.ensures.records
     (without_unconfirmed stays (record old { confirmed = without_number c.args.number old.confirmed }) (without_confirmed stays old c.self.invariant)))

@@ -1,7 +1,8 @@
-use Rattle.std.proofs.Common.{◌∙◌, List, ap}
-use Rattle.std.specs.List.{list_any}
+use Rattle.std.proofs.Common.{ap, ◌∙◌}
 use Rattle.nfs_share.specs.AllOpens.{opens_in}
-use Rattle.nfs_share.specs.Opens.{FileOpens, is_of_client}
+use Rattle.nfs_share.specs.Opens.{is_of_client}
+use Rattle.nfs_share.proofs.Indexed.{opens_view}
+use Rattle.std.specs.List.{list_any}
 use Rattle.nfs_share.proofs.AllOpens.{any_seen}
 use Rattle.nfs_share.proofs.opens.Opens.has_client.Goals as goal
 
@@ -10,4 +11,4 @@ returns c =
     let p = list_any (is_of_client c.args.client) in
     c.has_client_in.ensures
     ∙ any_seen (λ f. f.opens) p c.deref.result.now
-    ∙ ap (λ (files : List FileOpens). list_any p (opens_in files)) (c.deref.ensures.value ∙ c.self.view_is)
+    ∙ ap (list_any p) (ap opens_in c.deref.ensures.value ∙ (opens_view c.self.inside.nodes.room c.self.inside.lent.room c.self.inside.files.items c.args.self.now c.self.view_is))

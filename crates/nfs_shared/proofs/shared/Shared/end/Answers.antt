@@ -7,9 +7,10 @@ use Rattle.nfs_core.specs.Server.{Server}
 use Rattle.nfs_rpc.specs.declared.recall.Recall.{Recall}
 use Rattle.nfs_shared.specs.Ends.{AllBegin, AllStand}
 use Rattle.nfs_shared.specs.Held.{waiting}
-use Rattle.nfs_shared.specs.Receipts.{calls_in}
+use Rattle.nfs_shared.specs.Receipts.{calls_in, others_in}
 use Rattle.nfs_shared.specs.Roll.{list_of}
 use Rattle.nfs_shared.specs.Sender.{SenderView}
+use Rattle.nfs_shared.specs.Sweeper.{SweeperView}
 
 pub returns-clause-stand : goal.returns-clause-stand
 returns-clause-stand g c =
@@ -49,3 +50,17 @@ returns-clause-taken g c =
     let told : AreRecallsOf held.leased.core.journal (c.args.sender.taken ++ (begins.0 ++ left)) =
     subst (λ (s : SenderView). AreRecallsOf held.leased.core.journal (s.taken ++ (begins.0 ++ left))) c.sender.view_is all in
     (begins.0 ++ left, subst (λ (s : Server). AreRecallsOf s.journal (c.args.sender.taken ++ (begins.0 ++ left))) (sym c.into_core.ensures) told)
+
+-- the sweeper's share and the sender's are the whole
+pub returns-clause-others : goal.returns-clause-others
+returns-clause-others g c =
+    let whole = c.audit-2.ensures.whole (omega (arith, c.merge.ensures.parts, c.sweeper.invariant, c.sender.invariant.0)) in
+    omega (
+      arith,
+      ap (λ (s : Server). others_in s.journal.entries) c.into_core.ensures,
+      whole,
+      c.merge.ensures.amount,
+      c.held.invariant.5,
+      ap (λ (s : SweeperView). s.count) c.sweeper.view_is,
+      ap (λ (s : SenderView). s.count) c.sender.view_is,
+    )

@@ -1,0 +1,26 @@
+use Rattle.std.proofs.Common.{◌-◌, map, refl, sym, ap, subst, ◌∙◌}
+use Rattle.std.specs.Prelude.{not}
+use Rattle.nfs_locks.specs.AllLocks.{lock_count, locks_in, locks_or_none}
+use Rattle.nfs_locks.specs.LockNodes.{number_of}
+use Rattle.nfs_locks.specs.Locks.{is_lock_of, without}
+use Rattle.nfs_locks.proofs.Indexed.{all_counted_again, in_view, seen_within}
+use Rattle.nfs_nodes.specs.Numbers.{AreFound}
+use Rattle.nfs_nodes.proofs.Callers.{found_fewer}
+use Rattle.nfs_locks.proofs.locks.Locks.remove_owner.Goals as goal
+
+pub invariant_of-self : goal.invariant_of-self
+invariant_of-self c =
+    let count = c.self.inside.count in
+    let locks = locks_in c.self.inside.files.items in
+    let left = count - c.places_left.result in
+    subst (AreFound number_of c.self.inside.nodes left) (sym c.remove_owner_each.ensures)
+    (found_fewer number_of locks_or_none (λ xs. refl) 0 count locks c.self.inside.nodes (λ l. not (is_lock_of c.args.owner.now l)) left
+    (all_counted_again (λ l. not (is_lock_of c.args.owner.now l)) count c.places_left.result left locks c.self.invariant.counted
+    (c.places_left.ensures ∙ ap (λ files. count - lock_count (locks_in files)) c.deref.ensures.value ∙ ap (λ l. count - lock_count l) c.remove_owner_each.ensures) refl)
+    c.self.invariant)
+
+pub returns : goal.returns
+returns c =
+    seen_within _ _
+    ∙ c.remove_owner_each.ensures
+    ∙ ap (map (without (is_lock_of c.args.owner.now))) (in_view c.self.inside.nodes.room c.self.inside.files.items c.args.self.now c.self.view_is)

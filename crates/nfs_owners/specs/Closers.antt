@@ -1,0 +1,44 @@
+-- Which owner's kept request closed a state.
+use Rattle.std.specs.Prelude.{◌≡◌, ℕ, ◌==◌, false, List, Option, Some, None, if◌then◌else◌, find, nat_eq}
+use Rattle.indexmap.specs.IndexMap.{get}
+use Rattle.nfs_rows.specs.Rows.{Row, is_numbered, value_in}
+use Rattle.nfs_xdr.specs.declared.op.Op.{Op}
+use Rattle.nfs_xdr.specs.declared.op.Op.TheVariants as ops
+use Rattle.nfs_owners.specs.Kept.{is_freeing}
+use Rattle.nfs_owners.specs.declared.closers.Closers.{Closers}
+use Rattle.nfs_owners.specs.declared.kept.Kept.{Kept}
+use Rattle.nfs_owners.specs.declared.owner.Owner.{Owner}
+
+-- the number of the state that the operation would close, if it is a CLOSE
+abbrev pub closed_in : Op → Option ℕ
+closed_in (ops.Close args) = Some args.stateid.number
+closed_in op = None
+
+-- the number of the state that what is kept closed, if it closed one
+abbrev pub closed_by : Kept → Option ℕ
+closed_by kept = if is_freeing kept.answer then closed_in kept.request.op else None
+
+abbrev pub closed_of : Option Owner → Option ℕ
+closed_of None = None
+closed_of (Some o) = closed_by o.state.kept
+
+-- the state that was closed by the owner in the row with the number
+abbrev pub closed_at : List (Row Owner) → ℕ → Option ℕ
+closed_at rows number = closed_of (value_in (find (is_numbered number) rows))
+
+-- no row closed a state
+abbrev pub nothing : ℕ → Option ℕ
+nothing row = None
+
+-- the row closed this, and each other one what it did
+abbrev pub with_at : ℕ → Option ℕ → (ℕ → Option ℕ) → ℕ → Option ℕ
+with_at row closed f other = if other == row then closed else f other
+
+-- the index gives for a state the row that closed it, and nothing else
+pub record IsInverse (index : ℕ → Option ℕ) (closed : ℕ → Option ℕ) : Type 0 where
+  pub leads : (state row : ℕ) → closed row ≡ Some state → index state ≡ Some row
+  pub own : (state row : ℕ) → index state ≡ Some row → closed row ≡ Some state
+
+abbrev pub AreClosers : Closers → (ℕ → Option ℕ) → Type 0
+AreClosers closers closed =
+    closers.partial ≡ false → IsInverse (get nat_eq closers.index) closed

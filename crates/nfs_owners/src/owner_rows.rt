@@ -1,0 +1,267 @@
+ghost use Rattle.std.specs.Prelude.{◌≡◌, ℕ, ◌<◌, ◌≤◌, ◌+◌, ◌-◌, ◌^◌, ◌++◌, ◌∷◌, [], IsOk, OnOk, Option, find, length};
+ghost use Rattle.std.specs.Option.{option_copied};
+ghost use Rattle.nfs_rows.specs.Rows.{IsAbove, is_numbered, newest_of, without};
+ghost use Rattle.nfs_owners.specs.Closers.{AreClosers, closed_at, closed_by, with_at};
+ghost use Rattle.nfs_owners.specs.Kept.{closes};
+ghost use Rattle.nfs_owners.specs.Owner.{has_client, owner_of, with_request};
+ghost use Rattle.nfs_owners.specs.OwnerRows.{IsNumberedAnew, IsRowOf, confirmed, name_hash, owners_in, with_state_at};
+ghost use Rattle.nfs_owners.specs.Owners.{AreOwners, without_owners_of};
+ghost use Rattle.nfs_owners.specs.StateOwner.{owner_seen};
+ghost use Rattle.nfs_owners.specs.declared.owner.TheConstants.{OWNER_LIMIT};
+
+use crate::closers::Closers;
+use crate::{Kept, Owner, OwnerRef};
+use nfs_rows::Rows;
+use nfs_xdr::ClientId;
+use std::alloc::{AllocError, Global};
+use std::hash::RandomState;
+use std::marker::Model;
+
+// The owners in rows, in the order in which they were recorded, found by their names, and by the states that their kept
+// requests closed.
+#[derive(Drop)]
+pub(crate) struct OwnerRows {
+    rows: Rows<Owner>,
+    closers: Closers,
+    // The seed of the hashes of their names.
+    names: RandomState,
+}
+
+impl Model for OwnerRows {
+    ghost use Rattle.std.specs.List.{AllByRecursion};
+    ghost use Rattle.nfs_owners.specs.Closers.{AreClosers, closed_at};
+    ghost use Rattle.nfs_owners.specs.OwnerRows.{IsFiled, RoomyOwnerRows};
+
+    ghost Value = { RoomyOwnerRows };
+
+    ghost view = { λ o. record {
+      rows = o.rows.rows;
+      room = o.rows.room;
+      names = o.names;
+    } };
+
+    ghost invariant = { λ o. AllByRecursion (IsFiled o.names) o.rows.rows
+        × AreClosers o.closers (closed_at o.rows.rows) };
+}
+
+impl OwnerRows {
+    // No rows, taking no memory.
+    pub fn new(alloc: Global, names: RandomState) -> OwnerRows
+        ensures { result.rows ≡ [] }
+    {
+        OwnerRows {
+            rows: Rows::new(alloc),
+            closers: Closers::new(alloc),
+            names,
+        }
+    }
+
+    // How many there are.
+    pub fn len(&self) -> usize
+        ensures { result ≡ length self.now.rows }
+    {
+        self.rows.len()
+    }
+
+    // The owner with this name, if it is known.
+    pub fn find(&self, name: OwnerRef<'_>) -> Option<&Owner>
+        ensures { option_copied result ≡ owner_of (owner_seen name.entry) (owners_in self.now.rows) }
+    {
+        match self
+            .rows
+            .find_named(name.hash(self.names), |owner| owner.has_name(name))
+        {
+            Some((_, owner)) => Some(owner),
+            None => None,
+        }
+    }
+
+    // The number of the row of the owner with this name, if it is known.
+    pub fn row_of(&self, name: OwnerRef<'_>) -> Option<u64>
+        requires { AreOwners (owners_in self.now.rows) }
+        ensures { IsRowOf (owner_seen name.entry) self.now.rows result }
+    {
+        self.row_of_hash(self.hash(name), name)
+    }
+
+    // The hash of an owner's name.
+    pub fn hash(&self, name: OwnerRef<'_>) -> u64
+        ensures { result ≡ name_hash self.now.names (owner_seen name.entry) }
+    {
+        name.hash(self.names)
+    }
+
+    // The number of the row of the owner with this name, whose hash is at hand, if it is known.
+    pub fn row_of_hash(&self, hash: u64, name: OwnerRef<'_>) -> Option<u64>
+        requires owners { AreOwners (owners_in self.now.rows) }
+        requires hash { hash ≡ name_hash self.now.names (owner_seen name) }
+        ensures { IsRowOf (owner_seen name.entry) self.now.rows result }
+    {
+        let _rows = self.rows.len();
+        match self.rows.find_named(hash, |owner| owner.has_name(name)) {
+            Some((row, _)) => Some(row),
+            None => None,
+        }
+    }
+
+    // The first owner whose kept request closed the client's state with this number, if there is one.
+    pub fn closer_of(&self, client: ClientId, number: u32) -> Option<&Owner>
+        ensures { option_copied result
+            ≡ find (λ o. closes client number o.state.kept) (owners_in self.now.rows) }
+    {
+        if self.closers.partial {
+            return closer_among(&self.rows, client, number);
+        }
+        let _rows = self.rows.len();
+        let row = self.closers.find(number)?;
+        let owner = self.rows.find(row)?;
+        if owner.state.kept.closes(client, number) {
+            Some(owner)
+        } else {
+            None
+        }
+    }
+
+    // Makes room, so that the next row takes no memory.
+    pub fn reserve(&mut self) -> Result<(), AllocError>
+        ensures rows { self.new.rows ≡ self.old.rows }
+        ensures room { OnOk result (0 < self.new.room) }
+        ensures grows { self.old.room ≤ self.new.room }
+        ensures ready { 0 < self.old.room → IsOk result }
+    {
+        self.rows.reserve()?;
+        self.closers.reserve();
+        Ok(())
+    }
+
+    // Adds a row with this owner, whose name has this hash. It takes no memory.
+    pub fn add(&mut self, hash: u64, owner: Owner)
+        requires room { 0 < self.old.room }
+        requires hash { hash ≡ name_hash self.old.names owner.name }
+        requires few { length self.old.rows ≤ OWNER_LIMIT }
+        ensures owners { owners_in self.new.rows ≡ owners_in self.old.rows ++ owner ∷ [] }
+        ensures room { self.old.room ≡ self.new.room + 1 }
+    {
+        let row = next_row(&mut self.rows, &mut self.closers);
+        self.closers.note(owner.state.kept.closed(), row);
+        self.rows.add(row, hash, owner.name.client.number, owner);
+    }
+
+    // Makes this the kept request of the owner in this row.
+    pub fn keep_at(&mut self, row: u64, number: u32, kept: Kept)
+        ensures rows { self.new.rows ≡ with_state_at (with_request number kept) row self.old.rows }
+        ensures room { self.new.room ≡ self.old.room }
+    {
+        match self.rows.find_mut(row) {
+            Some(owner) => change_kept(owner, &mut self.closers, row, number, kept),
+            None => drop(kept),
+        }
+    }
+
+    // Confirms the owner in this row.
+    pub fn confirm_at(&mut self, row: u64)
+        ensures rows { self.new.rows ≡ with_state_at confirmed row self.old.rows }
+        ensures room { self.new.room ≡ self.old.room }
+    {
+        if let Some(owner) = self.rows.find_mut(row) {
+            owner.state.confirmed = true;
+        }
+    }
+
+    // Removes this row.
+    pub fn remove_at(&mut self, row: u64)
+        ensures rows { self.new.rows ≡ without (is_numbered row) self.old.rows }
+        ensures room { self.new.room ≡ self.old.room }
+    {
+        let closed = closed_in_row(&self.rows, row);
+        drop(self.rows.remove(row));
+        self.closers.forget(closed);
+        self.closers.settle(self.rows.is_empty());
+    }
+
+    // Removes the rows of this client's owners.
+    pub fn remove_client(&mut self, client: ClientId)
+        ensures rows { self.new.rows ≡ without (λ r. has_client client r.value) self.old.rows }
+        ensures room { self.new.room ≡ self.old.room }
+    {
+        forget_client(&self.rows, &mut self.closers, client);
+        self.rows
+            .remove_of_client(client.number, |owner| owner.has_client(client));
+        self.closers.settle(self.rows.is_empty());
+    }
+}
+
+// Makes this the kept request of the owner, who is in this row.
+fn change_kept(owner: &mut Owner, closers: &mut Closers, row: u64, number: u32, kept: Kept)
+    ensures owner { owner.new ≡ record owner.old {
+      state = with_request number kept owner.old.state;
+    } }
+    ensures closers { (f : ℕ → Option ℕ) → f row ≡ closed_by owner.old.state.kept
+        → AreClosers closers.old f → AreClosers closers.new (with_at row (closed_by kept) f) }
+{
+    closers.forget(owner.state.kept.closed());
+    closers.note(kept.closed(), row);
+    owner.state.keep(number, kept);
+}
+
+// The number of the state that the kept request of the owner in this row closed, if it closed one.
+fn closed_in_row(rows: &Rows<Owner>, row: u64) -> Option<u32>
+    ensures { result ≡ closed_at rows.now.rows row }
+{
+    match rows.find(row) {
+        Some(owner) => owner.state.kept.closed(),
+        None => None,
+    }
+}
+
+// The first owner in these rows whose kept request closed the client's state with this number, if there is one.
+fn closer_among(rows: &Rows<Owner>, client: ClientId, number: u32) -> Option<&Owner>
+    ensures { option_copied result
+        ≡ find (λ o. closes client number o.state.kept) (owners_in rows.now.rows) }
+{
+    for (_, owner) in rows.iter() {
+        if owner.state.kept.closes(client, number) {
+            return Some(owner);
+        }
+    }
+    None
+}
+
+// Forgets the states that were closed by owners of this client.
+fn forget_client(rows: &Rows<Owner>, closers: &mut Closers, client: ClientId)
+    ensures { AreClosers closers.old (closed_at rows.now.rows)
+        → AreClosers closers.new (closed_at (without (λ r. has_client client r.value) rows.now.rows)) }
+{
+    let _rows = rows.len();
+    for (_, owner) in rows.iter() {
+        if owner.has_client(client) {
+            closers.forget(owner.state.kept.closed());
+        }
+    }
+}
+
+// A number for the next row, above those of all others. Where none is left, the rows are numbered anew.
+#[tactic(auto, using(crate::proofs::Filing::newest_anew))]
+fn next_row(rows: &mut Rows<Owner>, closers: &mut Closers) -> u64
+    requires few { length rows.old.rows ≤ OWNER_LIMIT }
+    requires closers { AreClosers closers.old (closed_at rows.old.rows) }
+    ensures above { IsAbove result rows.new.rows }
+    ensures rows { IsNumberedAnew rows.old.rows rows.new.rows }
+    ensures room { rows.new.room ≡ rows.old.room }
+    ensures closers { AreClosers closers.new (closed_at rows.new.rows) }
+{
+    if rows.newest() < u64::MAX {
+        return after_newest(rows);
+    }
+    rows.renumber();
+    closers.partial = true;
+    after_newest(rows)
+}
+
+// The number after that of the newest row.
+fn after_newest(rows: &Rows<Owner>) -> u64
+    requires { newest_of rows.now.rows < 2 ^ 64 - 1 }
+    ensures { IsAbove result rows.now.rows }
+{
+    rows.newest() + 1
+}

@@ -1,0 +1,12 @@
+//! Rows in the order in which they came, found by their numbers, and by a hash of their names.
+#![tactic(auto)]
+
+mod iter;
+mod name_hash;
+mod parts;
+mod place;
+mod rows;
+
+pub use iter::Iter;
+pub use name_hash::hash_of;
+pub use rows::Rows;

@@ -1,0 +1,20 @@
+ghost use Rattle.std.specs.Prelude.{◌≡◌};
+ghost use Rattle.nfs_share.specs.KeptOpens.{hash_of_owner, space_of};
+
+use nfs_forms::{ClientId, OpenOwner};
+use nfs_rows::hash_of;
+use std::hash::RandomState;
+
+/// The keyed hash of an owner who opens files.
+pub(crate) fn hash_of_owner(names: RandomState, owner: &OpenOwner) -> u64
+    ensures { result ≡ hash_of_owner names owner.now }
+{
+    hash_of(names, space_of(owner.client), 0, owner.name.as_slice())
+}
+
+/// The epoch and the number of a client in one.
+pub(crate) fn space_of(client: ClientId) -> u64
+    ensures { result ≡ space_of client }
+{
+    u64::from(client.epoch) * (1 << 32) + u64::from(client.number)
+}

@@ -1,0 +1,6 @@
+use thiserror::Error;
+
+/// The system gave no random bytes for a seed.
+#[derive(Clone, Copy, Debug, PartialEq, Eq, Error)]
+#[error("no random seed")]
+pub struct NoRandomSeed;
