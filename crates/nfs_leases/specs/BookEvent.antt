@@ -1,6 +1,7 @@
 -- The calls on a book of leases, and what each answer says of a lease. RFC 7530, section 9.5, has a client's lease
 -- renewed by what the client sends, and lets the server forget a client whose lease is over.
-use Rattle.std.specs.Prelude.{◌≡◌, ℕ, ◌<◌, ◌≤◌, Bool, IsTrue, true, false, not, ◌&&◌, ◌||◌, ◌==◌, List, [], ◌∷◌, Option, Some, None}
+use Rattle.std.specs.Prelude.{◌≡◌, ℕ, Bool, true, false, not, ◌&&◌, ◌||◌, ◌==◌, List, [], ◌∷◌}
+use Rattle.nfs_owners.specs.Slots.{is_earlier}
 use Rattle.nfs_leases.specs.declared.lease_state.LeaseState.{LeaseState}
 use Rattle.nfs_leases.specs.declared.lease_state.LeaseState.TheVariants as lease_state
 use Rattle.nfs_leases.specs.declared.renewal.Renewal.{Renewal}
@@ -54,21 +55,15 @@ is_open_after (Close c seen now answer) client before = before && not (is_done a
 is_open_after (Open c moment) client before = before || (client == c)
 is_open_after (Retire c) client before = before && not (client == c)
 
--- whether a client's lease was opened by the end of a call, where it was (or wasn't) before
+-- Whether a client's lease, or that of a later generation of its slot, was opened by the end of a call, where it was (or
+-- wasn't) before.
 abbrev pub was_opened_after : BookEvent → ℕ → Bool → Bool
 was_opened_after (Look c shown) client before = before
 was_opened_after (Renew c moment answer) client before = before
 was_opened_after (Close c seen now answer) client before = before
-was_opened_after (Open c moment) client before = before || (client == c)
+was_opened_after (Open c moment) client before =
+    before || (client == c) || is_earlier client c
 was_opened_after (Retire c) client before = before
-
--- the least number above this one whose lease is open, or that none is
-abbrev pub IsNextOpen : ℕ → (ℕ → Bool) → Option ℕ → Type 0
-IsNextOpen after is_open None = (client : ℕ) → IsTrue (is_open client) → client ≤ after
-IsNextOpen after is_open (Some next) =
-    IsTrue (is_open next)
-    × (after < next)
-    × ((client : ℕ) → IsTrue (is_open client) → after < client → next ≤ client)
 
 -- The calls lead, one after another, from the old book to the new one. `happens` says of one call whether it leads from
 -- a book to a book.

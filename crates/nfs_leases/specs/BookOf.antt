@@ -4,6 +4,7 @@ use Rattle.nfs_core.specs.Server.{Server}
 use Rattle.nfs_core.specs.declared.entered.Entered.{Entered}
 use Rattle.nfs_owners.specs.LiveClients.{can_become_live}
 use Rattle.nfs_owners.specs.Registry.{IsClientNumber, is_live}
+use Rattle.nfs_owners.specs.Slots.{slot_of}
 use Rattle.nfs_owners.specs.declared.live_change.LiveChange.{LiveChange}
 use Rattle.nfs_owners.specs.declared.live_change.LiveChange.TheVariants as changes
 use Rattle.nfs_leases.specs.BookEvent.{BookEvent, Open, Retire}
@@ -13,7 +14,8 @@ pub record IsBookOf (is_open was_opened : ℕ → Bool) (lease : ℕ) (server : 
   pub lasts : lease ≡ server.journal.lease
   -- the leases that are open are those of the live clients
   pub live : (client : ℕ) → is_open client ≡ is_live client server.stored.clients
-  -- no client whose lease was opened can become live, so that no lease has to be opened twice
+  -- no client can become live whose lease, or that of a later generation of its slot, was opened; so no lease has to be
+  -- opened twice
   pub past : (client : ℕ) → IsTrue (was_opened client)
       → IsFalse (can_become_live client server.stored.clients)
 
@@ -30,16 +32,19 @@ abbrev pub events_entered : Option Entered → ℕ → List BookEvent
 events_entered None moment = []
 events_entered (Some entered) moment = events_of_change entered.live moment
 
--- the lease of the client can be opened, as it never was; it can be retired, as it was opened
-abbrev pub CanOpen : (ℕ → Bool) → ℕ → Type 0
-CanOpen was_opened client = IsClientNumber client × IsFalse (was_opened client)
+-- no lease of the client's slot is open
+abbrev pub IsAloneIn : (ℕ → Bool) → ℕ → Type 0
+IsAloneIn is_open client = (other : ℕ) → slot_of other ≡ slot_of client → IsFalse (is_open other)
 
-abbrev pub CanRetire : (ℕ → Bool) → ℕ → Type 0
-CanRetire was_opened client = IsClientNumber client × IsTrue (was_opened client)
+-- The lease of the client can be opened, as neither it nor a later one of its slot was, and none of its slot is open.
+abbrev pub CanOpen : (is_open was_opened : ℕ → Bool) → ℕ → Type 0
+CanOpen is_open was_opened client =
+    IsClientNumber client × IsFalse (was_opened client) × IsAloneIn is_open client
 
--- the book can be asked what a change wants
-abbrev pub CanFollow : (ℕ → Bool) → LiveChange → Type 0
-CanFollow was_opened changes.Same = ⊤
-CanFollow was_opened (changes.Comes comes) = CanOpen was_opened comes
-CanFollow was_opened (changes.Replaces comes goes) = CanOpen was_opened comes × CanRetire was_opened goes
-CanFollow was_opened (changes.Goes goes) = CanRetire was_opened goes
+-- the book can be asked what a change wants: a lease that is retired was opened
+abbrev pub CanFollow : (is_open was_opened : ℕ → Bool) → LiveChange → Type 0
+CanFollow is_open was_opened changes.Same = ⊤
+CanFollow is_open was_opened (changes.Comes comes) = CanOpen is_open was_opened comes
+CanFollow is_open was_opened (changes.Replaces comes goes) =
+    CanOpen is_open was_opened comes × IsTrue (was_opened goes)
+CanFollow is_open was_opened (changes.Goes goes) = IsTrue (was_opened goes)
