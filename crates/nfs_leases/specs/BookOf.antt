@@ -3,7 +3,7 @@ use Rattle.std.specs.Prelude.{◌≡◌, ℕ, ⊤, Bool, IsFalse, IsTrue, List, 
 use Rattle.nfs_core.specs.Server.{Server}
 use Rattle.nfs_core.specs.declared.entered.Entered.{Entered}
 use Rattle.nfs_owners.specs.LiveClients.{can_become_live}
-use Rattle.nfs_owners.specs.Registry.{IsClientNumber, is_live}
+use Rattle.nfs_owners.specs.Registry.{is_live}
 use Rattle.nfs_owners.specs.Slots.{slot_of}
 use Rattle.nfs_owners.specs.declared.live_change.LiveChange.{LiveChange}
 use Rattle.nfs_owners.specs.declared.live_change.LiveChange.TheVariants as changes
@@ -38,8 +38,7 @@ IsAloneIn is_open client = (other : ℕ) → slot_of other ≡ slot_of client �
 
 -- The lease of the client can be opened, as neither it nor a later one of its slot was, and none of its slot is open.
 abbrev pub CanOpen : (is_open was_opened : ℕ → Bool) → ℕ → Type 0
-CanOpen is_open was_opened client =
-    IsClientNumber client × IsFalse (was_opened client) × IsAloneIn is_open client
+CanOpen is_open was_opened client = IsFalse (was_opened client) × IsAloneIn is_open client
 
 -- the book can be asked what a change wants: a lease that is retired was opened
 abbrev pub CanFollow : (is_open was_opened : ℕ → Bool) → LiveChange → Type 0
