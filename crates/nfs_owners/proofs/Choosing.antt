@@ -1,6 +1,6 @@
 -- The choice of a newcomer's number: a next number of a slot in which no client is live.
 use Rattle.std.proofs.Common.{◌≡◌, ◌⊎◌, ℕ, zero, suc, ◌+◌, ◌-◌, ◌*◌, ◌<◌, ◌≤◌, Bool, true, false, not, cond, nat_lt, ◌==◌, ◌&&◌, ◌||◌, List, [], ◌∷◌, filter, find, length, Option, Some, None, option_map, inl, inr, refl, sym, ap, ◌∙◌, subst, arith, true≢false}
-use Rattle.std.specs.Prelude.{MatchOption, slice_index_or}
+use Rattle.std.specs.Prelude.{MatchOption, if◌then◌else◌, slice_index_or}
 use Rattle.std.specs.List.{AllByRecursion, list_any, range_with_len}
 use Rattle.std.proofs.lemmas.Bool.{and_from, and_parts, cases_Bool, cases_eq, eqb-true, false_from_ne_true, lt-ltb, not-true, not_from_false, or_left, or_parts}
 use Rattle.nfs_rows.proofs.Each.{find_none}
@@ -159,6 +159,13 @@ slot_can id registry slot are is = by (free_slot (without_replaced id registry))
     by None free (Some r) found =
         subst (λ s. CanBeGiven s registry) (same_slot (slot_of r.state.client.number) slot (sym (slot_oldest id registry (Some r) free found) ∙ is)) (oldest_can id registry r are found)
     by None free None found = absurd (cc (slot_oldest id registry None free found, is))
+
+-- A newcomer for whom there is a number is refused where the address is too long, and nowhere else.
+pub refused_by_address : {A : Type 0} (within : Bool) (f : ℕ → A) (chosen : Option ℕ) (number : ℕ) → Some number ≡ chosen
+    → (((if within then option_map f chosen else None) ≡ None) → within ≡ false) × (within ≡ false → (if within then option_map f chosen else None) ≡ None)
+refused_by_address within f None number is = absurd (cc)
+refused_by_address true f (Some n) number is = (λ none. absurd (cc), λ no. absurd (true≢false no))
+refused_by_address false f (Some n) number is = (λ none. refl, λ no. refl)
 
 -- No number is left where a client is live in each slot, as long as none has used up its generations.
 
