@@ -111,8 +111,7 @@ slot_is slot registry below = omega (arith, below)
 pub is_next : (slot : ℕ) (registry : Registry) → CanBeGiven slot registry → IsNextNumber (next_number registry slot) registry × (has_left registry (slot_of (next_number registry slot)) ≡ true)
 is_next slot registry can =
     let same = slot_is slot registry can.below in
-    let generation : generation_of (next_number registry slot) ≡ given_of registry slot = omega (arith, can.below) in
-    (
+    let generation : generation_of (next_number registry slot) ≡ given_of registry slot = omega (arith, can.below) in (
       record {
         is_number = subst (λ s. 0 < s) (sym same) can.above;
         next = generation ∙ ap (given_of registry) (sym same);

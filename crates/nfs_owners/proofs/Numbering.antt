@@ -123,8 +123,7 @@ module _ (slot : ℕ) (old : Registry) (are : AreRecords old) (below : slot < SL
   keeps_own : (s : ClientRecord) → HasOther s → HasOwnNumber (with_one_more slot old) s
   keeps_own s h =
       let number = s.state.client.number in
-      let last = last_own old s h.0 in
-      (
+      let last = last_own old s h.0 in (
         last_from number (with_one_more slot old) (record {
           slot = last.slot;
           count = last.count ∙ sym (given_other slot (slot_of number) old are below (eqb-false (slot_of number) slot h.1));
