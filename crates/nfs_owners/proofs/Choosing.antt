@@ -1,11 +1,11 @@
 -- The choice of a newcomer's number: a next number of a slot in which no client is live.
-use Rattle.std.proofs.Common.{◌≡◌, ◌⊎◌, ℕ, zero, suc, ◌+◌, ◌-◌, ◌*◌, ◌<◌, ◌≤◌, Bool, true, false, not, cond, nat_lt, ◌==◌, ◌&&◌, ◌||◌, List, [], ◌∷◌, filter, find, length, Option, Some, None, option_map, inl, inr, refl, sym, ap, ◌∙◌, subst, arith, true≢false}
-use Rattle.std.specs.Prelude.{MatchOption, if◌then◌else◌, slice_index_or}
+use Rattle.std.proofs.Common.{◌≡◌, ℕ, zero, suc, ◌+◌, ◌-◌, ◌<◌, ◌≤◌, Bool, true, false, not, cond, ◌&&◌, ◌||◌, List, find, Option, Some, None, option_map, inl, inr, refl, sym, ap, ◌∙◌, subst, arith, true≢false}
+use Rattle.std.specs.Prelude.{MatchOption, if◌then◌else◌}
 use Rattle.std.specs.List.{AllByRecursion, list_any, range_with_len}
-use Rattle.std.proofs.lemmas.Bool.{and_from, and_parts, cases_Bool, cases_eq, eqb-true, false_from_ne_true, lt-ltb, not-true, not_from_false, or_left, or_parts}
+use Rattle.std.proofs.lemmas.Bool.{and_from, and_parts, cases_eq, eqb-true, lt-ltb, not-true, not_from_false, or_left, or_parts}
 use Rattle.nfs_rows.proofs.Each.{find_none}
 use Rattle.nfs_owners.specs.Choice.{IsNextNumber, MarksSlots, can_be_given, choice, chosen_slot, client_slots, first_or, free_slot, has_left, has_slot, is_free, is_in_use, is_live_slot, may_give_way, next_number, slot_given_up, without_replaced}
-use Rattle.nfs_owners.specs.Registry.{AreRecords, HasOwnNumber, Registry, given_of, is_live, is_of, is_of_client, without_id}
+use Rattle.nfs_owners.specs.Registry.{AreRecords, HasOwnNumber, Registry, given_of, is_live, is_of, without_id}
 use Rattle.nfs_owners.specs.SlotLaws.{AreAllLive}
 use Rattle.nfs_owners.specs.Slots.{generation_of, slot_of}
 use Rattle.nfs_owners.specs.declared.client_record.ClientRecord.{ClientRecord}

@@ -10,7 +10,7 @@ use Rattle.nfs_forms.specs.ClientId.{is_same_client}
 use Rattle.nfs_forms.specs.declared.client_id.ClientId.{ClientId}
 use Rattle.nfs_operations.specs.declared.setclientid_confirm.SetclientidConfirm.{SetclientidConfirm}
 use Rattle.nfs_rows.proofs.Each.{all_weaken, find_none}
-use Rattle.nfs_owners.specs.LiveClients.{IsNextAmong, IsNextUnknown, has_unknown_path, is_unknown, is_unknown_of}
+use Rattle.nfs_owners.specs.LiveClients.{IsNextAmong, IsNextUnknown, has_unknown_path, is_unknown}
 use Rattle.nfs_owners.specs.Records.{have_same_client}
 use Rattle.nfs_owners.specs.Registry.{Registry, is_named_by, is_of_client, record_state}
 use Rattle.nfs_owners.specs.declared.client_record.ClientRecord.{ClientRecord}
@@ -73,7 +73,11 @@ of_name args records found distinct is =
     (λ r same. (and_parts (r.state.client.epoch == args.client.epoch) (r.state.client.number == args.client.number) (and_parts (is_same_client r.state.client args.client) (r.state.confirm == args.confirm) same).0).1)
     records distinct)
 
-pub of_unknown : (number : ℕ) (records : List ClientRecord) (found : Option ClientRecord) → IsDistinct have_same_client records → found ≡ find (is_of_client number) records
+-- the record is of the client with this number, and nothing is known of the client's path
+abbrev is_unknown_of : ℕ → ClientRecord → Bool
+is_unknown_of number r = is_of_client number r && has_unknown_path r
+
+of_unknown : (number : ℕ) (records : List ClientRecord) (found : Option ClientRecord) → IsDistinct have_same_client records → found ≡ find (is_of_client number) records
     → option_and_then (λ r. cond (is_unknown_of number r) (Some r) None) found ≡ find (is_unknown_of number) records
 of_unknown number records found distinct is =
     ap (option_and_then (λ r. cond (is_unknown_of number r) (Some r) None)) is

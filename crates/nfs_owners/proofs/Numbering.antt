@@ -1,10 +1,10 @@
 -- The numbers of a slot: its last one, and the next.
-use Rattle.std.proofs.Common.{◌≡◌, ℕ, zero, suc, ◌+◌, ◌*◌, ◌<◌, ◌≤◌, Bool, true, false, not, cond, nat_lt, ◌==◌, ◌&&◌, List, [], ◌∷◌, ◌++◌, filter, length, slice_index, slice_set, inl, inr, refl, sym, ap, ◌∙◌, subst, arith}
+use Rattle.std.proofs.Common.{◌≡◌, ℕ, zero, suc, ◌+◌, ◌<◌, ◌≤◌, Bool, true, false, not, cond, nat_lt, ◌==◌, List, [], ◌∷◌, filter, length, slice_index, slice_set, refl, sym, ap, ◌∙◌, subst, arith}
 use Rattle.std.specs.List.{AllByRecursion, list_any}
-use Rattle.std.proofs.lemmas.Bool.{and_from, and_parts, cases_lt, eq-eqb, eqb-false, eqb-true, false_from_ne_true, lt-ltb, ltb-true, ne_eqb, not-true}
+use Rattle.std.proofs.lemmas.Bool.{and_from, and_parts, eq-eqb, eqb-false, eqb-true, lt-ltb, ltb-true, ne_eqb}
 use Rattle.std.proofs.lemmas.Grind.{common_steps}
 use Rattle.nfs_rows.proofs.Each.{all_at, drop_none}
-use Rattle.nfs_owners.specs.Choice.{IsNextNumber, has_left, has_slot, is_live_slot, next_number, without_unconfirmed_of}
+use Rattle.nfs_owners.specs.Choice.{IsNextNumber, has_slot, is_live_slot, without_unconfirmed_of}
 use Rattle.nfs_owners.specs.ClientChange.{with_newcomer}
 use Rattle.nfs_owners.specs.Registry.{AreRecords, HasOwnNumber, HaveValues, Registry, given_of, is_last_given, is_live, is_of_client, takes_number, without_number}
 use Rattle.nfs_owners.specs.Slots.{generation_of, slot_of}

@@ -1,10 +1,10 @@
 -- Marks of slots, while records are looked at: those of the records that were, beside those that come.
-use Rattle.std.proofs.Common.{◌≡◌, ℕ, zero, suc, ◌+◌, ◌<◌, Bool, true, false, not, cond, ◌==◌, ◌||◌, List, [], ◌∷◌, filter, length, replicate, slice_set, refl, sym, ap, ◌∙◌, subst, arith}
+use Rattle.std.proofs.Common.{◌≡◌, ℕ, ◌<◌, Bool, true, false, not, cond, ◌==◌, ◌||◌, List, ◌∷◌, length, replicate, slice_set, refl, sym, ap, ◌∙◌, subst, arith}
 use Rattle.std.specs.Prelude.{slice_index_or}
 use Rattle.std.specs.List.{list_any}
 use Rattle.std.proofs.lemmas.Grind.{common_steps}
-use Rattle.nfs_owners.specs.Choice.{MarksSlots, has_slot, is_in_use, is_live_slot, without_replaced}
-use Rattle.nfs_owners.specs.Registry.{Registry, is_of, without_id}
+use Rattle.nfs_owners.specs.Choice.{MarksSlots, has_slot}
+use Rattle.nfs_owners.specs.Registry.{is_of, without_id}
 use Rattle.nfs_owners.specs.Slots.{slot_of}
 use Rattle.nfs_owners.specs.declared.client_record.ClientRecord.{ClientRecord}
 use Rattle.nfs_owners.specs.declared.slots.TheConstants.{SLOTS}

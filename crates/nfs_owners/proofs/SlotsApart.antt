@@ -1,11 +1,9 @@
 -- The laws of slots.
-use Rattle.std.proofs.Common.{◌≡◌, ℕ, ◌+◌, ◌<◌, ◌≤◌, Bool, true, false, nat_lt, ◌==◌, ◌&&◌, List, None, inl, inr, refl, sym, ap, ◌∙◌, subst, arith}
+use Rattle.std.proofs.Common.{◌≡◌, ℕ, ◌<◌, ◌≤◌, true, false, nat_lt, ◌==◌, List, inl, inr, sym, ap, subst, arith}
 use Rattle.std.specs.List.{AllByRecursion, list_any}
 use Rattle.std.proofs.lemmas.Bool.{and_from, and_parts, and_right, cases_eq, eqb-true, false_from_ne_true, le-ltb, lt-ltb, ltb-true}
-use Rattle.nfs_owners.specs.Choice.{IsNextNumber}
-use Rattle.nfs_owners.specs.ClientChange.{with_newcomer}
-use Rattle.nfs_owners.specs.Registry.{AreRecords, HasOwnNumber, Registry, given_of, is_live, is_of_client, was_given}
-use Rattle.nfs_owners.specs.SlotLaws.{EarlierAreGone, IsGivenOnce, LiveSlotsDiffer, NoneIsLeft, NumbersComeOnce, SlotsAreApart}
+use Rattle.nfs_owners.specs.Registry.{AreRecords, HasOwnNumber, Registry, given_of, is_of_client, was_given}
+use Rattle.nfs_owners.specs.SlotLaws.{EarlierAreGone, LiveSlotsDiffer, NoneIsLeft, NumbersComeOnce, SlotsAreApart}
 use Rattle.nfs_owners.specs.Slots.{generation_of, is_earlier, slot_of}
 use Rattle.nfs_owners.specs.declared.client_record.ClientRecord.{ClientRecord}
 use Rattle.nfs_owners.specs.declared.slots.TheConstants.{SLOTS}

@@ -33,11 +33,12 @@ pub record IsNextNumber (number : ℕ) (registry : Registry) : Type 0 where
   pub next : generation_of number ≡ given_of registry (slot_of number)
   pub vacant : IsFalse (is_live_slot registry (slot_of number))
 
--- the slot can be given, as no record has it
+-- no record has the slot, and it has a number left
 abbrev pub is_free : Registry → ℕ → Bool
 is_free registry slot = not (is_in_use registry slot) && has_left registry slot
 
--- The unconfirmed record may give way to a newcomer, who gets its slot: its number isn't a live client's.
+-- The unconfirmed record may give way to a newcomer, who gets its slot: its number isn't a live client's, and the slot
+-- has a number left.
 abbrev pub may_give_way : Registry → ClientRecord → Bool
 may_give_way registry r =
     not (is_live r.state.client.number registry)

@@ -45,7 +45,7 @@ impl ClientRecord {
     ghost use Rattle.std.specs.Prelude.{◌≡◌, ◌<◌};
     ghost use Rattle.nfs_owners.specs.LiveClients.{has_unknown_path};
     ghost use Rattle.nfs_owners.specs.Registry.{client_seen, is_named_by, is_of, is_of_client};
-    ghost use Rattle.nfs_owners.specs.Slots as numbers;
+    ghost use Rattle.nfs_owners.specs.Slots.{slot_of};
     ghost use Rattle.nfs_owners.specs.declared.slots.TheConstants.{SLOTS};
 
     /// Whether the record has this id.
@@ -64,7 +64,7 @@ impl ClientRecord {
 
     /// The slot of the client's number.
     pub(crate) fn slot(&self) -> u32
-        ensures slot { result ≡ numbers.slot_of self.now.state.client.number }
+        ensures slot { result ≡ slot_of self.now.state.client.number }
         ensures range { result < SLOTS }
     {
         slot_of(self.state.client.number)

@@ -19,8 +19,8 @@ use std::alloc::{AllocError, Global};
 use std::hash::RandomState;
 use std::marker::Model;
 
-/// The clients' confirmed and unconfirmed records, each in the order in which they were added, and what was given out of
-/// numbers. An id has at most one record of each kind, and a client number is that of one id. SETCLIENTID and
+/// The clients' confirmed and unconfirmed records, each in the order in which they were added, and the numbers that were
+/// given out. An id has at most one record of each kind, and a client number is that of one id. SETCLIENTID and
 /// SETCLIENTID_CONFIRM are decided first (`set`, `confirm`); after `make_room` the change takes no memory.
 #[derive(Drop)]
 pub struct Clients {
@@ -63,7 +63,7 @@ impl Clients {
     ghost use Rattle.nfs_owners.specs.ClientRoom.{FitsRecords, HasNumbersFor, HasRoomFor};
     ghost use Rattle.nfs_owners.specs.LiveClients.{IsNextLive, replaced_by, unconfirmed_of_client};
     ghost use Rattle.nfs_owners.specs.Registry.{AreRecords, client_seen, confirmed_named_by, confirmed_of, is_live, no_clients, record_of, record_state, unconfirmed_named_by, was_given, without_client};
-    ghost use Rattle.nfs_owners.specs.Slots as numbers;
+    ghost use Rattle.nfs_owners.specs.Slots.{slot_of};
 
     /// A registry without clients, taking no memory.
     pub fn new(alloc: Global, ids: RandomState) -> Clients
@@ -79,7 +79,7 @@ impl Clients {
     }
 
     /// The law of the records: an id has at most one confirmed and one unconfirmed record, and a client number is that of
-    /// one id.
+    /// one id, and the last that was given of its slot.
     pub fn records_are_apart(&self)
         ensures { AreRecords self.now.registry }
     {
@@ -208,11 +208,11 @@ impl Clients {
         }
     }
 
-    // Adds the record of a newcomer, whose number is then given. The unconfirmed record of its slot goes.
+    // Adds the record of a newcomer, whose number is then given. An unconfirmed record of its slot gives way.
     fn add_newcomer(&mut self, newcomer: ClientRecord)
         requires room { 0 < self.old.unconfirmed_room }
-        requires left { IsTrue
-            (has_left self.old.registry (numbers.slot_of newcomer.state.client.number)) }
+        requires left { IsTrue (has_left self.old.registry
+            (slot_of newcomer.state.client.number)) }
         requires confirm { self.old.registry.last_confirm < 2 ^ 64 - 1 }
         requires next { IsNextNumber newcomer.state.client.number self.old.registry }
         ensures { self.new.registry ≡ with_newcomer newcomer self.old.registry }
@@ -224,11 +224,11 @@ impl Clients {
         self.unconfirmed.put(newcomer);
     }
 
-    // Removes the unconfirmed record of the slot whose next number this is. It has the slot's last number.
+    // Removes the unconfirmed record of the slot whose next number this is, if there is one. It has the slot's last number.
     fn vacate(&mut self, next: u32)
         requires { IsNextNumber next self.old.registry }
         ensures registry { self.new.registry
-            ≡ without_unconfirmed_of (numbers.slot_of next) self.old.registry }
+            ≡ without_unconfirmed_of (slot_of next) self.old.registry }
         ensures room { self.new.unconfirmed_room ≡ self.old.unconfirmed_room }
     {
         if let Some(last) = next.checked_sub(SLOTS) {

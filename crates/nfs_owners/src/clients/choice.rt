@@ -4,7 +4,7 @@ ghost use Rattle.std.specs.Prelude.{◌≡◌, ◌<◌, IfSome, IsTrue, find};
 ghost use Rattle.std.specs.Option.{option_copied};
 ghost use Rattle.nfs_owners.specs.Choice.{IsNextNumber, MarksSlots, can_be_given, choice, chosen_slot, client_slots, has_left, is_in_use, is_live_slot, may_give_way, next_number, without_replaced};
 ghost use Rattle.nfs_owners.specs.Registry.{without_id};
-ghost use Rattle.nfs_owners.specs.Slots as numbers;
+ghost use Rattle.nfs_owners.specs.Slots.{slot_of};
 
 use super::Clients;
 use crate::ClientRecord;
@@ -21,7 +21,7 @@ impl Clients {
         ensures number { result ≡ choice id.now self.now.registry }
         ensures next { IfSome result (λ number. IsNextNumber number self.now.registry) }
         ensures left { IfSome result (λ number.
-            IsTrue (has_left self.now.registry (numbers.slot_of number))) }
+            IsTrue (has_left self.now.registry (slot_of number))) }
     {
         // A law, for the proof alone: each record has the last number of its slot.
         self.records_are_apart();

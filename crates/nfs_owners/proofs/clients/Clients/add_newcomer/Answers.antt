@@ -1,4 +1,4 @@
-use Rattle.std.proofs.Common.{◌≡◌, ◌∙◌, ◌+◌, ℕ, false, ap, slice_index, slice_set, subst, sym}
+use Rattle.std.proofs.Common.{◌≡◌, ◌∙◌, ◌+◌, false, ap, slice_index, slice_set, subst, sym}
 use Rattle.std.specs.List.{list_any}
 use Rattle.nfs_owners.specs.ClientChange.{with_newcomer, with_unconfirmed}
 use Rattle.nfs_owners.specs.ClientRoom.{RoomyClients}

@@ -1,9 +1,7 @@
-use Rattle.std.proofs.Common.{◌≡◌, ◌∙◌, List, Some, ap, filter, find, option_copied, rules, subst, sym}
-use Rattle.std.specs.List.{IsDistinct}
+use Rattle.std.proofs.Common.{◌∙◌, ap, option_copied, rules, subst, sym}
 use Rattle.nfs_owners.specs.ClientRoom.{RoomyClients}
-use Rattle.nfs_owners.specs.LiveClients.{IsNextAmong, IsNextUnknown, has_unknown_path}
-use Rattle.nfs_owners.specs.Records.{have_same_client}
-use Rattle.nfs_owners.specs.Registry.{Registry, is_of_client, record_state}
+use Rattle.nfs_owners.specs.LiveClients.{IsNextUnknown, has_unknown_path}
+use Rattle.nfs_owners.specs.Registry.{Registry, record_state}
 use Rattle.nfs_owners.proofs.LiveNumbers.{unknown_is_next}
 use Rattle.nfs_owners.proofs.clients.Clients.next_unknown.Goals as goal
 

@@ -1,4 +1,4 @@
-use Rattle.std.proofs.Common.{◌≡◌, ◌∙◌, ◌&&◌, ℕ, List, false, true, ap, find, map, not, subst, sym}
+use Rattle.std.proofs.Common.{◌≡◌, ◌∙◌, ℕ, List, false, true, ap, find, map, not, subst, sym}
 use Rattle.std.proofs.lemmas.Bool.{and_from, and_left, and_right}
 use Rattle.nfs_owners.specs.Choice.{can_be_given}
 use Rattle.nfs_owners.specs.ClientRoom.{RoomyClients}

@@ -1,6 +1,5 @@
-use Rattle.std.proofs.Common.{◌≡◌, ◌∙◌, None, Some, ap, option_copied, option_map, sym}
+use Rattle.std.proofs.Common.{◌≡◌, ◌∙◌, None, Some, ap, sym}
 use Rattle.nfs_owners.specs.Choice.{free_slot, without_replaced}
-use Rattle.nfs_owners.specs.Slots.{slot_of}
 use Rattle.nfs_owners.proofs.Choosing.{found_free, slot_free, slot_oldest}
 use Rattle.nfs_owners.proofs.clients.Clients.slot_for.Goals as goal
 

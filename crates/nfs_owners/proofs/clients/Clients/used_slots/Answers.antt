@@ -3,7 +3,7 @@ use Rattle.nfs_owners.specs.Choice.{is_in_use, is_live_slot, without_replaced}
 use Rattle.nfs_owners.specs.ClientRoom.{RoomyClients}
 use Rattle.nfs_owners.specs.Registry.{without_id}
 use Rattle.nfs_owners.specs.declared.client_record.ClientRecord.{ClientRecord}
-use Rattle.nfs_owners.proofs.SlotMarks.{MarksWith, marks_all, marks_next, other_next, own_next, slots_of}
+use Rattle.nfs_owners.proofs.SlotMarks.{MarksWith, marks_all, own_next, slots_of}
 use Rattle.nfs_owners.proofs.clients.Clients.used_slots.Goals as goal
 
 abbrev others : List ℕ → List (ℕ × ClientRecord) → List ClientRecord

@@ -1,5 +1,4 @@
-use Rattle.std.proofs.Common.{◌≡◌, ◌∙◌, ℕ, List, ap, map, subst, sym}
-use Rattle.nfs_owners.specs.declared.client_record.ClientRecord.{ClientRecord}
+use Rattle.std.proofs.Common.{◌∙◌, ap, map, subst, sym}
 use Rattle.nfs_owners.proofs.LiveNumbers.{Walked, walked_all, walked_none, walked_on, walked_past}
 use Rattle.nfs_owners.proofs.clients.records.Records.next_client.Goals as goal
 
