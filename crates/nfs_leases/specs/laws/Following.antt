@@ -97,7 +97,7 @@ module _ (f : LeaseState → Bool) (book : PlainBook) (client : ℕ) (state : Le
       → (place_of book client).generation ≤ generation_of client
       → f (lease_in (cond b (record { generation = generation_of client; lease = state }) (place_of book q)) (generation_of q))
       ≡ cond (b && (generation_of q == generation_of client)) (f state)
-        (cond (b && nat_lt (generation_of q) (generation_of client)) (f lease_state.Closed) (f (lease_of book q)))
+      (cond (b && nat_lt (generation_of q) (generation_of client)) (f lease_state.Closed) (f (lease_of book q)))
   by_slot q true is last =
       shown_after f (place_of book client) (generation_of client) state (generation_of q) last
       ∙ ap
