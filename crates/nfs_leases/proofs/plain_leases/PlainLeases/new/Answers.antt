@@ -1,5 +1,5 @@
 -- Each place is a copy of the empty one.
-use Rattle.std.proofs.Common.{◌≡◌, ◌∙◌, ℕ, zero, suc, List, replicate, slice_index_or, false, ap, arith, refl}
+use Rattle.std.proofs.Common.{◌≡◌, ◌∙◌, ℕ, zero, suc, List, replicate, slice_index_or, ap, arith, refl}
 use Rattle.std.proofs.lemmas.Bool.Decides.{nat_tests}
 use Rattle.nfs_leases.specs.BookEvent.{shows_open, shows_opened}
 use Rattle.nfs_leases.specs.PlainBook.{PlainBook, empty_place, is_open_in, lease_in, lease_of, was_opened_in}
