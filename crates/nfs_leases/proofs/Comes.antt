@@ -1,5 +1,6 @@
 -- A sweep that has come to a client's number.
 use Rattle.std.proofs.Common.{◌≡◌, ℕ, zero, suc, ◌-◌, ◌^◌, ◌<◌, ◌≤◌, Bool, true, false, not, ◌==◌, ◌&&◌, nat_le, List, [], ◌∷◌, ◌++◌, Option, Some, None, refl, sym, ap, subst, ◌∙◌, arith}
+use Rattle.std.proofs.lemmas.Bool.Decides.{nat_tests}
 use Rattle.std.proofs.lemmas.Grind.{common_steps}
 use Rattle.std.specs.Prelude.{IsFalse, IsTrue}
 use Rattle.std.specs.List.{list_any}
@@ -86,7 +87,7 @@ pub record Comes {Book : Type 0} (happens : Book → BookEvent → Book → Type
 none_first : (live : Bool) (client : ℕ) → (IsTrue live → IsClientNumber client) → (live && nat_le client 0) ≡ false
 none_first false client numbered = refl
 none_first true zero numbered = absurd (omega (arith, numbered refl))
-none_first true (suc client) numbered = refl
+none_first true (suc client) numbered = grind (arith, nat_tests)
 
 pub comes_first : {Book : Type 0} (happens : Book → BookEvent → Book → Type 0) (now : ℕ) (server : Server) (book : Book)
     (next : Option ℕ) → AreNumbered server.stored.clients → IsNextLive 0 server.stored.clients next
