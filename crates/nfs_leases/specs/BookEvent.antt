@@ -1,7 +1,7 @@
 -- The calls on a book of leases, and what each answer says of a lease. RFC 7530, section 9.5, has a client's lease
 -- renewed by what the client sends, and lets the server forget a client whose lease is over.
-use Rattle.std.specs.Prelude.{◌≡◌, ℕ, Bool, true, false, not, ◌&&◌, ◌||◌, ◌==◌, List, [], ◌∷◌}
-use Rattle.nfs_owners.specs.Slots.{is_earlier}
+use Rattle.std.specs.Prelude.{◌≡◌, ℕ, Bool, IsFalse, true, false, not, ◌&&◌, ◌||◌, ◌==◌, List, [], ◌∷◌}
+use Rattle.nfs_owners.specs.Slots.{is_earlier, slot_of}
 use Rattle.nfs_leases.specs.declared.lease_state.LeaseState.{LeaseState}
 use Rattle.nfs_leases.specs.declared.lease_state.LeaseState.TheVariants as lease_state
 use Rattle.nfs_leases.specs.declared.renewal.Renewal.{Renewal}
@@ -64,6 +64,10 @@ was_opened_after (Close c seen now answer) client before = before
 was_opened_after (Open c moment) client before =
     before || (client == c) || is_earlier client c
 was_opened_after (Retire c) client before = before
+
+-- no lease of the client's slot is open, by this test of which are
+abbrev pub IsAloneIn : (ℕ → Bool) → ℕ → Type 0
+IsAloneIn is_open client = (other : ℕ) → slot_of other ≡ slot_of client → IsFalse (is_open other)
 
 -- The calls lead, one after another, from the old book to the new one. `happens` says of one call whether it leads from
 -- a book to a book.

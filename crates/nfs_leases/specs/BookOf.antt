@@ -4,10 +4,9 @@ use Rattle.nfs_core.specs.Server.{Server}
 use Rattle.nfs_core.specs.declared.entered.Entered.{Entered}
 use Rattle.nfs_owners.specs.LiveClients.{can_become_live}
 use Rattle.nfs_owners.specs.Registry.{is_live}
-use Rattle.nfs_owners.specs.Slots.{slot_of}
 use Rattle.nfs_owners.specs.declared.live_change.LiveChange.{LiveChange}
 use Rattle.nfs_owners.specs.declared.live_change.LiveChange.TheVariants as changes
-use Rattle.nfs_leases.specs.BookEvent.{BookEvent, Open, Retire}
+use Rattle.nfs_leases.specs.BookEvent.{BookEvent, IsAloneIn, Open, Retire}
 
 -- A book with these open leases, these that were opened, and this lease in seconds is the book of this core's clients.
 pub record IsBookOf (is_open was_opened : ℕ → Bool) (lease : ℕ) (server : Server) : Type 0 where
@@ -31,10 +30,6 @@ events_of_change (changes.Goes goes) moment = Retire goes ∷ []
 abbrev pub events_entered : Option Entered → ℕ → List BookEvent
 events_entered None moment = []
 events_entered (Some entered) moment = events_of_change entered.live moment
-
--- no lease of the client's slot is open
-abbrev pub IsAloneIn : (ℕ → Bool) → ℕ → Type 0
-IsAloneIn is_open client = (other : ℕ) → slot_of other ≡ slot_of client → IsFalse (is_open other)
 
 -- The lease of the client can be opened, as neither it nor a later one of its slot was, and none of its slot is open.
 abbrev pub CanOpen : (is_open was_opened : ℕ → Bool) → ℕ → Type 0
