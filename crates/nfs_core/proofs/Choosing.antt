@@ -9,7 +9,7 @@ use Rattle.nfs_core.proofs.Slots.{generation_is, same_last, slot_below, slot_is}
 use Rattle.nfs_core.proofs.SoundClients.{EachRecord, HasLastNumber}
 use Rattle.nfs_core.proofs.SoundSequences.{never}
 use Rattle.nfs_core.proofs.SoundSteps.{CanBeGiven}
-use Rattle.nfs_owners.specs.Choice.{choice, first_or, free_slot, has_left, has_slot, is_free, is_in_use, is_live_slot, may_give_way, next_number, slot_given_up, without_replaced}
+use Rattle.nfs_owners.specs.Choice.{choice, client_slots, first_or, free_slot, has_left, has_slot, is_free, is_in_use, is_live_slot, may_give_way, next_number, slot_given_up, without_replaced}
 use Rattle.nfs_owners.specs.Registry.{Registry, given_of, is_live, is_of, is_of_client}
 use Rattle.nfs_owners.specs.Slots.{slot_of}
 use Rattle.nfs_owners.specs.declared.client_record.ClientRecord.{ClientRecord}
@@ -36,6 +36,7 @@ found_in_range p from (suc count) slot is = elim (cases_Bool (p from)) [
 
 -- a slot that no record has
 free_fit : (registry : Registry) (slot : ℕ) → free_slot registry ≡ Some slot → IsFit registry slot
+unfolding client_slots
 free_fit registry slot is =
     let found = found_in_range (is_free registry) 1 (SLOTS - 1) slot is in
     let both = and_parts (not (is_in_use registry slot)) (has_left registry slot) found.2 in
