@@ -125,6 +125,18 @@ Lawful-tried old new entry (Err error) lawful entered same =
 pub Agrees-same : (journal journal' : History) (stored stored' : Stored) → journal' ≡ journal → stored' ≡ stored → Agrees journal stored.owners → Agrees journal' stored'.owners
 Agrees-same journal journal' stored stored' same_journal same_stored agrees = rw (same_journal, same_stored) agrees
 
+-- a journal has no more entries than the limit allows
+
+Leads-length : (journal : History) (old new : State) (entries : List Entry) → Leads journal old entries new → length journal.entries ≤ JOURNAL_LIMIT → length journal.entries + length entries ≤ JOURNAL_LIMIT
+Leads-length journal old new [] leads within = omega (arith, within)
+Leads-length journal old new (entry ∷ entries) leads within =
+    let more = length-append journal.entries (entry ∷ []) in
+    omega (arith, more, Leads-length (with_entry entry journal) leads.0 new entries leads.2 (omega (arith, more, leads.1.below)))
+
+pub Lawful-length : (journal : History) (state : State) → Lawful journal state → length journal.entries ≤ JOURNAL_LIMIT
+Lawful-length journal state lawful =
+    omega (arith, Leads-length (record journal { entries = [] }) (empty_server journal.nodes) state journal.entries lawful (omega arith))
+
 -- a change uses at most one confirm value
 changed_confirm : (change : Change) (old : State) → (with_state_change change old).clients.last_confirm ≤ old.clients.last_confirm + 1
 changed_confirm changes.Nothing old = omega arith
