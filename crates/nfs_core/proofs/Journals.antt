@@ -2,6 +2,7 @@
 use Rattle.std.proofs.Common.{◌≡◌, Bool, true, false, ℕ, ◌≤◌, Some, None, List, [], ◌∷◌, ◌++◌, length, map, refl, sym, ap, ◌∙◌, ◌+◌, ◌*◌, subst, append_assoc, append-nil, arith, Result, Ok, Err}
 use Rattle.nfs_state.specs.declared.effect.Effect.{Effect}
 use Rattle.std.specs.Prelude.{IfOk, Option, OnErr, is_some}
+use Rattle.std.proofs.lemmas.List.{length-append}
 use Rattle.nfs_state.specs.declared.request.Request.{Request}
 use Rattle.nfs_share.specs.AllOpens.{DelegationAt, opens_of}
 use Rattle.nfs_share.specs.Opens.{open_of}
@@ -25,6 +26,7 @@ use Rattle.nfs_owners.specs.declared.clients.client_change.ClientChange.TheVaria
 use Rattle.nfs_rules.specs.declared.decision.Decision.{Decision}
 use Rattle.nfs_state.specs.declared.entry.Entry.{Entry}
 use Rattle.nfs_state.specs.declared.entry.Entry.TheVariants as entries
+use Rattle.nfs_state.specs.declared.entry.TheConstants.{JOURNAL_LIMIT}
 use Rattle.nfs_core.specs.Lawful.{AtMostOneState, Leads, Lawful}
 use Rattle.nfs_state.specs.State.{State, History, empty_server}
 use Rattle.nfs_core.specs.Step.{Allows, AtMostOneStateAfter, AtMostOneStep, Step}
