@@ -76,6 +76,11 @@ without_unconfirmed_of slot registry = record registry {
   unconfirmed = filter (λ r. not (has_slot slot r)) registry.unconfirmed;
 }
 
+-- the slot has no mark, and a number left
+abbrev pub is_unmarked : List Bool → Registry → ℕ → Bool
+is_unmarked marks registry slot =
+    not (slice_index_or marks slot false) && has_left registry slot
+
 -- for each slot, whether it passes the test
 abbrev pub MarksSlots : (ℕ → Bool) → List Bool → Type 0
 MarksSlots test marks =

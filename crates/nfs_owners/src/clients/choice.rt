@@ -1,15 +1,17 @@
 //! The choice of a newcomer's number.
 
-ghost use Rattle.std.specs.Prelude.{◌≡◌, ◌<◌, ℕ, IfSome, IsTrue, false, length, slice_index_or};
-ghost use Rattle.nfs_owners.specs.Choice.{IsNextNumber, MarksSlots, choice, has_left, is_in_use, is_live_slot, without_replaced};
-ghost use Rattle.nfs_owners.specs.Slots.{slot_of as the_slot};
+ghost use Rattle.std.specs.Prelude.{◌≡◌, ◌-◌, ◌<◌, IfSome, IsTrue, find};
+ghost use Rattle.std.specs.List.{range_with_len};
+ghost use Rattle.std.specs.Option.{option_copied};
+ghost use Rattle.nfs_owners.specs.Choice.{IsNextNumber, MarksSlots, choice, has_left, is_in_use, is_live_slot, is_unmarked, may_give_way, next_number, without_replaced};
+ghost use Rattle.nfs_owners.specs.Registry.{without_id};
+ghost use Rattle.nfs_owners.specs.Slots as numbers;
 
 use super::Clients;
-use super::records::Records;
-use crate::slots::{GENERATIONS, SLOTS, slot_of};
 use crate::ClientRecord;
+use crate::slots::{GENERATIONS, SLOTS};
 
-/// For each slot whether it has what is asked of it.
+/// For each slot, whether it has what is asked of it.
 type SlotMarks = [bool; SLOTS as usize];
 
 impl Clients {
@@ -20,14 +22,15 @@ impl Clients {
         ensures number { result ≡ choice id.now self.now.registry }
         ensures next { IfSome result (λ number. IsNextNumber number self.now.registry) }
         ensures left { IfSome result (λ number.
-            IsTrue (has_left self.now.registry (the_slot number))) }
+            IsTrue (has_left self.now.registry (numbers.slot_of number))) }
     {
         let live = self.live_slots();
-        let slot = match self.free_slot(&self.used_slots(&live, id)) {
+        let used = self.used_slots(&live, id);
+        let slot = match self.free_slot(&used) {
             Some(slot) => slot,
-            None => slot_of(self.oldest_to_go(&live, id)?.state.client.number),
+            None => self.oldest_to_go(&live, id)?.slot(),
         };
-        Some(self.given[slot as usize] * SLOTS + slot)
+        Some(self.next_number(slot))
     }
 
     // In which slots a client is live.
@@ -35,8 +38,8 @@ impl Clients {
         ensures { MarksSlots (is_live_slot self.now.registry) result }
     {
         let mut live = [false; SLOTS as usize];
-        for record in self.confirmed.iter() {
-            live[slot_of(record.state.client.number) as usize] = true;
+        for (_, record) in self.confirmed.iter() {
+            live[record.slot() as usize] = true;
         }
         live
     }
@@ -47,27 +50,51 @@ impl Clients {
         ensures { MarksSlots (is_in_use (without_replaced id.now self.now.registry)) result }
     {
         let mut used = *live;
-        for record in self.unconfirmed.iter() {
+        for (_, record) in self.unconfirmed.iter() {
             if !record.is_of(id) {
-                used[slot_of(record.state.client.number) as usize] = true;
+                used[record.slot() as usize] = true;
             }
         }
         used
     }
 
-    // The least slot that can be given, as no record has it.
-    fn free_slot(&self, used: &SlotMarks) -> Option<u32> {
-        (1..SLOTS).find(|slot| {
-            let place = *slot as usize;
-            !used[place] && self.given[place] < GENERATIONS
-        })
+    // The least slot without a mark that has a number left.
+    fn free_slot(&self, used: &SlotMarks) -> Option<u32>
+        ensures { result ≡ find (is_unmarked used.now self.now.registry)
+            (range_with_len 1 (SLOTS - 1)) }
+    {
+        (1..SLOTS).find(|slot| !used[*slot as usize] && self.has_left(*slot))
     }
 
-    // The oldest unconfirmed record that may give way. The id's own one may not.
-    fn oldest_to_go(&self, live: &SlotMarks, id: &[u8]) -> Option<&ClientRecord> {
-        self.unconfirmed.iter().find(|record| {
-            let place = slot_of(record.state.client.number) as usize;
-            !record.is_of(id) && !live[place] && self.given[place] < GENERATIONS
-        })
+    // The oldest unconfirmed record that may give way, but for the id's own one.
+    fn oldest_to_go(&self, live: &SlotMarks, id: &[u8]) -> Option<&ClientRecord>
+        requires { MarksSlots (is_live_slot self.now.registry) live.now }
+        ensures { option_copied result ≡ find (may_give_way self.now.registry)
+            (without_id id.now self.now.registry.unconfirmed) }
+    {
+        for (_, record) in self.unconfirmed.iter() {
+            let slot = record.slot();
+            if !record.is_of(id) && !live[slot as usize] && self.has_left(slot) {
+                return Some(record);
+            }
+        }
+        None
+    }
+
+    // Whether the slot has a number that wasn't given yet.
+    fn has_left(&self, slot: u32) -> bool
+        requires { slot < SLOTS }
+        ensures { result ≡ has_left self.now.registry slot }
+    {
+        self.given[slot as usize] < GENERATIONS
+    }
+
+    // The first number of the slot that wasn't given yet.
+    fn next_number(&self, slot: u32) -> u32
+        requires slot { slot < SLOTS }
+        requires left { IsTrue (has_left self.now.registry slot) }
+        ensures { result ≡ next_number self.now.registry slot }
+    {
+        self.given[slot as usize] * SLOTS + slot
     }
 }
