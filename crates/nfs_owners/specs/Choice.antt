@@ -43,9 +43,13 @@ may_give_way registry r =
     not (is_live r.state.client.number registry)
     && has_left registry (slot_of r.state.client.number)
 
--- The least slot that is free, if one is.
+-- the slots of which numbers are given
+unfoldable pub client_slots : List ℕ
+client_slots = range_with_len 1 (SLOTS - 1)
+
+-- the least slot that is free, if one is
 abbrev pub free_slot : Registry → Option ℕ
-free_slot registry = find (is_free registry) (range_with_len 1 (SLOTS - 1))
+free_slot registry = find (is_free registry) client_slots
 
 -- the slot of the oldest record that may give way, if one may
 abbrev pub slot_given_up : Registry → Option ℕ

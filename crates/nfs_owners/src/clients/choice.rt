@@ -1,9 +1,8 @@
 //! The choice of a newcomer's number.
 
-ghost use Rattle.std.specs.Prelude.{◌≡◌, ◌-◌, ◌<◌, IfSome, IsTrue, find};
-ghost use Rattle.std.specs.List.{range_with_len};
+ghost use Rattle.std.specs.Prelude.{◌≡◌, ◌<◌, IfSome, IsTrue, find};
 ghost use Rattle.std.specs.Option.{option_copied};
-ghost use Rattle.nfs_owners.specs.Choice.{IsNextNumber, MarksSlots, choice, has_left, is_in_use, is_live_slot, is_unmarked, may_give_way, next_number, without_replaced};
+ghost use Rattle.nfs_owners.specs.Choice.{IsNextNumber, MarksSlots, choice, client_slots, has_left, is_in_use, is_live_slot, is_unmarked, may_give_way, next_number, without_replaced};
 ghost use Rattle.nfs_owners.specs.Registry.{without_id};
 ghost use Rattle.nfs_owners.specs.Slots as numbers;
 
@@ -60,8 +59,7 @@ impl Clients {
 
     // The least slot without a mark that has a number left.
     fn free_slot(&self, used: &SlotMarks) -> Option<u32>
-        ensures { result ≡ find (is_unmarked used.now self.now.registry)
-            (range_with_len 1 (SLOTS - 1)) }
+        ensures { result ≡ find (is_unmarked used.now self.now.registry) client_slots }
     {
         (1..SLOTS).find(|slot| !used[*slot as usize] && self.has_left(*slot))
     }

@@ -1,0 +1,49 @@
+-- Marks of slots, while records are looked at: those of the records that were, beside those that come.
+use Rattle.std.proofs.Common.{◌≡◌, ℕ, zero, suc, ◌+◌, ◌<◌, Bool, true, false, not, cond, ◌==◌, ◌||◌, List, [], ◌∷◌, filter, length, replicate, slice_set, refl, sym, ap, ◌∙◌, arith}
+use Rattle.std.specs.Prelude.{slice_index_or}
+use Rattle.std.specs.List.{list_any}
+use Rattle.std.proofs.lemmas.Grind.{common_steps}
+use Rattle.nfs_owners.specs.Choice.{MarksSlots, has_slot, is_in_use, is_live_slot, without_replaced}
+use Rattle.nfs_owners.specs.Registry.{Registry, is_of, without_id}
+use Rattle.nfs_owners.specs.Slots.{slot_of}
+use Rattle.nfs_owners.specs.declared.client_record.ClientRecord.{ClientRecord}
+use Rattle.nfs_owners.specs.declared.slots.TheConstants.{SLOTS}
+
+-- with the marks of the rest, the slots that pass the test are marked
+abbrev pub MarksWith : (ℕ → Bool) → (ℕ → Bool) → List Bool → Type 0
+MarksWith rest test marks = (length marks ≡ SLOTS) × ((slot : ℕ) → slot < SLOTS → (slice_index_or marks slot false || rest slot) ≡ test slot)
+
+set_at : (marks : List Bool) (place slot : ℕ) → place < length marks → slice_index_or (slice_set marks place true) slot false ≡ (slice_index_or marks slot false || (place == slot))
+set_at marks place slot low = grind (arith, common_steps)
+
+length_set : (marks : List Bool) (place : ℕ) → length (slice_set marks place true) ≡ length marks
+length_set marks place = grind (arith, common_steps)
+
+or_assoc : (a b c : Bool) → ((a || b) || c) ≡ (a || (b || c))
+or_assoc true b c = refl
+or_assoc false b c = refl
+
+or_nothing : (a : Bool) → (a || false) ≡ a
+or_nothing true = refl
+or_nothing false = refl
+
+-- a slot is marked
+pub marks_more : (rest test : ℕ → Bool) (marks : List Bool) (place : ℕ) → place < SLOTS → MarksWith (λ slot. (place == slot) || rest slot) test marks → MarksWith rest test (slice_set marks place true)
+marks_more rest test marks place below so_far = (
+  length_set marks place ∙ so_far.0,
+  λ slot low.
+      ap (λ mark. mark || rest slot) (set_at marks place slot (omega (arith, so_far.0, below)))
+      ∙ or_assoc (slice_index_or marks slot false) (place == slot) (rest slot)
+      ∙ so_far.1 slot low,
+)
+
+-- at the end no more come
+pub marks_all : (test : ℕ → Bool) (marks : List Bool) → MarksWith (λ slot. false) test marks → MarksSlots test marks
+marks_all test marks so_far = (so_far.0, λ slot low. sym (or_nothing (slice_index_or marks slot false)) ∙ so_far.1 slot low)
+
+none_marked : (n slot : ℕ) → slice_index_or (replicate n false) slot false ≡ false
+none_marked n slot = grind (arith, common_steps)
+
+-- at first no slot is marked
+pub marks_none : (test : ℕ → Bool) → MarksWith test test (replicate SLOTS false)
+marks_none test = (refl, λ slot low. ap (λ mark. mark || test slot) (none_marked SLOTS slot))
