@@ -17,6 +17,7 @@ pub none_any : {X : Type 0} (p : X → Bool) (xs : List X) → AllByRecursion (�
 none_any p [] none = refl
 none_any p (x ∷ xs) none = ap (λ b. b || list_any p xs) none.0 ∙ none_any p xs none.1
 
+-- where none passes, each fails
 pub none_passes : {X : Type 0} (p : X → Bool) (xs : List X) → list_any p xs ≡ false → AllByRecursion (λ x. p x ≡ false) xs
 none_passes p [] none = tt
 none_passes p (x ∷ xs) none =
