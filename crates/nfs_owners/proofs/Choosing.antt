@@ -1,10 +1,10 @@
 -- The choice of a newcomer's number: a next number of a slot in which no client is live.
 use Rattle.std.proofs.Common.{◌≡◌, ◌⊎◌, ℕ, zero, suc, ◌+◌, ◌-◌, ◌*◌, ◌<◌, ◌≤◌, Bool, true, false, not, cond, nat_lt, ◌==◌, ◌&&◌, ◌||◌, List, [], ◌∷◌, filter, find, length, Option, Some, None, option_map, inl, inr, refl, sym, ap, ◌∙◌, subst, arith, true≢false}
-use Rattle.std.specs.Prelude.{slice_index_or}
+use Rattle.std.specs.Prelude.{MatchOption, if◌then◌else◌, slice_index_or}
 use Rattle.std.specs.List.{AllByRecursion, list_any, range_with_len}
 use Rattle.std.proofs.lemmas.Bool.{and_from, and_parts, cases_Bool, cases_eq, eqb-true, false_from_ne_true, lt-ltb, not-true, not_from_false, or_left, or_parts}
 use Rattle.nfs_rows.proofs.Each.{find_none}
-use Rattle.nfs_owners.specs.Choice.{IsNextNumber, MarksSlots, choice, client_slots, first_or, free_slot, has_left, has_slot, is_free, is_in_use, is_live_slot, is_unmarked, may_give_way, next_number, slot_given_up, without_replaced}
+use Rattle.nfs_owners.specs.Choice.{IsNextNumber, MarksSlots, can_be_given, choice, chosen_slot, client_slots, first_or, free_slot, has_left, has_slot, is_free, is_in_use, is_live_slot, may_give_way, next_number, slot_given_up, without_replaced}
 use Rattle.nfs_owners.specs.Registry.{AreRecords, HasOwnNumber, Registry, given_of, is_live, is_of, is_of_client, without_id}
 use Rattle.nfs_owners.specs.SlotLaws.{AreAllLive}
 use Rattle.nfs_owners.specs.Slots.{generation_of, slot_of}
@@ -36,12 +36,33 @@ slots_at : (P : ℕ → Type 0) (slot : ℕ) → AllByRecursion P client_slots �
 unfolding client_slots
 slots_at P slot h above below = range_at P 1 (SLOTS - 1) slot h (omega arith) (omega arith)
 
+-- the first slot that passes a test
+
+abbrev pub IsFirst : (ℕ → Bool) → ℕ → ℕ → Option ℕ → Type 0
+IsFirst test from to found =
+    MatchOption found ((k : ℕ) → from ≤ k → k < to → test k ≡ false) (λ i. (from ≤ i) × (i < to) × (test i ≡ true) × ((k : ℕ) → from ≤ k → k < i → test k ≡ false))
+
+first_in_range : (test : ℕ → Bool) (from n : ℕ) (found : Option ℕ) → IsFirst test from (from + n) found → found ≡ find test (range_with_len from n)
+first_in_range test from n None is = sym (find_none test (range_with_len from n) (all_range (λ k. test k ≡ false) from n is))
+first_in_range test from zero (Some i) is = absurd (omega (arith, is.0, is.1))
+first_in_range test from (suc n) (Some i) is = elim (cases_eq from i) [
+  | inl here ↦
+      ap Some (sym here) ∙ ap (λ b. cond b (Some from) (find test (range_with_len (from + 1) n))) (sym (subst (λ k. test k ≡ true) (sym here) is.2))
+  | inr later ↦
+      first_in_range test (from + 1) n (Some i) (omega (arith, is.0, later), omega (arith, is.1), is.2, λ k above below. is.3 k (omega (arith, above)) below)
+      ∙ ap (λ b. cond b (Some from) (find test (range_with_len (from + 1) n))) (sym (is.3 from (omega arith) (omega (arith, is.0, later))))
+]
+
+pub first_slot : (test : ℕ → Bool) (found : Option ℕ) → IsFirst test 1 SLOTS found → found ≡ find test client_slots
+unfolding client_slots
+first_slot test found is = first_in_range test 1 (SLOTS - 1) found is
+
 -- By marks of the slots in use the least free one is found.
 pub found_free : (used : List Bool) (id : List ℕ) (registry : Registry) → MarksSlots (is_in_use (without_replaced id registry)) used
-    → find (is_unmarked used registry) client_slots ≡ free_slot (without_replaced id registry)
+    → find (can_be_given used registry) client_slots ≡ free_slot (without_replaced id registry)
 found_free used id registry marks =
-    find_agree (is_unmarked used registry) (is_free (without_replaced id registry)) client_slots
-    (all_slots (λ slot. is_unmarked used registry slot ≡ is_free (without_replaced id registry) slot)
+    find_agree (can_be_given used registry) (is_free (without_replaced id registry)) client_slots
+    (all_slots (λ slot. can_be_given used registry slot ≡ is_free (without_replaced id registry) slot)
     (λ slot above below. ap (λ mark. not mark && has_left registry slot) (marks.1 slot below)))
 
 -- A record gives way where no client is live in its slot.
@@ -58,26 +79,22 @@ found_oldest id registry are =
     (λ r own. ap (λ live. not (is_of id r) && (not live && has_left registry (slot_of r.state.client.number))) (sym (live_in_slot r.state.client.number registry are (last_own registry r own))))
     registry.unconfirmed are.unconfirmed_numbers)
 
--- What is chosen.
+-- by marks of the slots in which a client is live
+pub goes_by_marks : (live : List Bool) (id : List ℕ) (registry : Registry) (r : ClientRecord) → MarksSlots (is_live_slot registry) live
+    → goes id registry r ≡ (not (is_of id r) && can_be_given live registry (slot_of r.state.client.number))
+goes_by_marks live id registry r marks =
+    let slot : ℕ = slot_of r.state.client.number in
+    ap (λ mark. not (is_of id r) && (not mark && has_left registry slot)) (sym (marks.1 slot (omega arith)))
 
-pub chosen_free : (id : List ℕ) (registry : Registry) (slot : ℕ) → free_slot (without_replaced id registry) ≡ Some slot → choice id registry ≡ Some (next_number registry slot)
-chosen_free id registry slot free =
-    let left = without_replaced id registry in
-    ap (λ found. option_map (next_number left) (first_or found (slot_given_up left))) free
+-- The slot that is chosen.
 
-pub chosen_oldest : (id : List ℕ) (registry : Registry) (oldest : Option ClientRecord) → free_slot (without_replaced id registry) ≡ None
-    → find (may_give_way registry) (without_id id registry.unconfirmed) ≡ oldest → choice id registry ≡ option_map (λ r. next_number registry (slot_of r.state.client.number)) oldest
-chosen_oldest id registry oldest none found =
-    let left = without_replaced id registry in
-    ap (λ free. option_map (next_number left) (first_or free (slot_given_up left))) none
-    ∙ ap (λ given_up. option_map (next_number left) (option_map (λ (r : ClientRecord). slot_of r.state.client.number) given_up)) found
-    ∙ by oldest
-  where
-    by : (given_up : Option ClientRecord)
-        → option_map (next_number (without_replaced id registry)) (option_map (λ (r : ClientRecord). slot_of r.state.client.number) given_up)
-        ≡ option_map (λ r. next_number registry (slot_of r.state.client.number)) given_up
-    by None = refl
-    by (Some r) = refl
+pub slot_free : (id : List ℕ) (registry : Registry) (slot : ℕ) → free_slot (without_replaced id registry) ≡ Some slot → chosen_slot id registry ≡ Some slot
+slot_free id registry slot free = ap (λ found. first_or found (slot_given_up (without_replaced id registry))) free
+
+pub slot_oldest : (id : List ℕ) (registry : Registry) (oldest : Option ClientRecord) → free_slot (without_replaced id registry) ≡ None → find (may_give_way registry) (without_id id registry.unconfirmed) ≡ oldest
+    → chosen_slot id registry ≡ option_map (λ r. slot_of r.state.client.number) oldest
+slot_oldest id registry oldest none found =
+    ap (λ free. first_or free (slot_given_up (without_replaced id registry))) none ∙ ap (option_map (λ (r : ClientRecord). slot_of r.state.client.number)) found
 
 -- It is a next number, and its slot has a number left.
 
@@ -94,8 +111,7 @@ slot_is slot registry below = omega (arith, below)
 pub is_next : (slot : ℕ) (registry : Registry) → CanBeGiven slot registry → IsNextNumber (next_number registry slot) registry × (has_left registry (slot_of (next_number registry slot)) ≡ true)
 is_next slot registry can =
     let same = slot_is slot registry can.below in
-    let generation : generation_of (next_number registry slot) ≡ given_of registry slot = omega (arith, can.below) in
-    (
+    let generation : generation_of (next_number registry slot) ≡ given_of registry slot = omega (arith, can.below) in (
       record {
         is_number = subst (λ s. 0 < s) (sym same) can.above;
         next = generation ∙ ap (given_of registry) (sym same);
@@ -130,22 +146,25 @@ oldest_can id registry r are found =
       left = parts.1;
     }
 
-abbrev IsChosen : ℕ → Registry → Type 0
-IsChosen number registry = IsNextNumber number registry × (has_left registry (slot_of number) ≡ true)
+same_slot : (a b : ℕ) → Some a ≡ Some b → a ≡ b
+same_slot a b is = cc
 
-same_number : (a b : ℕ) → Some a ≡ Some b → a ≡ b
-same_number a b is = cc
-
-pub chosen_is_next : (id : List ℕ) (registry : Registry) (number : ℕ) → AreRecords registry → choice id registry ≡ Some number → IsChosen number registry
-chosen_is_next id registry number are is = by (free_slot (without_replaced id registry)) refl (find (may_give_way registry) (without_id id registry.unconfirmed)) refl
+pub slot_can : (id : List ℕ) (registry : Registry) (slot : ℕ) → AreRecords registry → chosen_slot id registry ≡ Some slot → CanBeGiven slot registry
+slot_can id registry slot are is = by (free_slot (without_replaced id registry)) refl (find (may_give_way registry) (without_id id registry.unconfirmed)) refl
   where
-    by : (free : Option ℕ) → free_slot (without_replaced id registry) ≡ free → (oldest : Option ClientRecord) → find (may_give_way registry) (without_id id registry.unconfirmed) ≡ oldest → IsChosen number registry
-    by (Some slot) free oldest found =
-        subst (λ n. IsChosen n registry) (same_number (next_number registry slot) number (sym (chosen_free id registry slot free) ∙ is)) (is_next slot registry (free_can id registry slot free))
+    by : (free : Option ℕ) → free_slot (without_replaced id registry) ≡ free → (oldest : Option ClientRecord) → find (may_give_way registry) (without_id id registry.unconfirmed) ≡ oldest → CanBeGiven slot registry
+    by (Some other) free oldest found =
+        subst (λ s. CanBeGiven s registry) (same_slot other slot (sym (slot_free id registry other free) ∙ is)) (free_can id registry other free)
     by None free (Some r) found =
-        subst (λ n. IsChosen n registry) (same_number (next_number registry (slot_of r.state.client.number)) number (sym (chosen_oldest id registry (Some r) free found) ∙ is))
-        (is_next (slot_of r.state.client.number) registry (oldest_can id registry r are found))
-    by None free None found = absurd (cc (chosen_oldest id registry None free found, is))
+        subst (λ s. CanBeGiven s registry) (same_slot (slot_of r.state.client.number) slot (sym (slot_oldest id registry (Some r) free found) ∙ is)) (oldest_can id registry r are found)
+    by None free None found = absurd (cc (slot_oldest id registry None free found, is))
+
+-- A newcomer for whom there is a number is refused where the address is too long, and nowhere else.
+pub refused_by_address : {A : Type 0} (within : Bool) (f : ℕ → A) (chosen : Option ℕ) (number : ℕ) → Some number ≡ chosen
+    → (((if within then option_map f chosen else None) ≡ None) → within ≡ false) × (within ≡ false → (if within then option_map f chosen else None) ≡ None)
+refused_by_address within f None number is = absurd (cc)
+refused_by_address true f (Some n) number is = (λ none. absurd (cc), λ no. absurd (true≢false no))
+refused_by_address false f (Some n) number is = (λ none. refl, λ no. refl)
 
 -- No number is left where a client is live in each slot, as long as none has used up its generations.
 
@@ -178,18 +197,25 @@ none_goes id registry are live =
         ap (λ here. not (is_of id r) && (not here && has_left registry slot)) (live slot last.slot below) ∙ and_never (not (is_of id r))
 
 pub none_chosen : (id : List ℕ) (registry : Registry) → AreRecords registry → AreAllLive registry → choice id registry ≡ None
-none_chosen id registry are live = chosen_oldest id registry None (no_free id registry live) (none_goes id registry are live)
+none_chosen id registry are live = ap (option_map (next_number registry)) (slot_oldest id registry None (no_free id registry live) (none_goes id registry are live))
 
 -- Where no number is chosen, no slot is free, and no record gives way.
 
+none_mapped : (f : ℕ → ℕ) (slot : Option ℕ) → option_map f slot ≡ None → slot ≡ None
+none_mapped f None none = refl
+none_mapped f (Some slot) none = absurd (cc)
+
 not_chosen : (id : List ℕ) (registry : Registry) → choice id registry ≡ None
     → (free_slot (without_replaced id registry) ≡ None) × (find (may_give_way registry) (without_id id registry.unconfirmed) ≡ None)
-not_chosen id registry none = by (free_slot (without_replaced id registry)) refl (find (may_give_way registry) (without_id id registry.unconfirmed)) refl
+not_chosen id registry is = by (free_slot (without_replaced id registry)) refl (find (may_give_way registry) (without_id id registry.unconfirmed)) refl
   where
+    none : chosen_slot id registry ≡ None
+    none = none_mapped (next_number registry) (chosen_slot id registry) is
+
     by : (free : Option ℕ) → free_slot (without_replaced id registry) ≡ free → (oldest : Option ClientRecord) → find (may_give_way registry) (without_id id registry.unconfirmed) ≡ oldest
         → (free_slot (without_replaced id registry) ≡ None) × (find (may_give_way registry) (without_id id registry.unconfirmed) ≡ None)
-    by (Some slot) free oldest found = absurd (cc (chosen_free id registry slot free, none))
-    by None free (Some r) found = absurd (cc (chosen_oldest id registry (Some r) free found, none))
+    by (Some slot) free oldest found = absurd (cc (slot_free id registry slot free, none))
+    by None free (Some r) found = absurd (cc (slot_oldest id registry (Some r) free found, none))
     by None free None found = (free, found)
 
 pub all_live : (id : List ℕ) (registry : Registry) → AreRecords registry → registry.last_confirm < GENERATIONS → choice id registry ≡ None → AreAllLive registry

@@ -196,7 +196,7 @@ zeros_within (suc n) last = (omega arith, zeros_within n last)
 
 pub records_empty : AreRecords no_clients
 records_empty = record {
-  slots = length-replicate SLOTS 0;
+  slots = length-replicate {A = ℕ} SLOTS 0;
   values = zeros_within SLOTS 0;
   confirmed = distinct_none have_same_id;
   unconfirmed = distinct_none have_same_id;

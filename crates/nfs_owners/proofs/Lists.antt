@@ -1,5 +1,5 @@
 -- Lists of which each element, or each two, pass a test.
-use Rattle.std.proofs.Common.{◌≡◌, Bool, true, false, not, cond, ◌&&◌, Some, None, List, [], ◌∷◌, ◌++◌, refl, sym, ap, ◌∙◌, subst, arith, inl, inr, true≢false}
+use Rattle.std.proofs.Common.{◌≡◌, Bool, true, false, not, cond, ◌&&◌, Option, Some, None, List, [], ◌∷◌, ◌++◌, refl, sym, ap, ◌∙◌, subst, arith, inl, inr, true≢false}
 use Rattle.std.specs.Prelude.{◌||◌, filter, find}
 use Rattle.std.specs.List.{AllByRecursion, IsDistinct, list_any}
 use Rattle.std.proofs.lemmas.Bool.{cases_Bool, cond-false, cond-true, cond_both, false_from_ne_true}
@@ -82,6 +82,10 @@ module _ {X : Type 0} where
       by : (b : Bool) → find p (filter q xs) ≡ find (λ y. q y && p y) xs → find p (cond b (x ∷ filter q xs) (filter q xs)) ≡ cond (b && p x) (Some x) (find (λ y. q y && p y) xs)
       by true rest = ap (λ found. cond (p x) (Some x) found) rest
       by false rest = rest
+
+  -- what is found, one element after the other
+  pub find_step : (test : X → Bool) (x : X) (left rest : List X) (found : Option X) (b : Bool) → left ≡ x ∷ rest → find test left ≡ found → test x ≡ b → cond b (Some x) (find test rest) ≡ found
+  find_step test x left rest found b first so_far is = ap (λ c. cond c (Some x) (find test rest)) (sym is) ∙ sym (ap (find test) first) ∙ so_far
 
   pub none_when : (test : X → Bool) (xs : List X) → find test xs ≡ None → AllByRecursion (λ x. test x ≡ false) xs
   none_when test [] none = tt

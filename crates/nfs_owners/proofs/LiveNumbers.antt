@@ -131,6 +131,11 @@ unknown_is_next after number registry distinct next = by (find (is_unknown_of nu
           is_unmarked r.state.path parts.1,
         )
 
+-- those that pass whatever they are
+pub filter_any : {X : Type 0} (xs : List X) → filter (λ x. true) xs ≡ xs
+filter_any [] = refl
+filter_any (x ∷ xs) = ap (λ rest. x ∷ rest) (filter_any xs)
+
 -- The least number above another among some records, with one record more.
 
 -- who has a number with one more record

@@ -11,7 +11,7 @@ use Rattle.nfs_owners.specs.Slots.{generation_of, slot_of}
 use Rattle.nfs_owners.specs.declared.client_record.ClientRecord.{ClientRecord}
 use Rattle.nfs_owners.specs.declared.slots.TheConstants.{SLOTS}
 use Rattle.nfs_owners.proofs.Lists.{all_both, all_weaken, any_agree, filter_agree, none_dropped, none_each, none_narrower}
-use Rattle.nfs_owners.proofs.ClientLists.{records_unconfirmed, without_unconfirmed}
+use Rattle.nfs_owners.proofs.ClientLists.{records_unconfirmed}
 
 -- of the numbers of its slot that were given, this one was the last
 pub record IsLast (number : ℕ) (registry : Registry) : Type 0 where
@@ -123,8 +123,7 @@ module _ (slot : ℕ) (old : Registry) (are : AreRecords old) (below : slot < SL
   keeps_own : (s : ClientRecord) → HasOther s → HasOwnNumber (with_one_more slot old) s
   keeps_own s h =
       let number = s.state.client.number in
-      let last = last_own old s h.0 in
-      (
+      let last = last_own old s h.0 in (
         last_from number (with_one_more slot old) (record {
           slot = last.slot;
           count = last.count ∙ sym (given_other slot (slot_of number) old are below (eqb-false (slot_of number) slot h.1));
@@ -165,15 +164,15 @@ newcomer_takes_none r old =
     let slot = slot_of r.state.client.number in
     none_takes r.id r.state.client.number (without_unconfirmed_of slot old).unconfirmed (none_dropped (has_slot slot) old.unconfirmed)
 
-pub records_newcomer : (r : ClientRecord) (old : Registry) → AreRecords old → IsNextNumber r.state.client.number old → AreRecords (with_newcomer r old)
+-- once the record of its slot has gone
+pub records_newcomer : (r : ClientRecord) (old : Registry) → AreRecords (without_unconfirmed_of (slot_of r.state.client.number) old) → IsNextNumber r.state.client.number old → AreRecords (with_newcomer r old)
 records_newcomer r old are is =
     let number : ℕ = r.state.client.number in
     let slot : ℕ = slot_of number in
     let below : slot < SLOTS = omega arith in
     let left : Registry = without_unconfirmed_of slot old in
-    let are_left : AreRecords left = without_unconfirmed (λ s. not (has_slot slot s)) old are in
-    let raised = records_raised slot left are_left below is.vacant (none_dropped (has_slot slot) old.unconfirmed) in
-    let counted : generation_of number + 1 ≡ given_of (with_one_more slot left) slot = ap (λ n. n + 1) is.next ∙ sym (given_same slot left are_left below) in
+    let raised = records_raised slot left are below is.vacant (none_dropped (has_slot slot) old.unconfirmed) in
+    let counted : generation_of number + 1 ≡ given_of (with_one_more slot left) slot = ap (λ n. n + 1) is.next ∙ sym (given_same slot left are below) in
     records_unconfirmed r (with_one_more slot left) raised (
       last_from number (with_one_more slot left) (record { slot = is.is_number; count = counted }),
       none_takes r.id number old.confirmed is.vacant,

@@ -1,5 +1,5 @@
 -- Marks of slots, while records are looked at: those of the records that were, beside those that come.
-use Rattle.std.proofs.Common.{◌≡◌, ℕ, zero, suc, ◌+◌, ◌<◌, Bool, true, false, not, cond, ◌==◌, ◌||◌, List, [], ◌∷◌, filter, length, replicate, slice_set, refl, sym, ap, ◌∙◌, arith}
+use Rattle.std.proofs.Common.{◌≡◌, ℕ, zero, suc, ◌+◌, ◌<◌, Bool, true, false, not, cond, ◌==◌, ◌||◌, List, [], ◌∷◌, filter, length, replicate, slice_set, refl, sym, ap, ◌∙◌, subst, arith}
 use Rattle.std.specs.Prelude.{slice_index_or}
 use Rattle.std.specs.List.{list_any}
 use Rattle.std.proofs.lemmas.Grind.{common_steps}
@@ -47,3 +47,22 @@ none_marked n slot = grind (arith, common_steps)
 -- at first no slot is marked
 pub marks_none : (test : ℕ → Bool) → MarksWith test test (replicate SLOTS false)
 marks_none test = (refl, λ slot low. ap (λ mark. mark || test slot) (none_marked SLOTS slot))
+
+-- the slots of records
+abbrev pub slots_of : List ClientRecord → ℕ → Bool
+slots_of records slot = list_any (has_slot slot) records
+
+-- one more record is looked at
+pub marks_next : (r : ClientRecord) (left rest : List ClientRecord) (test : ℕ → Bool) (marks : List Bool) (place : ℕ) → left ≡ r ∷ rest → place ≡ slot_of r.state.client.number → MarksWith (slots_of left) test marks
+    → MarksWith (slots_of rest) test (slice_set marks place true)
+marks_next r left rest test marks place first is so_far =
+    marks_more (slots_of rest) test marks place (omega (arith, is))
+    (subst (λ p. MarksWith (λ slot. (p == slot) || slots_of rest slot) test marks) (sym is) (subst (λ records. MarksWith (slots_of records) test marks) first so_far))
+
+-- of the records with other ids the first comes next, or is passed over
+
+pub other_next : (id : List ℕ) (r : ClientRecord) (rest : List ClientRecord) → is_of id r ≡ false → without_id id (r ∷ rest) ≡ r ∷ without_id id rest
+other_next id r rest other = ap (λ b. cond (not b) (r ∷ without_id id rest) (without_id id rest)) other
+
+pub own_next : (id : List ℕ) (r : ClientRecord) (rest : List ClientRecord) → is_of id r ≡ true → without_id id (r ∷ rest) ≡ without_id id rest
+own_next id r rest own = ap (λ b. cond (not b) (r ∷ without_id id rest) (without_id id rest)) own

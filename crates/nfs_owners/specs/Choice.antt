@@ -67,12 +67,16 @@ abbrev pub without_replaced : List ℕ → Registry → Registry
 without_replaced id registry =
     record registry { unconfirmed = without_id id registry.unconfirmed }
 
--- The number that a newcomer with this id is given: the next one of the least slot that is free, and else of the slot
--- of the oldest record that may give way. The id's own unconfirmed record has left by then.
-abbrev pub choice : List ℕ → Registry → Option ℕ
-choice id registry =
+-- The slot that a newcomer with this id is given: the least one that is free, and else that of the oldest record that
+-- may give way. The id's own unconfirmed record has left by then.
+abbrev pub chosen_slot : List ℕ → Registry → Option ℕ
+chosen_slot id registry =
     let left = without_replaced id registry in
-    option_map (next_number left) (first_or (free_slot left) (slot_given_up left))
+    first_or (free_slot left) (slot_given_up left)
+
+-- the number that the newcomer is given: the next one of that slot
+abbrev pub choice : List ℕ → Registry → Option ℕ
+choice id registry = option_map (next_number registry) (chosen_slot id registry)
 
 -- the unconfirmed records without those of this slot
 abbrev pub without_unconfirmed_of : ℕ → Registry → Registry
@@ -81,8 +85,8 @@ without_unconfirmed_of slot registry = record registry {
 }
 
 -- the slot has no mark, and a number left
-abbrev pub is_unmarked : List Bool → Registry → ℕ → Bool
-is_unmarked marks registry slot =
+abbrev pub can_be_given : List Bool → Registry → ℕ → Bool
+can_be_given marks registry slot =
     not (slice_index_or marks slot false) && has_left registry slot
 
 -- for each slot, whether it passes the test

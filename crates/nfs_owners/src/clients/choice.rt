@@ -2,7 +2,7 @@
 
 ghost use Rattle.std.specs.Prelude.{◌≡◌, ◌<◌, IfSome, IsTrue, find};
 ghost use Rattle.std.specs.Option.{option_copied};
-ghost use Rattle.nfs_owners.specs.Choice.{IsNextNumber, MarksSlots, choice, client_slots, has_left, is_in_use, is_live_slot, is_unmarked, may_give_way, next_number, without_replaced};
+ghost use Rattle.nfs_owners.specs.Choice.{IsNextNumber, MarksSlots, can_be_given, choice, chosen_slot, client_slots, has_left, is_in_use, is_live_slot, may_give_way, next_number, without_replaced};
 ghost use Rattle.nfs_owners.specs.Registry.{without_id};
 ghost use Rattle.nfs_owners.specs.Slots as numbers;
 
@@ -23,13 +23,23 @@ impl Clients {
         ensures left { IfSome result (λ number.
             IsTrue (has_left self.now.registry (numbers.slot_of number))) }
     {
+        // A law, for the proof alone: each record has the last number of its slot.
+        self.records_are_apart();
+        let slot = self.slot_for(id)?;
+        Some(self.next_number(slot))
+    }
+
+    // The slot for a newcomer with this id, if there is one.
+    fn slot_for(&self, id: &[u8]) -> Option<u32>
+        ensures { result ≡ chosen_slot id.now self.now.registry }
+    {
         let live = self.live_slots();
         let used = self.used_slots(&live, id);
-        let slot = match self.free_slot(&used) {
-            Some(slot) => slot,
-            None => self.oldest_to_go(&live, id)?.slot(),
-        };
-        Some(self.next_number(slot))
+        if let Some(slot) = self.free_slot(&used) {
+            return Some(slot);
+        }
+        let oldest = self.oldest_to_go(&live, id)?;
+        Some(oldest.slot())
     }
 
     // In which slots a client is live.
@@ -59,9 +69,9 @@ impl Clients {
 
     // The least slot without a mark that has a number left.
     fn free_slot(&self, used: &SlotMarks) -> Option<u32>
-        ensures { result ≡ find (is_unmarked used.now self.now.registry) client_slots }
+        ensures { result ≡ find (can_be_given used.now self.now.registry) client_slots }
     {
-        (1..SLOTS).find(|slot| !used[*slot as usize] && self.has_left(*slot))
+        (1..SLOTS).find(|slot| self.can_be_given(used, *slot))
     }
 
     // The oldest unconfirmed record that may give way, but for the id's own one.
@@ -71,20 +81,19 @@ impl Clients {
             (without_id id.now self.now.registry.unconfirmed) }
     {
         for (_, record) in self.unconfirmed.iter() {
-            let slot = record.slot();
-            if !record.is_of(id) && !live[slot as usize] && self.has_left(slot) {
+            if !record.is_of(id) && self.can_be_given(live, record.slot()) {
                 return Some(record);
             }
         }
         None
     }
 
-    // Whether the slot has a number that wasn't given yet.
-    fn has_left(&self, slot: u32) -> bool
+    // Whether the slot has no mark, and a number left.
+    fn can_be_given(&self, taken: &SlotMarks, slot: u32) -> bool
         requires { slot < SLOTS }
-        ensures { result ≡ has_left self.now.registry slot }
+        ensures { result ≡ can_be_given taken.now self.now.registry slot }
     {
-        self.given[slot as usize] < GENERATIONS
+        !taken[slot as usize] && self.given[slot as usize] < GENERATIONS
     }
 
     // The first number of the slot that wasn't given yet.
