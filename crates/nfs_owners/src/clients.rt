@@ -1,4 +1,4 @@
-ghost use Rattle.std.specs.Prelude.{◌≡◌, ◌-◌, ◌^◌, ◌<◌, ◌≤◌, IsOk, IsTrue, OnOk, find, option_map};
+ghost use Rattle.std.specs.Prelude.{◌≡◌, ◌-◌, ◌^◌, ◌<◌, ◌≤◌, IsOk, IsTrue, OnOk, find, length, option_map};
 ghost use Rattle.std.specs.Option.{option_copied};
 ghost use Rattle.nfs_owners.specs.Registry.{client_seen, is_named_by, record_state};
 
@@ -110,6 +110,13 @@ impl Clients {
         ensures { result ≡ is_live number self.now.registry }
     {
         self.confirmed.of_client(number).is_some()
+    }
+
+    /// How many clients are live: each has one confirmed record.
+    pub fn count_live(&self) -> usize
+        ensures { result ≡ length self.now.registry.confirmed }
+    {
+        self.confirmed.len()
     }
 
     /// The least number above this one that a live client has, if there is one.

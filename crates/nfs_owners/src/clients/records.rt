@@ -1,4 +1,4 @@
-ghost use Rattle.std.specs.Prelude.{◌≡◌, ◌<◌, [], ◌∷◌, ◌++◌, Bool, List, IsOk, IsFalse, OnOk, filter, find, map};
+ghost use Rattle.std.specs.Prelude.{◌≡◌, ◌<◌, [], ◌∷◌, ◌++◌, Bool, List, IsOk, IsFalse, OnOk, filter, find, length, map};
 ghost use Rattle.std.specs.List.{IsDistinct, list_any};
 ghost use Rattle.std.specs.Option.{option_copied};
 ghost use Rattle.nfs_rows.specs.NameHash.{hash_of};
@@ -56,6 +56,13 @@ impl Records {
             newest: 0,
             room: 0,
         }
+    }
+
+    /// How many records there are.
+    pub fn len(&self) -> usize
+        ensures { result ≡ length self.now.records }
+    {
+        self.rows.len()
     }
 
     /// The record with this id, if there is one.
