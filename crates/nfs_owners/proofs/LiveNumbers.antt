@@ -1,9 +1,8 @@
 -- What is found by a client's number among records of different clients, and which number comes next.
-use Rattle.std.proofs.Common.{◌≡◌, ℕ, ◌<◌, ◌≤◌, Bool, true, false, ◌&&◌, ◌||◌, cond, List, [], ◌∷◌, ◌++◌, Option, Some, None, filter, find, is_some, map, append_assoc, refl, sym, ap, ◌∙◌, subst, arith, true≢false}
+use Rattle.std.proofs.Common.{◌≡◌, ℕ, Bool, true, false, ◌&&◌, ◌||◌, cond, List, [], ◌∷◌, ◌++◌, Option, Some, None, filter, find, is_some, map, append_assoc, refl, sym, ap, ◌∙◌, subst, true≢false}
 use Rattle.std.specs.Prelude.{◌==◌, option_and_then}
 use Rattle.std.specs.List.{IsDistinct, list_any}
 use Rattle.std.proofs.lemmas.Bool.{and_from, and_parts, eq-eqb, eqb-true, false_from_ne_true}
-use Rattle.std.proofs.lemmas.Grind.{common_steps}
 use Rattle.std.proofs.lemmas.List.{append-nil}
 use Rattle.std.proofs.lemmas.List.Elements.{filter-append}
 use Rattle.nfs_forms.specs.ClientId.{is_same_client}
@@ -140,40 +139,7 @@ pub filter_any : {X : Type 0} (xs : List X) → filter (λ x. true) xs ≡ xs
 filter_any [] = refl
 filter_any (x ∷ xs) = ap (λ rest. x ∷ rest) (filter_any xs)
 
--- The least number above another among some records, with one record more.
-
--- who has a number with one more record
-any_with : (records : List ClientRecord) (r : ClientRecord) (number : ℕ) → list_any (is_of_client number) (records ++ r ∷ []) ≡ (list_any (is_of_client number) records || (r.state.client.number == number))
-any_with [] r number = grind (arith, common_steps)
-any_with (s ∷ records) r number = grind (arith, common_steps, any_with records r number)
-
-pub first_above : (after : ℕ) (records : List ClientRecord) (r : ClientRecord) → IsNextAmong after records None → after < r.state.client.number → IsNextAmong after (records ++ r ∷ []) (Some r.state.client.number)
-first_above after records r none above = (
-  grind (arith, common_steps, any_with records r r.state.client.number),
-  above,
-  λ number here higher. grind (arith, common_steps, any_with records r number, none number),
-)
-
-pub still_none : (after : ℕ) (records : List ClientRecord) (r : ClientRecord) → IsNextAmong after records None → r.state.client.number ≤ after → IsNextAmong after (records ++ r ∷ []) None
-still_none after records r none below = λ number here. grind (arith, common_steps, any_with records r number, none number)
-
-pub nearer_above : (after next : ℕ) (records : List ClientRecord) (r : ClientRecord) → IsNextAmong after records (Some next) → after < r.state.client.number → r.state.client.number < next
-    → IsNextAmong after (records ++ r ∷ []) (Some r.state.client.number)
-nearer_above after next records r is above less = (
-  grind (arith, common_steps, any_with records r r.state.client.number),
-  above,
-  λ number here higher. grind (arith, common_steps, any_with records r number, is.2 number),
-)
-
-pub still_next : (after next : ℕ) (records : List ClientRecord) (r : ClientRecord) → IsNextAmong after records (Some next) → (after < r.state.client.number → next ≤ r.state.client.number)
-    → IsNextAmong after (records ++ r ∷ []) (Some next)
-still_next after next records r is farther = (
-  grind (arith, common_steps, any_with records r next, is.0),
-  is.1,
-  λ number here higher. grind (arith, common_steps, any_with records r number, is.2 number),
-)
-
--- Among those that pass a test, while the records are looked at.
+-- The least number above another among those that pass a test, while the records are looked at.
 
 pub record Walked (test : ClientRecord → Bool) (after : ℕ) (records : List ClientRecord) (left : List (ℕ × ClientRecord)) (next : Option ℕ) : Type 0 where
   pub done : List ClientRecord
