@@ -414,7 +414,7 @@ pub epoch_changed : (epoch : ℕ) (op : Op) (change : ClientChange) (old : Regis
 epoch_changed epoch op client_changes.Nothing old ready is h = h
 epoch_changed epoch (ops.Setclientid args) (client_changes.Arrives r) old ready is h =
     each_unconfirmed (HasEpoch epoch) r (before_newcomer r old) is
-    (each_before (HasEpoch epoch) (HasEpoch epoch) r old ready.0.vacant (λ s k _. k) h)
+    (each_before (HasEpoch epoch) (HasEpoch epoch) r old ready.0.alone (λ s k _. k) h)
 epoch_changed epoch op (client_changes.Updates r) old ready is h = each_unconfirmed (HasEpoch epoch) r old (epoch_of_record epoch r.state.client r.id old.confirmed ready h.0) h
 epoch_changed epoch op (client_changes.Confirms r) old ready is h = each_confirmed (HasEpoch epoch) r old (epoch_of_record epoch r.state.client r.id old.unconfirmed ready.1 h.1) h
 epoch_changed epoch op (client_changes.Refreshes r) old ready is h = each_confirmed (HasEpoch epoch) r old (epoch_of_record epoch r.state.client r.id old.confirmed ready.1 h.0) h

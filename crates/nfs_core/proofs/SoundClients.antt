@@ -171,10 +171,10 @@ before_newcomer r old =
 -- it holds of all records that stay, which have other slots
 pub each_before : (P Q : ClientRecord → Type 0) (r : ClientRecord) (old : Registry) → is_live_slot old (slot_of r.state.client.number) ≡ false
     → ((s : ClientRecord) → P s → has_slot (slot_of r.state.client.number) s ≡ false → Q s) → EachRecord P old → EachRecord Q (before_newcomer r old)
-each_before P Q r old vacant keeps h =
+each_before P Q r old alone keeps h =
     let has : ClientRecord → Bool = has_slot (slot_of r.state.client.number) in (
       all_weaken (λ s. P s × (has s ≡ false)) Q (λ s both. keeps s both.0 both.1) old.confirmed
-          (all_both P (λ s. has s ≡ false) old.confirmed h.0 (none_passes has old.confirmed vacant)),
+          (all_both P (λ s. has s ≡ false) old.confirmed h.0 (none_passes has old.confirmed alone)),
       all_filter P Q (λ s. not (has s)) (λ s k other. keeps s k (not-true (has s) other)) old.unconfirmed h.1,
     )
 
@@ -188,8 +188,8 @@ joins_fresh r old ready h =
     let n = r.state.client.number in
     let last = HasLastNumber old.given in
     record {
-      before = each_before last (λ s. HasSameId s r) r old ready.0.vacant (λ s k other is. absurd (apart_from r s other is)) h.given;
-      after = each_before last (HasSameId r) r old ready.0.vacant (λ s k other is. absurd (apart_from r s other (sym is))) h.given;
+      before = each_before last (λ s. HasSameId s r) r old ready.0.alone (λ s k other is. absurd (apart_from r s other is)) h.given;
+      after = each_before last (HasSameId r) r old ready.0.alone (λ s k other is. absurd (apart_from r s other (sym is))) h.given;
       given = last_here old.given n (subst (λ many. slot_of n < many) (sym h.slots) (slot_below n)) ready.0.is_number ready.0.next;
     }
 
@@ -198,7 +198,7 @@ singles_before r old ready h =
     let slot = slot_of r.state.client.number in
     let has : ClientRecord → Bool = has_slot slot in
     let new = before_newcomer r old in
-    let vacant = ready.0.vacant in
+    let alone = ready.0.alone in
     let last = old.last_confirm in
     record {
       slots = length-set old.given slot (given_of old slot + 1) ∙ h.slots;
@@ -206,9 +206,9 @@ singles_before r old ready h =
           (omega (arith, count_within last old.given slot h.values));
       confirmed = h.confirmed;
       unconfirmed = distinct_filter have_same_id (λ s. not (has s)) old.unconfirmed h.unconfirmed;
-      same = each_before (λ a. EachRecord (HasSameId a) old) (λ a. EachRecord (HasSameId a) new) r old vacant
-          (λ a row _. each_before (HasSameId a) (HasSameId a) r old vacant (λ s k _. k) row) h.same;
-      given = each_before (HasLastNumber old.given) (HasLastNumber (counted old.given slot)) r old vacant
+      same = each_before (λ a. EachRecord (HasSameId a) old) (λ a. EachRecord (HasSameId a) new) r old alone
+          (λ a row _. each_before (HasSameId a) (HasSameId a) r old alone (λ s k _. k) row) h.same;
+      given = each_before (HasLastNumber old.given) (HasLastNumber (counted old.given slot)) r old alone
           (λ s k other. last_elsewhere old.given slot s.state.client.number (eqb-false (slot_of s.state.client.number) slot other) k) h.given;
     }
 

@@ -26,7 +26,7 @@ use Rattle.nfs_locks.specs.AllLocks.{is_full_for, locks_of}
 use Rattle.nfs_locks.specs.Laws.{IsFreeFor}
 use Rattle.nfs_locks.specs.Locks.{first_state, is_lock_of, lock_of}
 use Rattle.nfs_locks.specs.Locks as locks
-use Rattle.nfs_owners.specs.Choice.{IsNextNumber, has_left}
+use Rattle.nfs_owners.specs.Choice.{IsNextNumber, has_number_left}
 use Rattle.nfs_owners.specs.Registry.{Registry, is_of, is_of_client}
 use Rattle.nfs_owners.specs.Slots.{slot_of}
 use Rattle.nfs_owners.specs.StateOwner.{is_same_state_owner, lock_owner, open_owner}
@@ -60,7 +60,7 @@ IsOwnerReady change state = ⊤
 
 -- the next number of a slot in which no client is live, and which has a generation left
 abbrev pub CanBeGiven : ℕ → Registry → Type 0
-CanBeGiven number registry = IsNextNumber number registry × (has_left registry (slot_of number) ≡ true)
+CanBeGiven number registry = IsNextNumber number registry × (has_number_left registry (slot_of number) ≡ true)
 
 -- A new record has a number that can be given, and any other the clientid and the id of one that is there. One is confirmed
 -- as the first of its id, in place of one of its own client, or in place of one of the client that it replaces.

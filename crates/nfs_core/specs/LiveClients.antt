@@ -9,7 +9,7 @@ use Rattle.nfs_owners.specs.ClientLaws.{HaveSameClients}
 use Rattle.nfs_owners.specs.LiveChange.{is_live_after}
 use Rattle.nfs_owners.specs.LiveClients.{can_become_live, replaced_by}
 use Rattle.nfs_owners.specs.Registry.{IsClientNumber, Registry, is_live}
-use Rattle.nfs_owners.specs.SlotLaws.{AreAllLive}
+use Rattle.nfs_owners.specs.SlotLaws.{AreSlotsLive}
 use Rattle.nfs_owners.specs.Slots.{slot_of}
 use Rattle.nfs_owners.specs.declared.live_change.LiveChange.{LiveChange}
 use Rattle.nfs_owners.specs.declared.live_change.LiveChange.TheVariants as live_changes
@@ -46,7 +46,7 @@ abbrev pub NewcomersFindSlots : Type 0
 NewcomersFindSlots =
     (journal : History) (state : State) (id : List ℕ)
     → Lawful journal state
-    → (choice id state.clients ≡ None) ↔ AreAllLive state.clients
+    → (choice id state.clients ≡ None) ↔ AreSlotsLive state.clients
 
 -- The client can become live, has a number that can be given out, and is alone in its slot.
 abbrev pub CanCome : ℕ → Registry → Type 0

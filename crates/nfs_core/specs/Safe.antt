@@ -120,7 +120,7 @@ pub record KeepsLimits (state : State) : Type 0 where
   -- opens, lock states and delegations together
   pub states : state_count state ≤ STATE_LIMIT
   pub owners : length state.owners ≤ OWNER_LIMIT
-  -- the numbers of each slot that clients were given
+  -- how many numbers of each slot were given
   pub clients : AllByRecursion (λ count. count ≤ GENERATIONS) state.clients.given
   pub runs : EachLock HasFewRuns state
 

@@ -23,7 +23,7 @@ shows_open lease_state.Vacant = false
 shows_open (lease_state.Open moment) = true
 shows_open lease_state.Closed = false
 
--- the lease that is shown was opened
+-- the lease that is shown, or a later one of its slot, was opened
 abbrev pub shows_opened : LeaseState → Bool
 shows_opened lease_state.Vacant = false
 shows_opened (lease_state.Open moment) = true
@@ -35,7 +35,7 @@ is_renewed renewal.Renewed = true
 is_renewed renewal.Closed = false
 is_renewed renewal.Unknown = false
 
--- the answer says that the lease was opened once
+-- the answer says that the lease, or a later one of its slot, was opened
 abbrev pub is_known : Renewal → Bool
 is_known renewal.Renewed = true
 is_known renewal.Closed = true

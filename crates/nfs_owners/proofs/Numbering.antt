@@ -171,10 +171,10 @@ records_newcomer r old are is =
     let slot : ℕ = slot_of number in
     let below : slot < SLOTS = omega arith in
     let left : Registry = without_unconfirmed_of slot old in
-    let raised = records_raised slot left are below is.vacant (none_dropped (has_slot slot) old.unconfirmed) in
+    let raised = records_raised slot left are below is.alone (none_dropped (has_slot slot) old.unconfirmed) in
     let counted : generation_of number + 1 ≡ given_of (with_one_more slot left) slot = ap (λ n. n + 1) is.next ∙ sym (given_same slot left are below) in
     records_unconfirmed r (with_one_more slot left) raised (
       last_from number (with_one_more slot left) (record { slot = is.is_number; count = counted }),
-      none_takes r.id number old.confirmed is.vacant,
+      none_takes r.id number old.confirmed is.alone,
       newcomer_takes_none r old,
     )

@@ -3,7 +3,7 @@ use Rattle.std.proofs.Common.{◌≡◌, ℕ, ◌<◌, ◌≤◌, true, false, n
 use Rattle.std.specs.List.{AllByRecursion, list_any}
 use Rattle.std.proofs.lemmas.Bool.{and_from, and_parts, and_right, cases_eq, eqb-true, false_from_ne_true, le-ltb, lt-ltb, ltb-true}
 use Rattle.nfs_owners.specs.Registry.{AreRecords, HasOwnNumber, Registry, given_of, is_of_client, was_given}
-use Rattle.nfs_owners.specs.SlotLaws.{EarlierAreGone, LiveSlotsDiffer, NoneIsLeft, NumbersComeOnce, SlotsAreApart}
+use Rattle.nfs_owners.specs.SlotLaws.{EarlierAreGone, LiveSlotsDiffer, NoNumberIsLeft, NumbersComeOnce, SlotsAreApart}
 use Rattle.nfs_owners.specs.Slots.{generation_of, is_earlier, slot_of}
 use Rattle.nfs_owners.specs.declared.client_record.ClientRecord.{ClientRecord}
 use Rattle.nfs_owners.specs.declared.slots.TheConstants.{SLOTS}
@@ -80,5 +80,5 @@ numbers_come_once r old are fits = record { fresh = fresh; given = given; stays 
         and_from (nat_lt 0 (slot_of other)) (nat_lt (generation_of other) (given_of new (slot_of other))) parts.0
         (lt-ltb (generation_of other) (given_of new (slot_of other)) (omega (arith, less, grown)))
 
-pub no_number_is_left : NoneIsLeft
+pub no_number_is_left : NoNumberIsLeft
 no_number_is_left registry id are few = (all_live id registry are few, none_chosen id registry are)

@@ -18,8 +18,8 @@ with_confirmed r old = record old {
   unconfirmed = without_id r.id old.unconfirmed;
 }
 
--- A newcomer's record is added, one more number of its slot was given, and an earlier unconfirmed record with the same
--- id, or of the same slot, is removed.
+-- A newcomer's record is added, one more number of its slot and one more confirm value were given, and earlier
+-- unconfirmed records are removed: that with the same id, and that of the same slot. So one change may remove two.
 abbrev pub with_newcomer : ClientRecord → Registry → Registry
 with_newcomer r old =
     let slot = slot_of r.state.client.number in

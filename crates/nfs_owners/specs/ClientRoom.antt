@@ -2,7 +2,7 @@
 use Rattle.std.specs.Prelude.{◌≡◌, ℕ, ◌<◌, ◌-◌, ◌^◌, ⊤, IsTrue, Bool, true, false, None}
 use Rattle.nfs_owners.specs.declared.clients.client_change.ClientChange.{ClientChange}
 use Rattle.nfs_owners.specs.declared.clients.client_change.ClientChange.TheVariants as changes
-use Rattle.nfs_owners.specs.Choice.{IsNextNumber, has_left}
+use Rattle.nfs_owners.specs.Choice.{IsNextNumber, has_number_left}
 use Rattle.nfs_owners.specs.Slots.{slot_of}
 use Rattle.nfs_owners.specs.Registry.{IsClientOf, Registry, confirmed_of}
 
@@ -21,11 +21,11 @@ HasRoomFor (changes.Confirms r) clients = 0 < clients.confirmed_room
 HasRoomFor (changes.Refreshes r) clients = 0 < clients.confirmed_room
 HasRoomFor (changes.Replaces r client) clients = 0 < clients.confirmed_room
 
--- the slot of the number that is given, if one is, has a generation left, and a confirm value is left
+-- where the change gives a number, its slot has one left; where it gives a confirm value, one is left
 abbrev pub HasNumbersFor : ClientChange → Registry → Type 0
 HasNumbersFor changes.Nothing registry = ⊤
 HasNumbersFor (changes.Arrives r) registry =
-    IsTrue (has_left registry (slot_of r.state.client.number))
+    IsTrue (has_number_left registry (slot_of r.state.client.number))
     × (registry.last_confirm < 2 ^ 64 - 1)
 HasNumbersFor (changes.Updates r) registry = registry.last_confirm < 2 ^ 64 - 1
 HasNumbersFor (changes.Confirms r) registry = ⊤

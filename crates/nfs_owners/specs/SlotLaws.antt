@@ -16,7 +16,7 @@ LiveSlotsDiffer registry =
     (client other : ℕ) → IsTrue (is_live client registry) → IsTrue (is_live other registry)
     → slot_of client ≡ slot_of other → client ≡ other
 
--- a number of which a later generation was given has no record, confirmed or not
+-- once a later number of its slot was given, a number has no record, confirmed or not
 abbrev pub EarlierAreGone : Registry → Type 0
 EarlierAreGone registry =
     (client later : ℕ) → IsTrue (is_earlier client later) → IsTrue (was_given later registry)
@@ -41,12 +41,12 @@ NumbersComeOnce =
     → IsGivenOnce r old
 
 -- a client is live in each slot
-abbrev pub AreAllLive : Registry → Type 0
-AreAllLive registry = (slot : ℕ) → 0 < slot → slot < SLOTS → IsTrue (is_live_slot registry slot)
+abbrev pub AreSlotsLive : Registry → Type 0
+AreSlotsLive registry = (slot : ℕ) → 0 < slot → slot < SLOTS → IsTrue (is_live_slot registry slot)
 
 -- As long as no slot's generations can be used up, there is no number for a newcomer exactly where a client is live in
 -- each slot.
-abbrev pub NoneIsLeft : Type 0
-NoneIsLeft =
+abbrev pub NoNumberIsLeft : Type 0
+NoNumberIsLeft =
     (registry : Registry) (id : List ℕ) → AreRecords registry → registry.last_confirm < GENERATIONS
-    → (choice id registry ≡ None) ↔ AreAllLive registry
+    → (choice id registry ≡ None) ↔ AreSlotsLive registry

@@ -1,5 +1,5 @@
--- The numbers of clients. There are as many slots as clients can be live at once, and a number is a generation of a slot:
--- a slot is given again when its client has gone, and a number never.
+-- The numbers of clients. A number is a generation of a slot. SLOTS is 256, and of slot 0 none is given, so 255 clients
+-- can be live at once. A slot is given again when its client has gone, and a number never.
 use Rattle.std.specs.Prelude.{ℕ, ◌+◌, ◌*◌, ◌%◌, ◌/◌, Bool, ◌&&◌, ◌==◌, nat_lt}
 use Rattle.nfs_owners.specs.declared.slots.TheConstants.{SLOTS}
 
@@ -13,7 +13,7 @@ generation_of number = number / SLOTS
 abbrev pub number_of : ℕ → ℕ → ℕ
 number_of slot generation = generation * SLOTS + slot
 
--- the second number is a later generation of the first one's slot
+-- both are of one slot, and the first is of an earlier generation
 abbrev pub is_earlier : ℕ → ℕ → Bool
 is_earlier number other =
     (slot_of number == slot_of other) && nat_lt (generation_of number) (generation_of other)

@@ -1,5 +1,5 @@
 ghost use Rattle.nfs_owners.specs.ClientLaws.{MarksKeepClients};
-ghost use Rattle.nfs_owners.specs.SlotLaws.{NoneIsLeft, NumbersComeOnce, SlotsAreApart};
+ghost use Rattle.nfs_owners.specs.SlotLaws.{NoNumberIsLeft, NumbersComeOnce, SlotsAreApart};
 
 /// The law that a mark of a client's path leaves all clients as they are, and changes nothing else of their records.
 pub fn marks_keep_clients()
@@ -19,5 +19,5 @@ pub fn numbers_come_once()
 /// The law that a newcomer finds no number exactly where a client is live in each slot, as long as no slot's generations
 /// can be used up.
 pub fn no_number_is_left()
-    ensures { NoneIsLeft }
+    ensures { NoNumberIsLeft }
 {}

@@ -58,7 +58,7 @@ impl Model for Clients {
 }
 
 impl Clients {
-    ghost use Rattle.nfs_owners.specs.Choice.{IsNextNumber, has_left, without_unconfirmed_of};
+    ghost use Rattle.nfs_owners.specs.Choice.{IsNextNumber, has_number_left, without_unconfirmed_of};
     ghost use Rattle.nfs_owners.specs.ClientChange.{with_change, with_newcomer};
     ghost use Rattle.nfs_owners.specs.ClientRoom.{FitsRecords, HasNumbersFor, HasRoomFor};
     ghost use Rattle.nfs_owners.specs.LiveClients.{IsNextLive, replaced_by, unconfirmed_of_client};
@@ -218,7 +218,7 @@ impl Clients {
     // Adds the record of a newcomer, whose number is then given. An unconfirmed record of its slot gives way.
     fn add_newcomer(&mut self, newcomer: ClientRecord)
         requires room { 0 < self.old.unconfirmed_room }
-        requires left { IsTrue (has_left self.old.registry
+        requires left { IsTrue (has_number_left self.old.registry
             (slot_of newcomer.state.client.number)) }
         requires confirm { self.old.registry.last_confirm < 2 ^ 64 - 1 }
         requires next { IsNextNumber newcomer.state.client.number self.old.registry }

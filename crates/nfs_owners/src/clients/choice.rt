@@ -2,7 +2,7 @@
 
 ghost use Rattle.std.specs.Prelude.{◌≡◌, ◌<◌, IfSome, IsTrue, find};
 ghost use Rattle.std.specs.Option.{option_copied};
-ghost use Rattle.nfs_owners.specs.Choice.{IsNextNumber, MarksSlots, can_be_given, choice, chosen_slot, client_slots, has_left, is_in_use, is_live_slot, may_give_way, next_number, without_replaced};
+ghost use Rattle.nfs_owners.specs.Choice.{IsNextNumber, MarksSlots, can_be_given, choice, chosen_slot, client_slots, has_number_left, is_in_use, is_live_slot, may_give_way, next_number, without_replaced};
 ghost use Rattle.nfs_owners.specs.Registry.{without_id};
 ghost use Rattle.nfs_owners.specs.Slots.{slot_of};
 
@@ -21,7 +21,7 @@ impl Clients {
         ensures number { result ≡ choice id.now self.now.registry }
         ensures next { IfSome result (λ number. IsNextNumber number self.now.registry) }
         ensures left { IfSome result (λ number.
-            IsTrue (has_left self.now.registry (slot_of number))) }
+            IsTrue (has_number_left self.now.registry (slot_of number))) }
     {
         // A law, for the proof alone: each record has the last number of its slot.
         self.records_are_apart();
@@ -38,7 +38,7 @@ impl Clients {
         if let Some(slot) = self.free_slot(&used) {
             return Some(slot);
         }
-        let oldest = self.oldest_to_go(&live, id)?;
+        let oldest = self.oldest_to_give_way(&live, id)?;
         Some(oldest.slot())
     }
 
@@ -75,7 +75,7 @@ impl Clients {
     }
 
     // The oldest unconfirmed record that may give way, but for the id's own one.
-    fn oldest_to_go(&self, live: &SlotMarks, id: &[u8]) -> Option<&ClientRecord>
+    fn oldest_to_give_way(&self, live: &SlotMarks, id: &[u8]) -> Option<&ClientRecord>
         requires { MarksSlots (is_live_slot self.now.registry) live.now }
         ensures { option_copied result ≡ find (may_give_way self.now.registry)
             (without_id id.now self.now.registry.unconfirmed) }
@@ -99,7 +99,7 @@ impl Clients {
     // The first number of the slot that wasn't given yet.
     fn next_number(&self, slot: u32) -> u32
         requires slot { slot < SLOTS }
-        requires left { IsTrue (has_left self.now.registry slot) }
+        requires left { IsTrue (has_number_left self.now.registry slot) }
         ensures { result ≡ next_number self.now.registry slot }
     {
         self.given[slot as usize] * SLOTS + slot

@@ -1,5 +1,5 @@
 use Rattle.std.proofs.Common.{◌≡◌, ◌∙◌, Some, true, ap, option_map, subst, sym}
-use Rattle.nfs_owners.specs.Choice.{IsNextNumber, has_left, next_number}
+use Rattle.nfs_owners.specs.Choice.{IsNextNumber, has_number_left, next_number}
 use Rattle.nfs_owners.specs.Slots.{slot_of}
 use Rattle.nfs_owners.proofs.Choosing.{is_next, slot_can}
 use Rattle.nfs_owners.proofs.clients.Clients.choose.Goals as goal
@@ -17,5 +17,5 @@ returns c =
     record {
       number = ap Some c.next_number.ensures ∙ ap (option_map (next_number registry)) c.in_ok-slot.ensures;
       next = subst (λ number. IsNextNumber number registry) (sym c.next_number.ensures) next.0;
-      left = subst (λ number. has_left registry (slot_of number) ≡ true) (sym c.next_number.ensures) next.1;
+      left = subst (λ number. has_number_left registry (slot_of number) ≡ true) (sym c.next_number.ensures) next.1;
     }

@@ -7,8 +7,8 @@ use Rattle.nfs_owners.specs.Slots.{slot_of}
 use Rattle.nfs_owners.specs.declared.client_record.ClientRecord.{ClientRecord}
 use Rattle.nfs_owners.proofs.Choosing.{found_oldest, goes, goes_by_marks}
 use Rattle.nfs_owners.proofs.Lists.{find_step}
-use Rattle.nfs_owners.proofs.clients.Clients.oldest_to_go.Goals as goal
-use Rattle.nfs_owners.proofs.clients.Clients.oldest_to_go.Goals.{else-not-is_of-via-then-not-is_of+else-can_be_given, else-not-is_of-via-else-not-is_of}
+use Rattle.nfs_owners.proofs.clients.Clients.oldest_to_give_way.Goals as goal
+use Rattle.nfs_owners.proofs.clients.Clients.oldest_to_give_way.Goals.{else-not-is_of-via-then-not-is_of+else-can_be_given, else-not-is_of-via-else-not-is_of}
 
 abbrev values : List (ℕ × ClientRecord) → List ClientRecord
 values items = map (λ item. item.1) items

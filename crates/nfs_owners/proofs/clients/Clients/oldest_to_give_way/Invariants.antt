@@ -1,6 +1,6 @@
 use Rattle.std.proofs.Common.{◌≡◌, find, map}
 use Rattle.nfs_owners.proofs.Choosing.{goes}
-use Rattle.nfs_owners.proofs.clients.Clients.oldest_to_go.Given as goal
+use Rattle.nfs_owners.proofs.clients.Clients.oldest_to_give_way.Given as goal
 
 -- the first that goes of those that are left is the first of all
 abbrev pub invariant-loop-record : goal.invariant-loop-record
