@@ -1,5 +1,5 @@
 -- What a call changes in the clients' records.
-use Rattle.std.specs.Prelude.{◌+◌, [], ◌∷◌, ◌++◌, slice_set}
+use Rattle.std.specs.Prelude.{ℕ, ◌+◌, [], ◌∷◌, ◌++◌, Option, Some, None, slice_set}
 use Rattle.nfs_owners.specs.declared.client_record.ClientRecord.{ClientRecord}
 use Rattle.nfs_owners.specs.declared.clients.client_change.ClientChange.{ClientChange}
 use Rattle.nfs_owners.specs.declared.clients.client_change.ClientChange.TheVariants as changes
@@ -37,3 +37,12 @@ with_change (changes.Updates r) old =
 with_change (changes.Confirms r) old = with_confirmed r old
 with_change (changes.Refreshes r) old = with_confirmed r old
 with_change (changes.Replaces r client) old = with_confirmed r old
+
+-- the number that the change gives, if it gives one
+abbrev pub given_by : ClientChange → Option ℕ
+given_by changes.Nothing = None
+given_by (changes.Arrives r) = Some r.state.client.number
+given_by (changes.Updates r) = None
+given_by (changes.Confirms r) = None
+given_by (changes.Refreshes r) = None
+given_by (changes.Replaces r client) = None

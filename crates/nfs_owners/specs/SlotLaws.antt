@@ -1,13 +1,12 @@
 -- What the slots of clients' numbers make sure of.
-use Rattle.std.specs.Prelude.{◌≡◌, ℕ, ◌<◌, ◌↔◌, IsFalse, IsTrue, List, None}
+use Rattle.std.specs.Prelude.{◌≡◌, ◌⊎◌, ℕ, ◌<◌, ◌↔◌, IsFalse, IsTrue, List, Some, None}
 use Rattle.std.specs.List.{list_any}
 use Rattle.nfs_owners.specs.Choice.{choice, is_live_slot}
-use Rattle.nfs_owners.specs.ClientChange.{with_newcomer}
+use Rattle.nfs_owners.specs.ClientChange.{given_by, with_change}
 use Rattle.nfs_owners.specs.ClientRoom.{FitsRecords}
-use Rattle.nfs_owners.specs.Registry.{AreRecords, Registry, is_live, is_of_client, was_given}
+use Rattle.nfs_owners.specs.Registry.{AreRecords, Registry, is_live, is_of_client, was_given, without_client}
 use Rattle.nfs_owners.specs.Slots.{is_earlier, slot_of}
-use Rattle.nfs_owners.specs.declared.client_record.ClientRecord.{ClientRecord}
-use Rattle.nfs_owners.specs.declared.clients.client_change.ClientChange.TheVariants as changes
+use Rattle.nfs_owners.specs.declared.clients.client_change.ClientChange.{ClientChange}
 use Rattle.nfs_owners.specs.declared.slots.TheConstants.{GENERATIONS, SLOTS}
 
 -- no two live clients have one slot
@@ -27,18 +26,19 @@ abbrev pub SlotsAreApart : Type 0
 SlotsAreApart =
     (registry : Registry) → AreRecords registry → LiveSlotsDiffer registry × EarlierAreGone registry
 
--- The number of a newcomer that fits the records wasn't given before, and is given then; and what was given before stays
--- given.
-pub record IsGivenOnce (r : ClientRecord) (old : Registry) : Type 0 where
-  pub fresh : IsFalse (was_given r.state.client.number old)
-  pub given : IsTrue (was_given r.state.client.number (with_newcomer r old))
-  pub stays : (number : ℕ) → IsTrue (was_given number old)
-      → IsTrue (was_given number (with_newcomer r old))
+-- The change gives no number that was given before, and just the one that it gives comes to those that were given.
+pub record GivesOnce (change : ClientChange) (old : Registry) : Type 0 where
+  pub fresh : (number : ℕ) → given_by change ≡ Some number → IsFalse (was_given number old)
+  pub given : (number : ℕ) → IsTrue (was_given number (with_change change old))
+      ↔ (IsTrue (was_given number old) ⊎ (given_by change ≡ Some number))
 
+-- Each change that fits the records gives a number once, and who is removed leaves what was given.
 abbrev pub NumbersComeOnce : Type 0
 NumbersComeOnce =
-    (r : ClientRecord) (old : Registry) → AreRecords old → FitsRecords (changes.Arrives r) old
-    → IsGivenOnce r old
+    ((change : ClientChange) (old : Registry) → AreRecords old → FitsRecords change old
+    → GivesOnce change old)
+    × ((client number : ℕ) (old : Registry)
+    → was_given number (without_client client old) ≡ was_given number old)
 
 -- a client is live in each slot
 abbrev pub AreSlotsLive : Registry → Type 0

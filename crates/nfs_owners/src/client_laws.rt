@@ -11,7 +11,8 @@ pub fn slots_are_apart()
     ensures { SlotsAreApart }
 {}
 
-/// The law that a number which is given was never given before.
+/// The law that by a change just the number that it gives comes to those that were given, which wasn't given before; and
+/// that who is removed leaves what was given.
 pub fn numbers_come_once()
     ensures { NumbersComeOnce }
 {}
