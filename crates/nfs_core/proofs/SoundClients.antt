@@ -171,10 +171,10 @@ before_newcomer r old =
 -- it holds of all records that stay, which have other slots
 pub each_before : (P Q : ClientRecord → Type 0) (r : ClientRecord) (old : Registry) → is_live_slot old (slot_of r.state.client.number) ≡ false
     → ((s : ClientRecord) → P s → has_slot (slot_of r.state.client.number) s ≡ false → Q s) → EachRecord P old → EachRecord Q (before_newcomer r old)
-each_before P Q r old alone keeps h =
+each_before P Q r old none_live keeps h =
     let has : ClientRecord → Bool = has_slot (slot_of r.state.client.number) in (
       all_weaken (λ s. P s × (has s ≡ false)) Q (λ s both. keeps s both.0 both.1) old.confirmed
-          (all_both P (λ s. has s ≡ false) old.confirmed h.0 (none_passes has old.confirmed alone)),
+          (all_both P (λ s. has s ≡ false) old.confirmed h.0 (none_passes has old.confirmed none_live)),
       all_filter P Q (λ s. not (has s)) (λ s k other. keeps s k (not-true (has s) other)) old.unconfirmed h.1,
     )
 
@@ -198,7 +198,7 @@ singles_before r old ready h =
     let slot = slot_of r.state.client.number in
     let has : ClientRecord → Bool = has_slot slot in
     let new = before_newcomer r old in
-    let alone = ready.0.alone in
+    let none_live = ready.0.alone in
     let last = old.last_confirm in
     record {
       slots = length-set old.given slot (given_of old slot + 1) ∙ h.slots;
@@ -206,9 +206,9 @@ singles_before r old ready h =
           (omega (arith, count_within last old.given slot h.values));
       confirmed = h.confirmed;
       unconfirmed = distinct_filter have_same_id (λ s. not (has s)) old.unconfirmed h.unconfirmed;
-      same = each_before (λ a. EachRecord (HasSameId a) old) (λ a. EachRecord (HasSameId a) new) r old alone
-          (λ a row _. each_before (HasSameId a) (HasSameId a) r old alone (λ s k _. k) row) h.same;
-      given = each_before (HasLastNumber old.given) (HasLastNumber (counted old.given slot)) r old alone
+      same = each_before (λ a. EachRecord (HasSameId a) old) (λ a. EachRecord (HasSameId a) new) r old none_live
+          (λ a row _. each_before (HasSameId a) (HasSameId a) r old none_live (λ s k _. k) row) h.same;
+      given = each_before (HasLastNumber old.given) (HasLastNumber (counted old.given slot)) r old none_live
           (λ s k other. last_elsewhere old.given slot s.state.client.number (eqb-false (slot_of s.state.client.number) slot other) k) h.given;
     }
 

@@ -4,6 +4,7 @@ pub mod Numbering
 pub mod Choosing
 pub mod SlotMarks
 pub mod SlotsApart
+pub mod GivingWay
 pub mod OwnerLists
 pub mod RecordRows
 pub mod LiveNumbers

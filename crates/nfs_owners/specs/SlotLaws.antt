@@ -1,12 +1,14 @@
 -- What the slots of clients' numbers make sure of.
-use Rattle.std.specs.Prelude.{◌≡◌, ◌⊎◌, ℕ, ◌<◌, ◌↔◌, IsFalse, IsTrue, List, Some, None}
+use Rattle.std.specs.Prelude.{◌≡◌, ◌⊎◌, ℕ, ◌<◌, ◌↔◌, Bool, ◌&&◌, not, IsFalse, IsTrue, List, [], filter, find, Some, None, is_some, option_to_list, if◌then◌else◌}
 use Rattle.std.specs.List.{list_any}
-use Rattle.nfs_owners.specs.Choice.{choice, is_live_slot}
-use Rattle.nfs_owners.specs.ClientChange.{given_by, with_change}
+use Rattle.nfs_owners.specs.Choice.{choice, free_slot, has_slot, is_live_slot, may_give_way, without_replaced}
+use Rattle.nfs_owners.specs.ClientChange.{given_by, with_change, with_newcomer}
 use Rattle.nfs_owners.specs.ClientRoom.{FitsRecords}
-use Rattle.nfs_owners.specs.Registry.{AreRecords, Registry, is_live, is_of_client, was_given, without_client}
+use Rattle.nfs_owners.specs.Registry.{AreRecords, Registry, is_live, is_of, is_of_client, was_given, without_client}
 use Rattle.nfs_owners.specs.Slots.{is_earlier, slot_of}
+use Rattle.nfs_owners.specs.declared.client_record.ClientRecord.{ClientRecord}
 use Rattle.nfs_owners.specs.declared.clients.client_change.ClientChange.{ClientChange}
+use Rattle.nfs_owners.specs.declared.clients.client_change.ClientChange.TheVariants as changes
 use Rattle.nfs_owners.specs.declared.slots.TheConstants.{GENERATIONS, SLOTS}
 
 -- no two live clients have one slot
@@ -50,3 +52,31 @@ abbrev pub NoNumberIsLeft : Type 0
 NoNumberIsLeft =
     (registry : Registry) (id : List ℕ) → AreRecords registry → registry.last_confirm < GENERATIONS
     → (choice id registry ≡ None) ↔ AreSlotsLive registry
+
+-- The unconfirmed records that give way to a newcomer with this id: none where a slot is free, and else the oldest of the
+-- other ids' that may.
+abbrev pub giving_way : List ℕ → Registry → List ClientRecord
+giving_way id registry =
+    let others = without_replaced id registry in
+    if is_some (free_slot others)
+    then []
+    else option_to_list (find (may_give_way others) others.unconfirmed)
+
+-- Of the unconfirmed records of other ids just those have the slot that a newcomer gets: one at most.
+abbrev pub OneGivesWay : Type 0
+OneGivesWay =
+    (id : List ℕ) (registry : Registry) (number : ℕ) → AreRecords registry
+    → choice id registry ≡ Some number
+    → filter (has_slot (slot_of number)) (without_replaced id registry).unconfirmed
+    ≡ giving_way id registry
+
+-- the record has another id, and a live client's number, so it is an update of that client
+abbrev pub is_others_update : List ℕ → Registry → ClientRecord → Bool
+is_others_update id registry r = not (is_of id r) && is_live r.state.client.number registry
+
+-- a newcomer leaves the unconfirmed updates of other ids' clients
+abbrev pub UpdatesStay : Type 0
+UpdatesStay =
+    (r : ClientRecord) (old : Registry) → FitsRecords (changes.Arrives r) old
+    → filter (is_others_update r.id old) (with_newcomer r old).unconfirmed
+    ≡ filter (is_others_update r.id old) old.unconfirmed

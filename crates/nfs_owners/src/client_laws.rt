@@ -1,5 +1,5 @@
 ghost use Rattle.nfs_owners.specs.ClientLaws.{MarksKeepClients};
-ghost use Rattle.nfs_owners.specs.SlotLaws.{NoNumberIsLeft, NumbersComeOnce, SlotsAreApart};
+ghost use Rattle.nfs_owners.specs.SlotLaws.{NoNumberIsLeft, NumbersComeOnce, OneGivesWay, SlotsAreApart, UpdatesStay};
 
 /// The law that a mark of a client's path leaves all clients as they are, and changes nothing else of their records.
 pub fn marks_keep_clients()
@@ -21,4 +21,15 @@ pub fn numbers_come_once()
 /// can be used up.
 pub fn no_number_is_left()
     ensures { NoNumberIsLeft }
+{}
+
+/// The law that of other ids' unconfirmed records only one gives way to a newcomer, the oldest that may, and none where a
+/// slot is free.
+pub fn one_gives_way()
+    ensures { OneGivesWay }
+{}
+
+/// The law that a newcomer leaves the unconfirmed records of other ids that have a live client's number.
+pub fn updates_stay()
+    ensures { UpdatesStay }
 {}
