@@ -1,13 +1,12 @@
 -- The laws of records that give way.
-use Rattle.std.proofs.Common.{◌≡◌, ℕ, ◌+◌, ◌<◌, Bool, true, false, not, cond, ◌&&◌, ◌==◌, List, [], ◌∷◌, ◌++◌, Option, Some, None, filter, find, is_some, option_map, inl, inr, refl, sym, ap, ◌∙◌, subst, arith, true≢false}
+use Rattle.std.proofs.Common.{◌≡◌, ℕ, ◌<◌, Bool, true, false, not, cond, ◌&&◌, ◌==◌, List, [], ◌∷◌, ◌++◌, Option, Some, None, filter, find, is_some, option_map, inl, inr, refl, sym, ap, ◌∙◌, subst, arith, true≢false}
 use Rattle.std.specs.Prelude.{if◌then◌else◌, option_to_list}
 use Rattle.std.specs.List.{AllByRecursion, IsDistinct, list_any}
-use Rattle.std.proofs.lemmas.Bool.{and_from, and_parts, cases_Bool, cond-false, cond-true, eq-eqb, eqb-true, false_from_ne_true, not-true, not_from_false, or_parts}
+use Rattle.std.proofs.lemmas.Bool.{and_parts, cases_Bool, cond-false, cond-true, eq-eqb, eqb-true, false_from_ne_true, not-true, not_from_false, or_parts}
 use Rattle.std.proofs.lemmas.List.{append-nil}
 use Rattle.std.proofs.lemmas.List.Elements.{filter-append}
 use Rattle.std.proofs.lemmas.Slice.Eq.{bytes_eq-Decides}
-use Rattle.nfs_owners.specs.Choice.{IsNextNumber, choice, chosen_slot, client_slots, free_slot, has_number_left, has_slot, is_free, is_in_use, is_live_slot, may_give_way, next_number, without_replaced}
-use Rattle.nfs_owners.specs.ClientChange.{with_newcomer}
+use Rattle.nfs_owners.specs.Choice.{chosen_slot, client_slots, free_slot, has_number_left, has_slot, is_free, is_in_use, is_live_slot, may_give_way, next_number, without_replaced}
 use Rattle.nfs_owners.specs.Registry.{AreRecords, HasOwnNumber, Registry, have_same_id, is_live, is_of, is_of_client, takes_number, without_id}
 use Rattle.nfs_owners.specs.SlotLaws.{OneGivesWay, UpdatesStay, giving_way, is_others_update}
 use Rattle.nfs_owners.specs.Slots.{slot_of}
