@@ -1,5 +1,9 @@
 pub mod Lists
 pub mod ClientLists
+pub mod Numbering
+pub mod Choosing
+pub mod SlotMarks
+pub mod SlotsApart
 pub mod OwnerLists
 pub mod RecordRows
 pub mod LiveNumbers

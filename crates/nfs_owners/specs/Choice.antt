@@ -33,19 +33,24 @@ pub record IsNextNumber (number : ℕ) (registry : Registry) : Type 0 where
   pub next : generation_of number ≡ given_of registry (slot_of number)
   pub vacant : IsFalse (is_live_slot registry (slot_of number))
 
--- the slot can be given, as no record has it
+-- no record has the slot, and it has a number left
 abbrev pub is_free : Registry → ℕ → Bool
 is_free registry slot = not (is_in_use registry slot) && has_left registry slot
 
--- The unconfirmed record may give way to a newcomer, who gets its slot: its number isn't a live client's.
+-- The unconfirmed record may give way to a newcomer, who gets its slot: its number isn't a live client's, and the slot
+-- has a number left.
 abbrev pub may_give_way : Registry → ClientRecord → Bool
 may_give_way registry r =
     not (is_live r.state.client.number registry)
     && has_left registry (slot_of r.state.client.number)
 
--- The least slot that is free, if one is.
+-- the slots of which numbers are given
+unfoldable pub client_slots : List ℕ
+client_slots = range_with_len 1 (SLOTS - 1)
+
+-- the least slot that is free, if one is
 abbrev pub free_slot : Registry → Option ℕ
-free_slot registry = find (is_free registry) (range_with_len 1 (SLOTS - 1))
+free_slot registry = find (is_free registry) client_slots
 
 -- the slot of the oldest record that may give way, if one may
 abbrev pub slot_given_up : Registry → Option ℕ
@@ -63,18 +68,27 @@ abbrev pub without_replaced : List ℕ → Registry → Registry
 without_replaced id registry =
     record registry { unconfirmed = without_id id registry.unconfirmed }
 
--- The number that a newcomer with this id is given: the next one of the least slot that is free, and else of the slot
--- of the oldest record that may give way. The id's own unconfirmed record has left by then.
-abbrev pub choice : List ℕ → Registry → Option ℕ
-choice id registry =
+-- The slot that a newcomer with this id is given: the least one that is free, and else that of the oldest record that
+-- may give way. The id's own unconfirmed record has left by then.
+abbrev pub chosen_slot : List ℕ → Registry → Option ℕ
+chosen_slot id registry =
     let left = without_replaced id registry in
-    option_map (next_number left) (first_or (free_slot left) (slot_given_up left))
+    first_or (free_slot left) (slot_given_up left)
+
+-- the number that the newcomer is given: the next one of that slot
+abbrev pub choice : List ℕ → Registry → Option ℕ
+choice id registry = option_map (next_number registry) (chosen_slot id registry)
 
 -- the unconfirmed records without those of this slot
 abbrev pub without_unconfirmed_of : ℕ → Registry → Registry
 without_unconfirmed_of slot registry = record registry {
   unconfirmed = filter (λ r. not (has_slot slot r)) registry.unconfirmed;
 }
+
+-- the slot has no mark, and a number left
+abbrev pub can_be_given : List Bool → Registry → ℕ → Bool
+can_be_given marks registry slot =
+    not (slice_index_or marks slot false) && has_left registry slot
 
 -- for each slot, whether it passes the test
 abbrev pub MarksSlots : (ℕ → Bool) → List Bool → Type 0

@@ -32,10 +32,6 @@ is_unknown marks.Down = false
 abbrev pub has_unknown_path : ClientRecord → Bool
 has_unknown_path r = is_unknown r.state.path
 
--- the record is of the client with this number, and nothing is known of the client's path
-abbrev pub is_unknown_of : ℕ → ClientRecord → Bool
-is_unknown_of number r = is_of_client number r && has_unknown_path r
-
 -- Of the live clients of whose paths nothing is known, the one with the least number above this one, by what its
 -- confirmed record has; or that there is none.
 abbrev pub IsNextUnknown : ℕ → Registry → Option ClientState → Type 0

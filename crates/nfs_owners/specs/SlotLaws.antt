@@ -1,5 +1,5 @@
 -- What the slots of clients' numbers make sure of.
-use Rattle.std.specs.Prelude.{◌≡◌, ℕ, ◌<◌, ◌×◌, ◌↔◌, IsFalse, IsTrue, List, None}
+use Rattle.std.specs.Prelude.{◌≡◌, ℕ, ◌<◌, ◌↔◌, IsFalse, IsTrue, List, None}
 use Rattle.std.specs.List.{list_any}
 use Rattle.nfs_owners.specs.Choice.{choice, is_live_slot}
 use Rattle.nfs_owners.specs.ClientChange.{with_newcomer}

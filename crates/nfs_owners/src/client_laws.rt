@@ -17,7 +17,7 @@ pub fn numbers_come_once()
 {}
 
 /// The law that a newcomer finds no number exactly where a client is live in each slot, as long as no slot's generations
-/// are used up.
+/// can be used up.
 pub fn no_number_is_left()
     ensures { NoneIsLeft }
 {}
