@@ -117,6 +117,7 @@ impl LeaseBook for PlainLeases {
 
     fn retire(&mut self, client: u32) {
         let last = self.places[slot_of(client) as usize].generation;
+        // Where a later one of its slot was opened, the lease has ended.
         if last <= generation_of(client) {
             put(&mut self.places, client, LeaseState::Closed);
         }
