@@ -26,9 +26,9 @@ class Borrower(Client):
         super().__init__(peer, uid)
         self.uid, self.callback = None if is_nobody else uid, None
 
-    def introduce(self, callback):
+    def introduce(self, callback, verifier=VERIFIER):
         """SETCLIENTID with this callback, and SETCLIENTID_CONFIRM; also once more, with another one."""
-        found = self.ask(words(SETCLIENTID) + setclientid_bytes(Setclientid(VERIFIER, self.name, callback)))
+        found = self.ask(words(SETCLIENTID) + setclientid_bytes(Setclientid(verifier, self.name, callback)))
         if len(found) < 15:
             raise Wrong(f"{self.name} gets {self.got[-1].hex(' ', 4)} for SETCLIENTID")
         self.number, confirm, self.callback = found[12], found[14], callback

@@ -4,12 +4,14 @@ Nobody knows in which order the connections are served, so the calls can't be ma
 order: the connection that comes alone makes clients, opens and lock states, whose numbers are therefore known. Each of
 the others has open owners and lock owners of its own, and guesses what comes of its calls: in ranges that nobody else
 locks, nearly all of them succeed. Other calls meet each other. Files that are lent have other owners, whose calls go by
-no state: some give delegations, some call them back, and some come by them or give them back."""
+no state: some give delegations, some call them back, and some come by them or give them back. One of the connections
+has a client come and end and come again, whose number is of one of few slots."""
 import random
 from collections import namedtuple
 from dataclasses import dataclass, field
 
 from messages import call, COMPOUND, handle, setclientid, split
+from states import SLOTS
 from tree import DEFAULT
 from wire import Opnum, opaque, u32, u64
 
@@ -26,6 +28,9 @@ FADING = {9: "renew", 10: "lockt", 11: "release", 12: "open", 13: "open_confirm"
 FADE = 5
 # How many clients the connection makes that comes alone.
 MADE = max(FADING)
+# How often a client comes that begins anew each time; and the first of the two slots between which it goes: behind
+# those of all clients, or, once these have ended, that of the first client which nobody uses.
+VISITS, BEHIND, UNUSED = 10, MADE + 1, CLIENTS + 1
 VERIFIER = b"verifier"
 READ, WRITE, BOTH = 1, 2, 3
 # The nodes of the tree's files, with their paths. Several clients always have these open for writing, so that none of
@@ -208,9 +213,9 @@ class Link:
         makers = {
             self.lock: 8, self.locku: 5, self.lockt: 4, self.lock_common: 2, self.lock_of_new_owner: 3, self.open: 4,
             self.open_denying: 1, self.open_downgrade: 2, self.open_confirm: 1, self.close: 0.4, self.again: 1,
-            self.renew: 2, self.fading: 5, self.release: 3, self.setclientid: 1, self.setclientid_anew: 0.3,
-            self.on_tree: 3, self.getattr: 2, self.guess: 2, self.lock_of_other: 1, self.open_lent: 3, self.call_back: 2,
-            self.claim: 0.5, self.give_back: 0.5, self.read: 3, self.write: 3, self.transfer_lent: 1}
+            self.renew: 2, self.fading: 5, self.release: 3, self.confirm: 1, self.on_tree: 3, self.getattr: 2,
+            self.guess: 2, self.lock_of_other: 1, self.open_lent: 3, self.call_back: 2, self.claim: 0.5,
+            self.give_back: 0.5, self.read: 3, self.write: 3, self.transfer_lent: 1}
         for _ in range(self.count):
             self.chance.choices(list(makers), makers.values())[0]()
         self.bytes = compounds(self.chunks, self.chance, [None] * 15 + [5])
@@ -439,18 +444,11 @@ class Link:
             "next_lock": u32(Opnum.LOCK, READ, 0) + span(0, 1) + u32(0) + state + u32(2)}[kind]
         self.add(putfh(1), operation, may_fail=True)
 
-    def setclientid(self):
-        """Of a client that is known, whose number stays; and guesses of the value that confirms it."""
-        number, value = self.chance.randint(1, CLIENTS), MADE + 1 + len(self.chunks)
-        self.add(setclientid(VERIFIER, b"client %d" % number), may_fail=True)
-        for _ in range(4):
-            self.add(confirm(number, value + self.chance.randint(-8, 8)), may_fail=True)
-
-    def setclientid_anew(self):
-        """Of a client that is new, or comes again with another verifier."""
-        number = self.chance.choice([1, 100, 101, 102])
-        self.add(setclientid(b"verified", b"client %d" % number), may_fail=True)
-        self.add(confirm(MADE + self.chance.randint(1, 20), MADE + 1 + len(self.chunks)), may_fail=True)
+    def confirm(self):
+        """A client of the visitor's: a guess of its number, and of the value that confirms it."""
+        visit = self.chance.randint(1, VISITS)
+        number = self.chance.choice([*numbers_of(visit), *range(1, CLIENTS + 1)])
+        self.add(confirm(number, MADE + self.chance.randint(1, 2 * VISITS)), may_fail=True)
 
     def on_tree(self):
         self.add(*self.chance.choice([
@@ -461,6 +459,30 @@ class Link:
 
     def getattr(self):
         self.add(putfh(self.chance.randint(0, 4)), u32(Opnum.GETATTR, 1, 0x100012), u32(Opnum.GETFH))
+
+
+def numbers_of(visit):
+    """Those that the visitor may have then: where all its visits were behind the other clients, and where those from a
+    later one on are in slots whose clients have ended."""
+    behind = BEHIND + (visit - 1) % 2 + SLOTS * ((visit - 1) // 2)
+    return [behind] + [UNUSED + turn % 2 + SLOTS * (1 + turn // 2) for turn in range(visit)]
+
+
+class Visitor:
+    """The connection by which a client comes again and again, each time with another verifier, so that it takes its own
+    place; and by which others have their callbacks confirmed anew. Nobody else asks for a confirm value."""
+
+    def __init__(self, chance):
+        chunks, value = [], MADE
+        for visit in range(1, VISITS + 1):
+            value, numbers = value + 1, numbers_of(visit)
+            chunks.append(([setclientid(u64(visit), b"visitor")], True))
+            chunks += [([confirm(number, value)], True) for number in numbers]
+            # The one that it has, and those that have ended.
+            chunks += [([u32(Opnum.RENEW, EPOCH, number)], True) for number in chance.sample(numbers, 2)]
+            value, known = value + 1, chance.randint(1, CLIENTS)
+            chunks.append(([setclientid(VERIFIER, b"client %d" % known), confirm(known, value)], True))
+        self.bytes = compounds(chunks, chance)
 
 
 class Plan:
@@ -474,6 +496,7 @@ class Plan:
         # After so many calls of the one that comes alone the others begin at this moment.
         self.moment = len(split(self.first)[0]) // PACE
         self.others = [self.link(place, first, chance).bytes for place in range(LINKS)]
+        self.others[0] = Visitor(chance).bytes
         # The last two send the same.
         self.others[-1] = self.others[-2]
 

@@ -8,7 +8,7 @@ import messages  # It makes the model's modules known.
 from entries import Call, Expire, MOMENT_LIMIT, Revoke
 from journal import states
 from model import Server
-from states import Refusal, Result
+from states import Refusal, Result, slot_of
 from wire import Opnum, Status, split_records, u32
 
 
@@ -142,6 +142,19 @@ class Judge:
                 for client in (before & {server.renewed_by(entry.opnum, entry.arguments)}) | (after - before):
                     heard.setdefault(client, []).append(entry.moment)
         self.expect_order()
+
+    def expect_numbers(self):
+        """No client is given a number that one had before it, and no two that are live have one slot."""
+        numbers = set()
+        for entry, before, after in zip(self.journal.entries, self.lives, self.lives[1:]):
+            if len({slot_of(number) for number in after}) < len(after):
+                raise Wrong(f"two clients have one slot after {entry}")
+            if not isinstance(entry, Call) or (entry.opnum, entry.answer.status) != (Opnum.SETCLIENTID, Status.OK):
+                continue
+            number = int.from_bytes(entry.answer.rest[4:8], "big")
+            if number in numbers - before:
+                raise Wrong(f"client {number} is given again by {entry}")
+            numbers.add(number)
 
     def expect_end(self, end, heard):
         """The client was heard of at the moment that it was seen last, by a call with an entry or by RENEW, and at none

@@ -16,7 +16,6 @@ USUAL = "OPEN+CLOSE,LOCK+LOCKU,LOCKT,READ"
 ROWS = [
     Times(f"{USUAL},SETCLIENTID+CONFIRM", "clients=250", 1.15),
     Times(USUAL, "lenders=250", 1.15),
-    Times(USUAL, "clients=4000", 1.15),
     Times("OPEN+CLOSE,CLOSE-again,CLOSE-of-nothing", "owners=10000", 1.15),
     Times("LOCK+LOCKU", "locks=1000", 1.15),
     Times("OPEN+CLOSE", "opens=10000", 1.3),

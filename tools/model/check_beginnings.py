@@ -91,7 +91,7 @@ def check_faults():
         if (growing.fault, growing.is_whole()) != (fault, False):
             wrong.append(f"a beginning with {name}: {growing.fault}, not {fault}")
     try:
-        Growing().take(b"NFSJRN02")
+        Growing().take(b"NFSJRN01")
         wrong.append("a beginning of another version is read")
     except NotJournal:
         pass

@@ -10,7 +10,7 @@ from wire import (CLAIM_DELEGATE_CUR, CLAIM_PREVIOUS, EXCLUSIVE4, NewLocker, OPE
                   OPEN_DELEGATE_WRITE, Opnum, READ_LT, Status, Unreadable, bitmap, opaque, read_lock_owner,
                   read_stateid, u32, u64)
 
-MOMENT_LIMIT = 2**40
+MOMENT_LIMIT = 2**40 - 2
 
 # The statuses that an answer may have.
 STATUSES = set(Status)
@@ -212,7 +212,7 @@ def answer_bytes(answer):
 def read_moment(reader):
     moment = reader.u64()
     if moment >= MOMENT_LIMIT:
-        raise NotJournal("a moment of 2^40 or more")
+        raise NotJournal("a moment of 2^40 - 2 or more")
     return moment
 
 

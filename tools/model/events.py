@@ -1,7 +1,7 @@
 """What entries of a journal do about delegations: which they give, and which of them end; and the marks of clients'
 paths, by which clients get any. What stands in the way of an operation is told as its reason, by `reasons.py`."""
 from entries import Call, Path, Revoke, delegation_given
-from words import place_words, purpose_of
+from words import client_words, place_words, purpose_of
 
 
 class Events:
@@ -28,7 +28,7 @@ class Events:
                 yield self.end_words(found, entry)
         if isinstance(entry, Path):
             was, since = self.path
-            yield f"the path of client {entry.client} was {was} since {self.server.entry_words(since)}"
+            yield f"the path of {client_words(entry.client)} was {was} since {self.server.entry_words(since)}"
 
     def delegation_words(self, found):
         place = place_words(found.file, self.server.tree)
@@ -36,18 +36,19 @@ class Events:
 
     def gift_words(self, number, state):
         found, begun = self.server.given[state], self.server.begun[state]
+        client, delegation = client_words(found.client), self.delegation_words(found)
         if begun == number:
-            return f"client {found.client} gets {self.delegation_words(found)}"
-        return f"client {found.client} is told again of {self.delegation_words(found)}, which entry {begun} gave it"
+            return f"{client} gets {delegation}"
+        return f"{client} is told again of {delegation}, which entry {begun} gave it"
 
     def end_words(self, found, entry):
         """How a delegation ends by the entry."""
-        client = found.client
-        ended = f"client {client} gives back {self.delegation_words(found)}"
+        client, delegation = client_words(found.client), self.delegation_words(found)
+        ended = f"{client} gives back {delegation}"
         if isinstance(entry, Revoke):
-            ended = f"client {client} loses {self.delegation_words(found)}, as it is revoked"
-        elif not self.server.is_live(client):
-            ended = f"client {client} loses {self.delegation_words(found)}, as the client is removed"
+            ended = f"{client} loses {delegation}, as it is revoked"
+        elif not self.server.is_live(found.client):
+            ended = f"{client} loses {delegation}, as the client is removed"
         since = self.server.recalled.get(found.number)
         if since is None:
             return f"{ended}; it wasn't called back"

@@ -1,7 +1,7 @@
 #!/usr/bin/env python3
-"""fuzz.py [PROGRAM] [--seed N] [--changes N] [--calls N] [--jobs N]: random calls to a built `rows`, and between them
-orders: sweeps, marks of paths, revocations, and recalls that are taken. Replies, outcomes and the journal are compared
-with the model's, until so many LOCKs and LOCKUs were OK.
+"""fuzz.py [PROGRAM] [--seed N] [--changes N] [--calls N] [--jobs N] [--ids N]: random calls to a built `rows`, and
+between them orders: sweeps, marks of paths, revocations, and recalls that are taken. Replies, outcomes and the journal
+are compared with the model's, until so many LOCKs and LOCKUs were OK.
 
 Each run is one server and one connection. In a third of the runs most operations are LOCK, LOCKU and LOCKT, of a few
 lock owners of two clients, at the first and the last bytes; in another third most are OPEN, CLOSE and DELEGRETURN of
@@ -9,7 +9,10 @@ three clients, which get delegations and are called back; and in the last READ a
 those of what these clients have, at the first bytes, round the size, and at the most that a file has. The other
 operations with a rule come too. Each operation is made when the model comes to it, so that most of them name what is
 there by then; some are a little off, and some are an earlier one again. At a difference the steps that lead to it are
-printed as a row, without those that it needs not, and the status is 1."""
+printed as a row, without those that it needs not, and the status is 1.
+
+With --ids clients of so many ids come, of which many aren't confirmed: with 300 all slots of clients are taken, again
+and again."""
 import argparse
 import multiprocessing
 import os
@@ -26,16 +29,20 @@ from check_rows import outcome_of
 from driver import ALONE, PROGRAM, SHARED
 from entries import Expire, Path, Revoke as Revocation
 from journal import Recorder, journal_bytes
+from model import CLIENTS_LIMIT
 from ranges import ALL_ONES, LAST_BYTE
 from rows import Mark, Part, Pending, Probe, Revoke, Row, Sweep, Take
 from running import WHOLE, run as run_row
-from states import Delegation, LockState, handle_of, next_sequence_id
+from states import Delegation, LockState, Refusal, SLOTS, handle_of, next_sequence_id
 from tree import DEFAULT, TEXT_LIMIT, Tree
 from wire import Opnum, Status, opaque, u32, u64
 
 NAMES = [b"a", b"b", b"d", b"c", b"e", b"", b"x" * 256]
 FILES = [1, 1, 1, 2]
-CLIENTS = [b"c1", b"c2", b"c3"]
+# How many ids of clients there are, if nothing else is said, and in runs of locks.
+IDS, LOCKING_IDS = 3, 2
+# How many come one behind the other, where there are more ids.
+NEWCOMERS = 32
 OPEN_OWNERS = [b"A", b"B"]
 LOCK_OWNERS = [b"x", b"y", b"xa", b"A"]
 # The ends of ranges.
@@ -47,9 +54,10 @@ DATA_ROOM = 150_000
 LETTERS = 2000
 # What most operations of a run are.
 LOCKING, LENDING, WRITING = range(3)
-# What is counted besides the operations: delegations by their type, and entries of the journal.
+# What is counted besides the operations: delegations by their type, entries of the journal, and slots of clients.
 LENT = {1: "delegations for reading", 2: "delegations for writing"}
 WHAT = {Expire: "clients removed", Revocation: "delegations revoked", Path: "paths marked"}
+AGAIN, YIELDED, NONE_LEFT = "slots given again", "records that gave way", "newcomers without a slot"
 
 
 class Counting(Recorder):
@@ -57,7 +65,26 @@ class Counting(Recorder):
 
     def __init__(self, *given):
         super().__init__(*given)
-        self.counts = Counter()
+        # All records of clients, also those that are gone.
+        self.counts, self.introduced = Counter(), []
+
+    def setclientid(self, arguments, principal):
+        rest = super().setclientid(arguments, principal)
+        self.introduced.append(self.records[-1])
+        return rest
+
+    def new_number(self, replaced):
+        try:
+            number = super().new_number(replaced)
+        except Refusal:
+            self.counts[NONE_LEFT] += 1
+            raise
+        self.counts[AGAIN] += number >= SLOTS
+        return number
+
+    def give_way(self, record):
+        super().give_way(record)
+        self.counts[YIELDED] += 1
 
     def delegate(self, client, file, kind):
         self.counts.update([LENT[kind]] if kind in LENT else [])
@@ -70,7 +97,7 @@ class Counting(Recorder):
 
 
 class Drawn(wire.Reader):
-    """The operations of a call, each of which is made when the model comes to it."""
+    """The operations of a call, each of which is made when the model comes to it: as bytes, or by what makes them."""
 
     def __init__(self, maker):
         super().__init__(b"")
@@ -79,7 +106,8 @@ class Drawn(wire.Reader):
     def u32(self):
         if self.at == len(self.data):
             self.waiting = self.waiting or self.maker()
-            self.operations.append(self.waiting.pop(0))
+            operation = self.waiting.pop(0)
+            self.operations.append(operation() if callable(operation) else operation)
             self.data += self.operations[-1]
         return super().u32()
 
@@ -93,7 +121,7 @@ def document_of(chance):
 class Caller:
     """Makes calls and orders from what the server beside it has."""
 
-    def __init__(self, seed):
+    def __init__(self, seed, ids=IDS):
         self.chance, self.kind = random.Random(seed), seed % 3
         self.document, self.lease = document_of(self.chance), self.chance.choice([90, 90, 90, 20, 2])
         # A state that threads share isn't told all orders.
@@ -101,7 +129,14 @@ class Caller:
         self.server, self.steps, self.again, self.moment = self.new_server(), [], [], 0
         # The call that is made.
         self.drawn = None
-        self.clients = CLIENTS[:2] if self.kind == LOCKING else CLIENTS
+        self.is_crowded = ids > IDS
+        self.clients = [b"c%d" % number for number in range(1, ids + 1)]
+        if self.kind == LOCKING and not self.is_crowded:
+            self.clients = self.clients[:LOCKING_IDS]
+        self.addresses = [b"1.2.3.4.5.6"] * 4 + [b"", b"9" * 129]
+        # So many are to be live, and so many seconds may lie between a call and the next.
+        self.wanted = min(len(self.clients), self.chance.choice([CLIENTS_LIMIT, CLIENTS_LIMIT, 200, 100]))
+        self.pauses = [0] * (80 if self.is_crowded else 6) + [1, 2, self.lease // 2, self.lease // 4]
         locks = {self.lock: 36, self.locku: 18, self.lockt: 24, self.repeat: 6, self.open: 5, self.release_lockowner: 3,
                  self.close: 2, self.open_downgrade: 2, self.open_confirm: 1, self.delegreturn: 1, self.read: 1,
                  self.write: 1}
@@ -112,7 +147,8 @@ class Caller:
                   self.open_downgrade: 3, self.locku: 2, self.release_lockowner: 1, self.open_confirm: 1,
                   self.lockt: 1, self.repeat: 1, self.getattr: 4}
         self.makers = {LOCKING: locks, LENDING: lends, WRITING: writes}[self.kind]
-        often = {self.on_tree: 1, self.getattr: 1, self.setclientid: 0.3, self.setclientid_confirm: 0.3,
+        seldom = 6 if self.is_crowded else 0.3
+        often = {self.on_tree: 1, self.getattr: 1, self.setclientid: seldom, self.setclientid_confirm: seldom,
                  self.renew: 0.3}
         self.makers = often | self.makers
 
@@ -130,19 +166,21 @@ class Caller:
     def next_order(self):
         client, late = self.a_client(), self.moment + self.chance.choice([0, 1, self.lease, self.lease + 1])
         orders = [Take(bytes(4) + u32(self.chance.getrandbits(32)))] * 4 + [Mark(client, not self.is_rare(0.3))] * 2
-        orders += [Probe(self.chance.randint(0, 3))] + [Sweep(self.moment, 0, 0)] * 3 + [Sweep(late, 0, 0)] * self.is_rare(0.3)
+        orders += [Probe(self.chance.choice([0, client]))] + [Sweep(self.moment, 0, 0)] * 3
+        orders += [Sweep(late, 0, 0)] * self.is_rare(0.3)
         orders += [Revoke(late), Revoke(late), Pending(0)] * (self.way == ALONE)
         return outcome_of(self.server, self.chance.choice(orders))
 
     def next_call(self):
         """A call, at a moment that mostly is that of the one before; seldom it is an earlier one again."""
-        self.moment += self.chance.choice([0] * 6 + [1, 2, self.lease // 2, self.lease // 4])
+        self.moment += self.chance.choice(self.pauses)
         self.server.moment = max(0, self.moment - self.is_rare(0.05) * self.chance.randint(1, 9))
         calls = [step.sent for step in self.steps if isinstance(step, Part)]
         if calls and self.is_rare(0.04):
             sent = self.chance.choice(calls[-4:])
             return self.part(sent, self.server.reply(sent[4:]))
-        xid, count = len(calls) + 1, self.chance.choice([1, 2, 4, 8] if self.kind == LENDING else [1, 2, 4, 8, 24, 64])
+        is_short = self.kind == LENDING and not self.is_crowded
+        xid, count = len(calls) + 1, self.chance.choice([1, 2, 4, 8] if is_short else [1, 2, 4, 8, 24, 64])
         uid = self.chance.choice([None] * 20 + [0, 5])
         credential = u32(0, 0) if uid is None else u32(1, 20) + u32(0, 0, uid, 0, 0)
         head = u32(xid, 0, 2, wire.NFS4_PROGRAM, 4, 1) + credential + u32(0, 0) + u32(0, 0, count)
@@ -161,8 +199,8 @@ class Caller:
 
     def next_operations(self):
         """An operation, mostly after one that gives it a filehandle."""
-        if len(self.live()) < len(self.clients) and self.is_rare(0.6):
-            return self.setclientid() + self.confirm_of_client()
+        if len(self.live()) < self.wanted and self.is_rare(0.3 if self.is_crowded else 0.6):
+            return self.newcomers() if self.is_crowded else self.setclientid() + [self.confirm_of_client]
         if len(self.server.opens) < (4 if self.kind == LOCKING else 2) and self.is_rare(0.5):
             return self.open()
         makers = list(self.makers)
@@ -186,24 +224,40 @@ class Caller:
     # Clients and files.
 
     def live(self):
-        return [record.number for record in self.server.records if record.is_confirmed]
+        return list(self.server.renewals)
 
     def a_client(self):
-        return self.pick(self.live(), self.chance.randint(0, 4))
+        return self.in_slot(self.pick(self.live(), self.chance.randint(0, 4)))
+
+    def in_slot(self, number):
+        """The number, or seldom that of the client before it or behind it in its slot."""
+        return (number + self.chance.choice([SLOTS, -SLOTS]) * self.is_rare(0.02)) % 2**32
+
+    def newcomers(self):
+        """Many ids that aren't live, of which most are confirmed."""
+        live = {record.id for record in self.server.records if record.is_confirmed}
+        found = [name for name in self.clients if name not in live]
+        operations = []
+        for name in self.chance.sample(found, min(len(found), NEWCOMERS)):
+            operations += [self.introduction(name, b"verifier", self.addresses[0])]
+            operations += [self.confirm_of_client] * (not self.is_rare(0.3))
+        return operations
 
     def confirm_of_client(self):
-        """Of the SETCLIENTID before it, if that gives a new number."""
-        number, confirm = self.server.last_client + 1, self.server.last_confirm + 1
-        return [u32(Opnum.SETCLIENTID_CONFIRM, 1, number) + u64(confirm)]
+        """Of the SETCLIENTID before it."""
+        record = self.server.records[-1]
+        return u32(Opnum.SETCLIENTID_CONFIRM, 1, record.number) + u64(record.confirm)
 
     def setclientid(self):
         verifier = self.chance.choice([b"verifier", b"verified"])
-        address = self.chance.choice([b"1.2.3.4.5.6"] * 4 + [b"", b"9" * 129])
+        return [self.introduction(self.chance.choice(self.clients), verifier, self.chance.choice(self.addresses))]
+
+    def introduction(self, name, verifier, address):
         callback = u32(self.chance.choice([7, 8])) + opaque(b"tcp") + opaque(address) + u32(self.chance.choice([1, 2]))
-        return [u32(Opnum.SETCLIENTID) + verifier + opaque(self.chance.choice(self.clients)) + callback]
+        return u32(Opnum.SETCLIENTID) + verifier + opaque(name) + callback
 
     def setclientid_confirm(self):
-        record = self.pick(self.server.records[-2:])
+        record = self.pick(self.server.introduced[-self.chance.choice([2, 2, CLIENTS_LIMIT]):])
         number, confirm = (record.number, record.confirm) if record else (1, 1)
         return [u32(Opnum.SETCLIENTID_CONFIRM, 1, self.near(number)) + u64(self.near(confirm))]
 
@@ -234,9 +288,9 @@ class Caller:
             found = self.server.states()
         state = self.pick(found)
         if state is None:
-            client, number = self.chance.randint(0, 4), self.chance.randint(0, self.server.last_state + 1)
+            client, number = self.a_client(), self.chance.randint(0, self.server.last_state + 1)
             return 1, u32(self.chance.choice([1, 2, 0]), self.chance.choice([1, 1, 0]), client, number), 3
-        stateid = u32(self.near(state.seqid), 1, state.client, state.number)
+        stateid = u32(self.near(state.seqid), 1, self.in_slot(state.client), state.number)
         if isinstance(state, Delegation):
             return state.file, stateid, 3
         owners = self.server.lock_owners if isinstance(state, LockState) else self.server.open_owners
@@ -403,8 +457,8 @@ def first_difference(program, row, way, journal):
 
 def run(words):
     """A run: the row up to the first difference, or None; and what the model answered how often."""
-    program, seed, count = words
-    caller = Caller(seed)
+    program, seed, count, ids = words
+    caller = Caller(seed, ids)
     for _ in range(count):
         caller.next_step()
     caller.server.counts.update(WHAT[type(entry)] for entry in caller.server.recorded if type(entry) in WHAT)
@@ -460,7 +514,7 @@ def tell(counts, runs, calls):
     asked = counts[Opnum.LOCKT, Status.OK] + counts[Opnum.LOCKT, Status.DENIED] + counts[Opnum.LOCK, Status.DENIED]
     print(f"fuzz: {runs} runs of {calls} steps agree with the model: {total} operations on the state, of them "
           f"{changes} changes of ranges and {asked} questions or refusals of them")
-    for what in [*LENT.values(), *WHAT.values()]:
+    for what in [*LENT.values(), *WHAT.values(), AGAIN, YIELDED, NONE_LEFT]:
         print(f"    {what}: {counts.pop(what, 0)}")
     for (opnum, status), number in sorted(counts.items()):
         print(f"    {opnum.name} {status.name}: {number}")
@@ -473,12 +527,14 @@ def main():
     parser.add_argument("--changes", type=int, default=10000)
     parser.add_argument("--calls", type=int, default=200)
     parser.add_argument("--jobs", type=int, default=1)
+    parser.add_argument("--ids", type=int, default=IDS, help="ids of clients")
     words = parser.parse_args()
     counts, runs, seed = Counter(), 0, words.seed
     with multiprocessing.Pool(words.jobs) as pool:
         while counts[Opnum.LOCK, Status.OK] + counts[Opnum.LOCKU, Status.OK] < words.changes:
             seeds = range(seed, seed + 4 * words.jobs)
-            for found, wrong, answered in pool.imap(run, [(words.program, it, words.calls) for it in seeds]):
+            runs_of_seeds = [(words.program, it, words.calls, words.ids) for it in seeds]
+            for found, wrong, answered in pool.imap(run, runs_of_seeds):
                 if wrong is not None:
                     report(words.program, found, *wrong)
                     return 1

@@ -18,8 +18,9 @@ Introduction = namedtuple("Introduction", "entry record")
 @dataclass
 class History(Recorder):
     """A server with the numbers of entries: all of these are kept to the end, also of what is gone."""
-    # By the confirm value.
+    # By the confirm value; and of those whose records gave way, to which entry's client.
     introductions: dict = field(default_factory=dict)
+    yielded: dict = field(default_factory=dict)
     # Of clients, by their numbers: which entry removed them, and which marked their paths last.
     removals: dict = field(default_factory=dict)
     path_marks: dict = field(default_factory=dict)
@@ -53,6 +54,10 @@ class History(Recorder):
         rest = super().setclientid(arguments, principal)
         self.introductions[self.last_confirm] = Introduction(self.entries, self.records[-1])
         return rest
+
+    def give_way(self, record):
+        super().give_way(record)
+        self.yielded[record.confirm] = self.entries
 
     def confirm_record(self, record, principal):
         super().confirm_record(record, principal)

@@ -18,7 +18,7 @@ from states import Unchanged
 from tree import CALLBACKS, DELEGATIONS, NAME_LIMIT, Node, Policy, Refused, TEXT_LIMIT, tree_of
 from wire import Status, opaque, u32
 
-HEAD = b"NFSJRN01"
+HEAD = b"NFSJRN02"
 LEASE_LIMIT = 86400
 
 Journal = namedtuple("Journal", "epoch lease tree entries")

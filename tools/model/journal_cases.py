@@ -88,8 +88,17 @@ def give_back(server, state):
 
 def introduce_other(server):
     """Client 2."""
-    server.apply(Opnum.SETCLIENTID, wire.Setclientid(bytes(8), b"c2", CALLBACK), None, NOBODY)
-    server.apply(Opnum.SETCLIENTID_CONFIRM, wire.SetclientidConfirm(1, 2, server.last_confirm), None, NOBODY)
+    ask_for_number(server, b"c2")
+    confirm(server, 2)
+
+
+def ask_for_number(server, name):
+    server.apply(Opnum.SETCLIENTID, wire.Setclientid(bytes(8), name, CALLBACK), None, NOBODY)
+
+
+def confirm(server, number):
+    """The client whose SETCLIENTID was the last one."""
+    server.apply(Opnum.SETCLIENTID_CONFIRM, wire.SetclientidConfirm(1, number, server.last_confirm), None, NOBODY)
 
 
 def lend(server, seqid):
@@ -147,9 +156,9 @@ def small():
 # Files written out, in words of four bytes: of a server with the one empty file b, also after it was written and read;
 # of `small`; and of the entries that are no calls.
 
-NO_ENTRY = """4e46534a 524e3031 00000001 0000005a 00000002 00000000
+NO_ENTRY = """4e46534a 524e3032 00000001 0000005a 00000002 00000000
     00000001 00000000 00000001 00000001 62000000 00000000 00000000"""
-OF_BYTES = """4e46534a 524e3031 00000007 0000005a 00000002 00000000
+OF_BYTES = """4e46534a 524e3032 00000007 0000005a 00000002 00000000
     00000001 00000000 00000001 00000001 62000000 00000000
     00000002
     00000001 00000000 00000005 00000000 00000000 00000001 00000001
@@ -158,7 +167,7 @@ OF_BYTES = """4e46534a 524e3031 00000007 0000005a 00000002 00000000
     00000001 00000000 00000005 00000000 00000000 00000001 00000001
     00000019 ffffffff ffffffff ffffffff ffffffff 00000000 00000000 00000014
     00000019 00000000 00000001 00000009 00000000 00000000 78000000"""
-THREE_ENTRIES = """4e46534a 524e3031 00000001 0000005a 00000002 00000000
+THREE_ENTRIES = """4e46534a 524e3032 00000001 0000005a 00000002 00000000
     00000004
     00000000 00000001 00000001 61000000 00000005 68656c6c 6f000000
     00000000 00000001 00000001 62000000 00000000
@@ -192,7 +201,7 @@ def written_out():
     yield journal_bytes(of_bytes()), OF_BYTES
     yield journal_bytes(small()), THREE_ENTRIES
     data = file_of([Expire(1, 100, 191), Revoke(2, 2**32), Path(3, 1), Path(4, 0)], [])
-    yield data, """4e46534a 524e3031 00000001 0000005a 00000002 00000000 00000000 00000004
+    yield data, """4e46534a 524e3032 00000001 0000005a 00000002 00000000 00000000 00000004
         00000002 00000001 00000000 00000064 00000000 000000bf 00000003 00000002 00000001 00000000
         00000004 00000003 00000001 00000004 00000004 00000000"""
 
@@ -244,7 +253,8 @@ def other_lengths():
 def broken_heads():
     data = journal_bytes(small())
     begins, lease, early = "it begins with other bytes", "a lease outside its limits", "it ends too early"
-    yield "another version", b"NFSJRN02" + data[8:], begins
+    for version in (b"NFSJRN01", b"NFSJRN03"):
+        yield f"another version, {version.decode()}", version + data[8:], begins
     for seconds in (0, 86401, LAST):
         yield f"lease {seconds}", with_words(data, 12, seconds), lease
     yield "delegations 3", with_words(data, 16, 3), "a number that isn't 0 to 2"
@@ -265,17 +275,17 @@ def broken_entries():
     """An entry's own fields."""
     journal = small()
     first, begin = journal.entries[0], len(head_bytes(journal)) + 4
-    data, path, limit = journal_bytes(journal), file_of([Path(1, 1)]), "a moment of 2^40 or more"
+    data, path, limit = journal_bytes(journal), file_of([Path(1, 1)]), "a moment of 2^40 - 2 or more"
 
     def put(entry):
         return file_of([entry])
 
     for kind in (0, 5, 2**32 - 1):
         yield f"kind {kind}", with_words(path, begin, kind), "no kind of entry"
-    yield "a moment of 2^40", put(first._replace(moment=MOMENT_LIMIT)), limit
-    yield "seen at 2^40", put(Expire(1, MOMENT_LIMIT, 1)), limit
-    yield "expired at 2^40", put(Expire(1, 1, MOMENT_LIMIT)), limit
-    yield "revoked at 2^40", put(Revoke(1, MOMENT_LIMIT)), limit
+    yield "a moment past the last", put(first._replace(moment=MOMENT_LIMIT)), limit
+    yield "seen past the last moment", put(Expire(1, MOMENT_LIMIT, 1)), limit
+    yield "expired past the last moment", put(Expire(1, 1, MOMENT_LIMIT)), limit
+    yield "revoked past the last moment", put(Revoke(1, MOMENT_LIMIT)), limit
     yield "a path marked 2", put(Path(1, 2)), "a number that isn't 0 to 1"
     yield "flavor 2", put(first._replace(principal=(2, 0))), "a number that isn't 0 to 1"
     yield "uid 1 behind AUTH_NONE", put(first._replace(principal=(0, 1))), "a uid behind AUTH_NONE"
@@ -486,6 +496,7 @@ def verdicts():
     yield from verdicts_on_bytes()
     yield from verdicts_on_paths(entries)
     yield from verdicts_on_revocations()
+    yield from verdicts_on_numbers()
     yield "moments that go down", file_of([entries[0]._replace(moment=5), *entries[1:]]), "lawful: 3 entries"
     yield "the last moment of a call", file_of([entries[0]._replace(moment=MOMENT_LIMIT - 1)]), "lawful: 1 entries"
     yield "another principal", file_of([entries[0], entries[1]._replace(principal=SOMEBODY)]), wrong(1)
@@ -562,6 +573,43 @@ def verdicts_on_revocations():
     for name, (entries, number) in more.items():
         said = f"lawful: {10 + len(entries)} entries" if number is None else wrong(number)
         yield f"a revocation: {name}", journal_bytes(journal._replace(entries=journal.entries + entries)), said
+
+
+def verdicts_on_numbers():
+    """Of what a further id gets where a client has ended, and where 255 ids have a number each."""
+    ended = Recorder(Tree())
+    introduce(ended)
+    ended.expire(1, 0, 91)
+    yield from verdicts_on_number("behind a client that has ended", ended, 257, (0, 1, 2, 256, 257, 513))
+    waiting, live = with_ids(confirmed=1), with_ids(confirmed=255)
+    # Client 1 is live, and client 2 is the first that isn't.
+    yield from verdicts_on_number("behind 255 ids", waiting, 258, (0, 1, 2, 256, 257, 258, 259, 511, 514))
+    yield from verdicts_on_number("behind 255 live clients", live, None, (1, 256, 257, 511))
+    ask_for_number(waiting, b"late")
+    for status, said in (Status.STALE_CLIENTID, "lawful: 258 entries"), (Status.OK, wrong(257)):
+        late = Answer(Opnum.SETCLIENTID_CONFIRM, status, b"")
+        call = Call(0, NOBODY, None, Opnum.SETCLIENTID_CONFIRM, wire.SetclientidConfirm(1, 2, 2), late)
+        yield f"{status.name} for a client that gave way", file_of([*waiting.recorded, call]), said
+
+
+def with_ids(confirmed):
+    """A server with 255 ids, of which the first ones are confirmed."""
+    server = Recorder(Tree())
+    for number in range(1, 256):
+        ask_for_number(server, b"c%d" % number)
+        if number <= confirmed:
+            confirm(server, number)
+    return server
+
+
+def verdicts_on_number(where, server, right, numbers):
+    """Each of these numbers as the next one that the server gives."""
+    asked = wire.Setclientid(bytes(8), b"late", CALLBACK)
+    for number in numbers:
+        answer = Answer(Opnum.SETCLIENTID, Status.OK, u32(1, number) + u64(server.last_confirm + 1))
+        entries = [*server.recorded, Call(0, NOBODY, None, Opnum.SETCLIENTID, asked, answer)]
+        said = f"lawful: {len(entries)} entries" if number == right else wrong(len(entries) - 1)
+        yield f"number {number} {where}", file_of(entries), said
 
 
 def all_answers():

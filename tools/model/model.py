@@ -14,11 +14,11 @@ from dataclasses import dataclass, field
 import wire
 from delegations import Delegating
 from ranges import READ_MODE, Ranges, denial, length_of
-from states import (ClientRecord, DOWN, Delegation, FULL, Kept, LockState, NOT_DUE, NOT_LIVE, OpenState, Owner, Refusal,
-                    Request, Result, UNKNOWN, UP, Unchanged, answer, closed_by, conflict, contains, expect_filehandle,
-                    expect_range, expect_runs, expect_seqid, expect_share, handle_of, is_first_lock,
-                    is_lawful_downgrade, is_special, mode_of, next_seqid, next_sequence_id, replay, sequence_id_of,
-                    stateid_of)
+from states import (ClientRecord, DOWN, Delegation, FULL, GENERATIONS, Kept, LockState, NOT_DUE, NOT_LIVE, OpenState,
+                    Owner, Refusal, Request, Result, SLOTS, UNKNOWN, UP, Unchanged, answer, closed_by, conflict,
+                    contains, expect_filehandle, expect_range, expect_runs, expect_seqid, expect_share, handle_of,
+                    is_first_lock, is_lawful_downgrade, is_special, mode_of, next_seqid, next_sequence_id, replay,
+                    sequence_id_of, slot_of, stateid_of)
 from tree import TEXT_LIMIT, Tree
 from wire import (BOTH, CLAIM_DELEGATE_CUR, CLAIM_DELEGATE_PREV, CLAIM_PREVIOUS, CompoundCall, EXCLUSIVE4, FILE_SYNC4,
                   GUARDED4, NewLocker, OPEN4_CREATE, OPEN_DELEGATE_NONE, OPEN_DELEGATE_WRITE, Opnum, READ, Status,
@@ -33,7 +33,7 @@ READ_LIMIT = 65536
 RPC_HEAD = 24
 NAME_LIMIT = 255
 ADDRESS_LIMIT = 128
-CLIENTS_LIMIT = 4096
+CLIENTS_LIMIT = SLOTS - 1
 OWNERS_LIMIT = 16384
 STATES_LIMIT = 65536
 JOURNAL_LIMIT = 1000000
@@ -96,7 +96,8 @@ class Server(Delegating):
     recalls: list = field(default_factory=list)
     taken: int = 0
     entries: int = 0
-    last_client: int = 0
+    # How many clients were given each slot so far.
+    generations: list = field(default_factory=lambda: [0] * SLOTS)
     last_state: int = 0
     last_confirm: int = 0
     # When each live client's lease was opened or renewed last, by the client's number.
@@ -297,6 +298,9 @@ class Server(Delegating):
     def is_live(self, number):
         return self.record_where(True, lambda it: it.number == number) is not None
 
+    def was_given(self, number):
+        return slot_of(number) != 0 and number // SLOTS < self.generations[slot_of(number)]
+
     def setclientid(self, arguments, principal):
         callback = arguments.callback
         confirmed = self.record_where(True, lambda it: it.id == arguments.id)
@@ -306,17 +310,44 @@ class Server(Delegating):
             raise Refusal(Status.CLID_INUSE, wire.opaque(used.netid) + wire.opaque(used.address))
         if max(len(callback.netid), len(callback.address)) > ADDRESS_LIMIT:
             raise Refusal(Status.RESOURCE)
-        if confirmed is not None and not is_other and confirmed.verifier == arguments.verifier:
-            number = confirmed.number
-        elif self.last_client == CLIENTS_LIMIT:
-            raise Refusal(Status.RESOURCE)
-        else:
-            number = self.last_client = self.last_client + 1
+        replaced = self.record_where(False, lambda it: it.id == arguments.id)
+        is_update = confirmed is not None and not is_other and confirmed.verifier == arguments.verifier
+        number = confirmed.number if is_update else self.new_number(replaced)
         self.last_confirm += 1
-        self.records = [it for it in self.records if it.is_confirmed or it.id != arguments.id]
+        self.drop(replaced)
         self.records.append(
             ClientRecord(arguments.id, principal, arguments.verifier, callback, self.last_confirm, number))
         return u32(self.epoch, number) + u64(self.last_confirm)
+
+    def drop(self, record):
+        self.records = [it for it in self.records if it is not record]
+
+    def new_number(self, replaced):
+        """A number of the least slot that no record has, but for the one that is replaced, if there is one; or of the
+        slot of a record that gives way."""
+        others = [it for it in self.records if it is not replaced]
+        taken = {slot_of(it.number) for it in others}
+        slot = next((it for it in range(1, SLOTS) if it not in taken and self.has_generation(it)), None)
+        if slot is None:
+            oldest = next((it for it in others if self.can_give_way(it)), None)
+            if oldest is None:
+                raise Refusal(Status.RESOURCE)
+            slot = slot_of(oldest.number)
+            self.give_way(oldest)
+        self.generations[slot] += 1
+        return (self.generations[slot] - 1) * SLOTS + slot
+
+    def has_generation(self, slot):
+        """Whether one is left that wasn't given."""
+        return self.generations[slot] < GENERATIONS
+
+    def can_give_way(self, record):
+        """Whether it is unconfirmed, and no update of a live client. Records stand in the order of their arrival."""
+        return not (record.is_confirmed or self.is_live(record.number)) and self.has_generation(slot_of(record.number))
+
+    def give_way(self, record):
+        """A record leaves its slot to another id."""
+        self.drop(record)
 
     def setclientid_confirm(self, arguments, principal):
         def is_named(record):
@@ -442,7 +473,7 @@ class Server(Delegating):
             raise Refusal(Status.BAD_STATEID)
         if stateid.epoch != self.epoch:
             raise Refusal(Status.STALE_STATEID)
-        if not 1 <= stateid.client <= self.last_client:
+        if not self.was_given(stateid.client):
             raise Refusal(Status.BAD_STATEID)
         if not self.is_live(stateid.client):
             raise Refusal(Status.EXPIRED)

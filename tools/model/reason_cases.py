@@ -151,32 +151,68 @@ def clients():
     story.open(1, never, client=2)
     story.introduce(b"c2")
     never = ("client 2, which entry 4 (SETCLIENTID) gave, was never confirmed, and entry 6 (SETCLIENTID) gave its id "
-             "client 3")
+             "client 258 (slot 2, second)")
     story.open(1, (never, CLIENT_IDS), client=2)
     story.close(1, state(1, client=2), (never, STATEIDS))
     story.open(1, ("client 4 was never given", CLIENT_IDS), client=4)
+    story.open(1, ("client 514 (slot 2, third) was never given", CLIENT_IDS), client=514)
+    story.close(1, state(1, client=512), ("the stateid is one of client 512, which was never given", STATEIDS))
     story.open(1, ("the clientid is of epoch 2, and this server's is 1", CLIENT_IDS), epoch=2)
     replaced = ('confirm value 2 is that of entry 4 (SETCLIENTID), and entry 6 gave the id "c2" the value 3',
                 "SETCLIENTID_CONFIRM")
     story.confirm_client(2, 2, replaced)
-    story.confirm_client(3, 9, ("confirm value 9 was never given", "SETCLIENTID_CONFIRM"))
-    story.confirm_client(3, 1, ("entry 0 (SETCLIENTID) gave confirm value 1 to client 1", "SETCLIENTID_CONFIRM"))
+    story.confirm_client(258, 9, ("confirm value 9 was never given", "SETCLIENTID_CONFIRM"))
+    story.confirm_client(258, 1, ("entry 0 (SETCLIENTID) gave confirm value 1 to client 1", "SETCLIENTID_CONFIRM"))
     other = "entry 6 (SETCLIENTID) came from AUTH_NONE, and its confirmation from AUTH_SYS 500"
-    story.confirm_client(3, 3, (other, "SETCLIENTID_CONFIRM"), SOMEBODY)
+    story.confirm_client(258, 3, (other, "SETCLIENTID_CONFIRM"), SOMEBODY)
     used = (f'the id "c1" is that of client 1, by AUTH_NONE, which has state: state 1, an {OPEN_A}, since entry 2 '
             "(OPEN)")
     story.introduce(verifier=2, because=(used, "SETCLIENTID"), principal=SOMEBODY)
     story.introduce(verifier=2)
-    story.confirm_client(4, 4)
-    gone = "client 1 was removed by entry 17 (SETCLIENTID_CONFIRM), as client 4 took its place"
+    story.confirm_client(3, 4)
+    gone = "client 1 was removed by entry 19 (SETCLIENTID_CONFIRM), as client 3 took its place"
     story.open(3, (gone, CLIENT_IDS))
     story.close(3, state(1, 2), (gone, STATEIDS))
     story.confirm_client(1, 1, (gone, "SETCLIENTID_CONFIRM"))
-    story.expire(4)
-    over = "client 4 was removed by entry 21, as its lease was over"
-    story.close(3, state(1, 2, client=4), (over, STATEIDS))
-    released = ReleaseLockowner(LockOwner(1, 4, b"x"))
+    story.introduce(verifier=3)
+    story.confirm_client(257, 5)
+    gone = "client 3 was removed by entry 24 (SETCLIENTID_CONFIRM), as client 257 (slot 1, second) took its place"
+    story.open(3, (gone, CLIENT_IDS), client=3)
+    story.expire(257)
+    over = "client 257 (slot 1, second) was removed by entry 26, as its lease was over"
+    story.close(3, state(1, 2, client=257), (over, STATEIDS))
+    released = ReleaseLockowner(LockOwner(1, 257, b"x"))
     story.call(Opnum.RELEASE_LOCKOWNER, released, (over, CLIENT_IDS), None)
+    return story
+
+
+def records_that_give_way():
+    """Client 1, which asks for another callback, and 254 ids whose records wait: entries 3 to 256. Where another id
+    comes the first of these gives way, and not the record of client 1, though that came before."""
+    story = Story("records that give way")
+    story.introduce()
+    story.confirm_client(1, 1)
+    story.introduce()
+    for number in range(2, 256):
+        story.introduce(b"c%d" % number)
+    story.introduce(b"late")
+    yielded = "the record of entry 3 (SETCLIENTID) gave way to the client of entry 257"
+    story.confirm_client(2, 3, (yielded, "SETCLIENTID_CONFIRM"))
+    never = ("client 2, which entry 3 (SETCLIENTID) gave, was never confirmed, and gave way to the client of entry 257",
+             CLIENT_IDS)
+    story.open(1, never, client=2)
+    # Who gave way comes again, and takes the place of the next one.
+    story.introduce(b"c2")
+    story.open(1, never, client=2)
+    story.confirm_client(3, 4, (yielded.replace("entry 3", "entry 4").replace("257", "260"), "SETCLIENTID_CONFIRM"))
+    # Entries 263 to 265: the two are live, and one has a file open.
+    story.confirm_client(258, 257)
+    story.confirm_client(259, 258)
+    story.open(1, access=1, deny=2, client=259)
+    denied = ('open owner "A" of client 259 (slot 3, second) denies WRITE of file "/a" since entry 265 (it isn\'t '
+              "confirmed, which makes no difference here)", "Share reservations")
+    story.open(1, denied, access=2, client=258)
+    story.confirm_client(1, 2)
     return story
 
 
@@ -579,6 +615,6 @@ def clients_with_delegations():
 
 
 def stories():
-    return [stateids(), ends(), clients(), sequence_ids(), kept_answers(), no_kept_answers(), opens(), shares(),
-            many_shares(), locks(), bytes_of_files(), bytes_of_lent_files(), delays(), many_delays(),
+    return [stateids(), ends(), clients(), records_that_give_way(), sequence_ids(), kept_answers(), no_kept_answers(),
+            opens(), shares(), many_shares(), locks(), bytes_of_files(), bytes_of_lent_files(), delays(), many_delays(),
             delegation_stateids(), ends_of_delegations(), clients_with_delegations()]

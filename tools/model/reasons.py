@@ -18,7 +18,7 @@ from states import (Delegation, LockState, OpenState, Request, closed_by, confli
 from tree import TEXT_LIMIT
 from wire import (BOTH, CLAIM_DELEGATE_CUR, CLAIM_DELEGATE_PREV, CLAIM_PREVIOUS, EXCLUSIVE4, GUARDED4, NewLocker,
                   OPEN4_CREATE, OPEN_DELEGATE_WRITE, OpenOwner, Opnum, READ, Status, WRITE)
-from words import opaque_words, place_words, principal_words, purpose_of
+from words import client_words, opaque_words, place_words, principal_words, purpose_of
 
 # What is answered, what stood in the way, and the heading of the rules; and where a kept answer is given, which.
 Reason = namedtuple("Reason", "status text heading again", defaults=[None])
@@ -60,7 +60,7 @@ def name_words(name):
 
 def owner_words(owner):
     kind = "open" if isinstance(owner, OpenOwner) else "lock"
-    return f"{kind} owner {name_words(owner.name)} of client {owner.client}"
+    return f"{kind} owner {name_words(owner.name)} of {client_words(owner.client)}"
 
 
 def again_words(call, again):
@@ -123,7 +123,7 @@ class Causes:
     def state_words(self, state):
         place = self.place_words(state.file)
         if isinstance(state, Delegation):
-            lent = f"a delegation of {place} for {purpose_of(state.kind)} to client {state.client}"
+            lent = f"a delegation of {place} for {purpose_of(state.kind)} to {client_words(state.client)}"
             return f"state {state.number}, {lent}"
         return f"state {state.number}, {KINDS[type(state)]} of {place} by {owner_words(state.owner)}"
 
@@ -146,24 +146,26 @@ class Causes:
         """Why a clientid isn't one that was given, or None."""
         if epoch != self.server.epoch:
             return f"the clientid is of epoch {epoch}, and this server's is {self.server.epoch}"
-        return None if 1 <= number <= self.server.last_client else f"client {number} was never given"
+        return None if self.server.was_given(number) else f"{client_words(number)} was never given"
 
     def lost_client(self, number):
         """Why a client that was given isn't live."""
-        server = self.server
+        server, client = self.server, client_words(number)
         removed = server.removals.get(number)
         if removed is not None:
             entry = server.recorded[removed]
             if isinstance(entry, Expire):
-                return f"client {number} was removed by entry {removed}, as its lease was over"
-            other = entry.arguments.client
-            return f"client {number} was removed by {self.entry_words(removed)}, as client {other} took its place"
+                return f"{client} was removed by entry {removed}, as its lease was over"
+            other = client_words(entry.arguments.client)
+            return f"{client} was removed by {self.entry_words(removed)}, as {other} took its place"
         given = next(it for it in server.introductions.values() if it.record.number == number)
-        text = f"client {number}, which {self.entry_words(given.entry)} gave, was never confirmed"
+        text = f"{client}, which {self.entry_words(given.entry)} gave, was never confirmed"
         if any(it is given.record for it in server.records):
             return text
+        if given.record.confirm in server.yielded:
+            return f"{text}, and gave way to the client of entry {server.yielded[given.record.confirm]}"
         last = self.last_introduction(given.record.id)
-        return f"{text}, and {self.entry_words(last.entry)} gave its id client {last.record.number}"
+        return f"{text}, and {self.entry_words(last.entry)} gave its id {client_words(last.record.number)}"
 
     def last_introduction(self, client_id):
         return max((it for it in self.server.introductions.values() if it.record.id == client_id),
@@ -178,8 +180,8 @@ class Causes:
         if stateid.epoch != server.epoch:
             text = f"the stateid is of epoch {stateid.epoch}, and this server's is {server.epoch}"
             yield Reason(Status.STALE_STATEID, text, STATEIDS)
-        if not 1 <= stateid.client <= server.last_client:
-            text = f"the stateid is one of client {stateid.client}, which was never given"
+        if not server.was_given(stateid.client):
+            text = f"the stateid is one of {client_words(stateid.client)}, which was never given"
             yield Reason(Status.BAD_STATEID, text, STATEIDS)
         if not server.is_live(stateid.client):
             yield Reason(Status.EXPIRED, self.lost_client(stateid.client), STATEIDS)
@@ -190,8 +192,8 @@ class Causes:
         if state is None:
             text = f"state {stateid.number} was never given"
         elif state.client != stateid.client:
-            text = (f"state {state.number} was given to client {state.client}, and the stateid is one of client "
-                    f"{stateid.client}")
+            text = (f"state {state.number} was given to {client_words(state.client)}, and the stateid is one of "
+                    f"{client_words(stateid.client)}")
         else:
             text = f"{self.state_words(state)}, was ended by {self.end_words(self.server.ended[state.number])}"
         return Reason(Status.BAD_STATEID, text, STATEIDS)
@@ -342,7 +344,7 @@ class Causes:
         yield from self.of_state(stateid, Delegation, file, "the OPEN names")
         found = self.server.looked_up(stateid)
         if found.client != client:
-            text = f"it is that of {self.state_words(found)}, and the OPEN is one of client {client}"
+            text = f"it is that of {self.state_words(found)}, and the OPEN is one of {client_words(client)}"
             yield Reason(Status.BAD_STATEID, text, "OPEN")
         yield from self.of_stateid(stateid, Delegation, file)
 
@@ -534,7 +536,7 @@ class Causes:
         if record is None or record.principal == principal or not server.has_state(record.number):
             return
         state = next(it for it in server.states() if it.client == record.number)
-        client = f"client {record.number}, by {principal_words(record.principal)}"
+        client = f"{client_words(record.number)}, by {principal_words(record.principal)}"
         text = (f"the id {name_words(record.id)} is that of {client}, which has state: {self.state_words(state)}, "
                 f"since {self.entry_words(server.begun[state.number])}")
         yield Reason(Status.CLID_INUSE, text, heading)
@@ -565,8 +567,11 @@ class Causes:
         elif given is None:
             text = f"confirm value {arguments.confirm} was never given"
         elif given.record.number != arguments.client:
-            other = f"client {given.record.number}"
+            other = client_words(given.record.number)
             text = f"{self.entry_words(given.entry)} gave confirm value {arguments.confirm} to {other}"
+        elif arguments.confirm in self.server.yielded:
+            other = f"the client of entry {self.server.yielded[arguments.confirm]}"
+            text = f"the record of {self.entry_words(given.entry)} gave way to {other}"
         else:
             last = self.last_introduction(given.record.id)
             text = (f"confirm value {arguments.confirm} is that of {self.entry_words(given.entry)}, and entry "

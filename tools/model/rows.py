@@ -11,7 +11,7 @@ SPACES = " \t\r"
 # A server's lease in seconds, and the upper half of its clientids, where a row says nothing else.
 LEASE, EPOCH = 90, 1
 LEASE_LIMIT = 86_400
-MOMENT_LIMIT = 2**40
+MOMENT_LIMIT = 2**40 - 2
 # The most bytes of a message.
 MESSAGE_LIMIT = 1 << 20
 
@@ -46,7 +46,7 @@ NO_FORM = "no message: `compound`, `null`, `arguments`, `results`, `record`, `by
 NO_XID = "a message has no xid, or a number that is none"
 NO_CREDENTIAL = "after the xid of a call only `credential FLAVOR WORDS` can follow"
 NO_END = "the line goes on after its message"
-NO_NUMBER = "a lease is 1 to 86,400 seconds, an epoch below 2^32, a moment below 2^40"
+NO_NUMBER = "a lease is 1 to 86,400 seconds, an epoch below 2^32, a moment below 2^40 - 2"
 NO_SWEEP = "no sweep: `sweep SECONDS expired COUNT kept COUNT`, and behind it maybe `revoked COUNT`"
 NO_MARK = "no mark of a path: `mark CLIENT up` or `mark CLIENT down`, and then `done` or `not live`"
 NO_REVOCATION = "no revocation: `revoke SECONDS none` or `revoke SECONDS state NUMBER`"

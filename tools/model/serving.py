@@ -82,9 +82,9 @@ class Desk:
     def __init__(self, server, is_traced=False, is_limit_told=False):
         self.server, self.is_traced = server, is_traced
         self.turn, self.begun = threading.Lock(), time.monotonic()
-        # What there is no more of when so much was given, each told once.
-        self.limits = [("no client number is left", "last_client", CLIENTS_LIMIT),
-                       ("the journal is full", "entries", JOURNAL_LIMIT)] if is_limit_told else []
+        # What there is no more of when there is so much, each told once.
+        self.limits = [("no client slot is left", lambda: len(server.renewals), CLIENTS_LIMIT),
+                       ("the journal is full", lambda: server.entries, JOURNAL_LIMIT)] if is_limit_told else []
 
     def moment(self):
         return int(time.monotonic() - self.begun)
@@ -110,7 +110,7 @@ class Desk:
     def tell_limits(self):
         for limit in list(self.limits):
             words, count, most = limit
-            if getattr(self.server, count) >= most:
+            if count() >= most:
                 say(f"{words}: {most} of {most}")
                 self.limits.remove(limit)
 

@@ -8,7 +8,9 @@ from wire import (BOTH, Callback, LockOwner, NewLocker, OpenOwner, Opnum, READ, 
 
 HANDLE_HEAD = b"nfh1"
 LAST = 2**32 - 1
-
+# A client's number is its slot and, in the upper bits, how many clients had the slot before: its generation. Slot 0 is
+# nobody's.
+SLOTS, GENERATIONS = 2**8, 2**24
 
 # Why a change that no call asks for isn't made: its client isn't live, its lease isn't over, or the journal is full.
 NOT_LIVE, NOT_DUE, FULL = 1, 2, 3
@@ -245,3 +247,8 @@ def expect_share(share):
 
 def handle_of(node):
     return HANDLE_HEAD + u32(node)
+
+
+def slot_of(number):
+    """The slot of a client's number."""
+    return number % SLOTS

@@ -3,6 +3,7 @@ of files that READ and WRITE bring only the first are shown, where there are man
 import rows
 import wire
 from entries import ARGUMENT_BYTES, Call, Expire, RESTS, Revoke, delegation_given
+from states import SLOTS, slot_of
 from wire import OPEN_DELEGATE_WRITE, Opnum, Status, opaque
 
 STATUS_NAMES = {number: name for name, number in rows.NAMES.items() if name.startswith(("NFS4_OK", "NFS4ERR_"))}
@@ -119,10 +120,21 @@ def line_of(entry, tree, is_whole=False):
         words = f"{operation_words(entry, is_whole)} -> {answer_words(entry.answer, is_whole)}"
         return f"{head}: {words}{remark_on(entry)}"
     if isinstance(entry, Expire):
-        return f"client {entry.client} expires, seen at {entry.seen}, now {entry.now}"
+        return f"{client_words(entry.client)} expires, seen at {entry.seen}, now {entry.now}"
     if isinstance(entry, Revoke):
         return f"the delegation of state {entry.state} is revoked, now {entry.now}"
-    return f"the path of client {entry.client} is marked {'up' if entry.is_up else 'down'}"
+    return f"the path of {client_words(entry.client)} is marked {'up' if entry.is_up else 'down'}"
+
+
+def client_words(number):
+    """A client by its number; and where its slot was given before, which one in the slot it is."""
+    slot, which = slot_of(number), number // SLOTS + 1
+    return f"client {number}" + (f" (slot {slot}, {ordinal(which)})" if slot and which > 1 else "")
+
+
+def ordinal(number):
+    ending = "th" if number // 10 % 10 == 1 else {1: "st", 2: "nd", 3: "rd"}.get(number % 10, "th")
+    return {2: "second", 3: "third"}.get(number, f"{number}{ending}")
 
 
 def purpose_of(kind):
@@ -131,13 +143,18 @@ def purpose_of(kind):
 
 
 def remark_on(call):
-    """What a call does about delegations that is easily overlooked in its words: a comment behind them, or nothing."""
+    """What is easily overlooked in the words of a call, as a comment behind them, or nothing: what it does about
+    delegations; and that a client is the next one in its slot."""
     given = delegation_given(call)
     if given is not None:
         kind, stateid = given
-        return f"  # gives client {stateid.client} state {stateid.number}, a delegation for {purpose_of(kind)}"
+        return f"  # gives {client_words(stateid.client)} state {stateid.number}, a delegation for {purpose_of(kind)}"
+    if (call.opnum, call.answer.status) == (Opnum.SETCLIENTID, Status.OK):
+        number = int.from_bytes(call.answer.rest[4:8], "big")
+        return f"  # {client_words(number)}" if number >= SLOTS else ""
     if call.answer.status == Status.DELAY:
         return "  # the delegations in its way are called back"
     if (call.opnum, call.answer.status) == (Opnum.DELEGRETURN, Status.OK):
-        return f"  # client {call.arguments.stateid.client} gives state {call.arguments.stateid.number} back"
+        stateid = call.arguments.stateid
+        return f"  # {client_words(stateid.client)} gives state {stateid.number} back"
     return ""

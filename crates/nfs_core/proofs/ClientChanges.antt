@@ -27,11 +27,12 @@ use Rattle.nfs_operations.specs.declared.release_lockowner.ReleaseLockowner.{Rel
 use Rattle.nfs_operations.specs.declared.setclientid.Setclientid.{Setclientid}
 use Rattle.nfs_operations.specs.declared.setclientid_confirm.SetclientidConfirm.{SetclientidConfirm}
 use Rattle.nfs_owners.specs.Addresses.{is_within_limit}
+use Rattle.nfs_owners.specs.Choice.{choice}
 use Rattle.nfs_owners.specs.Confirmation as confirmations
 use Rattle.nfs_owners.specs.Confirmation.{Confirmation, InPlaceOf, InUse, Retransmission, Update, confirmation_before, confirmation_beside, confirmation_by}
 use Rattle.nfs_owners.specs.LiveClients.{other_number, replaced_by, unconfirmed_of_client}
 use Rattle.nfs_owners.specs.Registration as registrations
-use Rattle.nfs_owners.specs.Registration.{has_number_left, registration_by}
+use Rattle.nfs_owners.specs.Registration.{arrival, registration_by}
 use Rattle.nfs_owners.specs.Registry.{Registry, confirmed_named_by, confirmed_of, is_named_by, is_of, is_of_client, record_of, record_state, unconfirmed_named_by}
 use Rattle.nfs_owners.specs.StateOwner.{lock_owner, open_owner}
 use Rattle.nfs_owners.specs.declared.client_record.ClientRecord.{ClientRecord}
@@ -251,7 +252,11 @@ arrives (registrations.InUse address) epoch registry principal args = tt
 arrives (registrations.Update client) epoch registry principal args =
     cond_both (is_within_limit args.callback.address) _ None (λ o. IfSome o (λ x. IsArrival epoch x.1)) (λ _. tt) (λ _. tt)
 arrives registrations.Arrival epoch registry principal args =
-    cond_both (is_within_limit args.callback.address && has_number_left registry) _ None (λ o. IfSome o (λ x. IsArrival epoch x.1)) (λ _. refl) (λ _. tt)
+    cond_both (is_within_limit args.callback.address) _ None (λ o. IfSome o (λ x. IsArrival epoch x.1)) (λ _. by (choice args.id registry)) (λ _. tt)
+  where
+    by : (chosen : Option ℕ) → IfSome (option_map (arrival epoch registry principal args) chosen) (λ x. IsArrival epoch x.1)
+    by None = tt
+    by (Some number) = refl
 
 registers_for : (epoch : ℕ) (registry : Registry) (args : Setclientid) (d : Decision) (o : Option (registrations.Outcome × ClientChange)) → IfSome o (λ x. IsArrival epoch x.1) → Some d ≡ option_map setclientid.decision_of o
     → IsFor epoch registry (ops.Setclientid args) d.effect.change

@@ -2,6 +2,7 @@
 use Rattle.std.proofs.Common.{◌≡◌, Bool, true, false, ℕ, ◌≤◌, Some, None, List, [], ◌∷◌, ◌++◌, length, map, refl, sym, ap, ◌∙◌, ◌+◌, ◌*◌, subst, append_assoc, append-nil, arith, Result, Ok, Err}
 use Rattle.nfs_state.specs.declared.effect.Effect.{Effect}
 use Rattle.std.specs.Prelude.{IfOk, Option, OnErr, is_some}
+use Rattle.std.proofs.lemmas.List.{length-append}
 use Rattle.nfs_state.specs.declared.request.Request.{Request}
 use Rattle.nfs_share.specs.AllOpens.{DelegationAt, opens_of}
 use Rattle.nfs_share.specs.Opens.{open_of}
@@ -25,6 +26,7 @@ use Rattle.nfs_owners.specs.declared.clients.client_change.ClientChange.TheVaria
 use Rattle.nfs_rules.specs.declared.decision.Decision.{Decision}
 use Rattle.nfs_state.specs.declared.entry.Entry.{Entry}
 use Rattle.nfs_state.specs.declared.entry.Entry.TheVariants as entries
+use Rattle.nfs_state.specs.declared.entry.TheConstants.{JOURNAL_LIMIT}
 use Rattle.nfs_core.specs.Lawful.{AtMostOneState, Leads, Lawful}
 use Rattle.nfs_state.specs.State.{State, History, empty_server}
 use Rattle.nfs_core.specs.Step.{Allows, AtMostOneStateAfter, AtMostOneStep, Step}
@@ -124,6 +126,18 @@ Lawful-tried old new entry (Err error) lawful entered same =
 -- and what it stores agrees with its journal as before
 pub Agrees-same : (journal journal' : History) (stored stored' : Stored) → journal' ≡ journal → stored' ≡ stored → Agrees journal stored.owners → Agrees journal' stored'.owners
 Agrees-same journal journal' stored stored' same_journal same_stored agrees = rw (same_journal, same_stored) agrees
+
+-- a journal has no more entries than the limit allows
+
+Leads-length : (journal : History) (old new : State) (entries : List Entry) → Leads journal old entries new → length journal.entries ≤ JOURNAL_LIMIT → length journal.entries + length entries ≤ JOURNAL_LIMIT
+Leads-length journal old new [] leads within = omega (arith, within)
+Leads-length journal old new (entry ∷ entries) leads within =
+    let more = length-append journal.entries (entry ∷ []) in
+    omega (arith, more, Leads-length (with_entry entry journal) leads.0 new entries leads.2 (omega (arith, more, leads.1.below)))
+
+pub Lawful-length : (journal : History) (state : State) → Lawful journal state → length journal.entries ≤ JOURNAL_LIMIT
+Lawful-length journal state lawful =
+    omega (arith, Leads-length (record journal { entries = [] }) (empty_server journal.nodes) state journal.entries lawful (omega arith))
 
 -- a change uses at most one confirm value
 changed_confirm : (change : Change) (old : State) → (with_state_change change old).clients.last_confirm ≤ old.clients.last_confirm + 1

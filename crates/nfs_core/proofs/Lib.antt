@@ -1,3 +1,4 @@
+pub mod Choosing
 pub mod ClientChanges
 pub mod DueDelegations
 pub mod NextEntries
@@ -14,6 +15,7 @@ pub mod SafeLists
 pub mod SafeOrder
 pub mod SafeSums
 pub mod Safety
+pub mod Slots
 pub mod Sound
 pub mod SoundClients
 pub mod SoundDelegations

@@ -1,28 +1,30 @@
 -- What a change of the clients' records does to who is live, and which epoch their clientids are of.
-use Rattle.std.proofs.Common.{◌≡◌, ◌⊎◌, inl, inr, ℕ, Bool, true, false, List, [], ◌∷◌, ◌++◌, refl, sym, ap, ◌∙◌, subst, arith}
-use Rattle.std.specs.Prelude.{⊤, ◌+◌, ◌≤◌, ◌&&◌, ◌||◌, ◌==◌, nat_le, find, is_some, not}
+use Rattle.std.proofs.Common.{◌≡◌, ◌⊎◌, inl, inr, ℕ, Bool, true, false, List, [], ◌∷◌, ◌++◌, filter, refl, sym, ap, ◌∙◌, subst}
+use Rattle.std.specs.Prelude.{⊤, ◌<◌, ◌&&◌, ◌||◌, ◌==◌, find, is_some, not}
 use Rattle.std.specs.List.{AllByRecursion, list_any}
 use Rattle.std.specs.Str.{bytes_eq}
-use Rattle.std.proofs.lemmas.Bool.{and_from, and_parts, cases_Bool, eq-eqb, eqb-true, false_from_ne_true, le-leb, leb-true, not-true, not_from_false, or_cases, or_left, or_right}
+use Rattle.std.proofs.lemmas.Bool.{and_from, and_parts, cases_Bool, eq-eqb, eqb-true, false_from_ne_true, not-true, not_from_false, or_cases, or_left, or_right}
 use Rattle.std.proofs.lemmas.Slice.Eq.{bytes_eq-Decides}
 use Rattle.nfs_core.proofs.ClientChanges.{IsClientsFor}
 use Rattle.nfs_core.proofs.LiveLists.{any_found_with, any_holds, any_kept, any_of_kept, any_put, any_split, any_weaken, bool_equal, found_any, none_any}
 use Rattle.nfs_core.proofs.SafeLists.{all_always, all_weaken, found_holds}
+use Rattle.nfs_core.proofs.Slots.{IsLastOf, last_is_given, next_is_new, same_last, slot_below, still_given}
 use Rattle.nfs_core.proofs.Sound.{HasRecord, IsOnlyOf, equal_clients, is_live_in, is_record_of, same_client_self}
-use Rattle.nfs_core.proofs.SoundClients.{EachRecord, HasGivenNumber, HasSameId, HasSingles, each_confirmed, each_marked, each_unconfirmed, singles_changed}
+use Rattle.nfs_core.proofs.SoundClients.{EachRecord, HasLastNumber, HasSameId, HasSingles, before_newcomer, each_before, each_confirmed, each_marked, each_unconfirmed, singles_changed}
 use Rattle.nfs_core.proofs.SoundSequences.{never}
 use Rattle.nfs_core.proofs.SoundSteps.{IsClientReady}
-use Rattle.nfs_core.specs.LiveClients.{CanCome, Fits, LiveFollows}
+use Rattle.nfs_core.specs.LiveClients.{CanCome, Fits, IsAlone, LiveFollows}
 use Rattle.nfs_forms.specs.ClientId.{is_same_client}
 use Rattle.nfs_forms.specs.declared.client_id.ClientId.{ClientId}
+use Rattle.nfs_owners.specs.Choice.{has_slot}
 use Rattle.nfs_owners.specs.ClientChange.{with_change}
 use Rattle.nfs_owners.specs.LiveChange.{is_live_after, live_change}
 use Rattle.nfs_owners.specs.LiveClients.{can_become_live}
 use Rattle.nfs_owners.specs.Registry.{Registry, is_live, is_of, is_of_client, takes_number, was_given, with_mark, without_client, without_id, without_number}
+use Rattle.nfs_owners.specs.Slots.{slot_of}
 use Rattle.nfs_owners.specs.laws.Marks.{mark_keeps_can_become_live, mark_keeps_live, same_record}
 use Rattle.nfs_owners.specs.declared.client_record.ClientRecord.{ClientRecord}
 use Rattle.nfs_owners.specs.declared.client_record.PathMark.{PathMark}
-use Rattle.nfs_owners.specs.declared.client_record.TheConstants.{CLIENT_LIMIT}
 use Rattle.nfs_owners.specs.declared.clients.client_change.ClientChange.{ClientChange}
 use Rattle.nfs_owners.specs.declared.clients.client_change.ClientChange.TheVariants as client_changes
 use Rattle.nfs_owners.specs.declared.live_change.LiveChange.TheVariants.{Same, Goes}
@@ -193,31 +195,19 @@ once_by c old new stays before can =
       | inr new_one ↦ can_of_new (was_given c old) live known new_one
     ]
 
--- each live client was given a number
-pub numbered : (registry : Registry) → HasSingles registry → (number : ℕ) → is_live number registry ≡ true → (1 ≤ number) × (number ≤ registry.last_number)
+-- each live client has the last number that was given of its slot
+pub numbered : (registry : Registry) → HasSingles registry → (number : ℕ) → is_live number registry ≡ true → IsLastOf registry.given number
 numbered registry singles number live =
-    let held = any_holds (HasGivenNumber registry.last_number) (is_of_client number) registry.confirmed live singles.given.0 in
-    subst (λ n. (1 ≤ n) × (n ≤ registry.last_number)) (eqb-true held.0.state.client.number number held.2) held.1
+    let held = any_holds (HasLastNumber registry.given) (is_of_client number) registry.confirmed live singles.given.0 in
+    subst (IsLastOf registry.given) (eqb-true held.0.state.client.number number held.2) held.1
 
 -- who can become live isn't
 not_yet : (registry : Registry) → HasSingles registry → (c : ℕ) → can_become_live c registry ≡ true → is_live c registry ≡ false
 not_yet registry singles c can = elim (cases_of_can (was_given c registry) (is_live c registry) (list_any (is_of_client c) registry.unconfirmed) can) [
   | inl new_one ↦ false_from_ne_true (is_live c registry)
-      (λ live.
-      let given = numbered registry singles c live in
-      never (was_given c registry) new_one (and_from (nat_le 1 c) (nat_le c registry.last_number) (le-leb 1 c given.0) (le-leb c registry.last_number given.1)))
+      (λ live. never (was_given c registry) new_one (last_is_given registry.given c (numbered registry singles c live)))
   | inr is ↦ is.0
 ]
-
-given_still : (c last : ℕ) → (nat_le 1 c && nat_le c last) ≡ true → (nat_le 1 c && nat_le c (last + 1)) ≡ true
-given_still c last given =
-    let both = and_parts (nat_le 1 c) (nat_le c last) given in
-    and_from (nat_le 1 c) (nat_le c (last + 1)) both.0 (le-leb c (last + 1) (omega (arith, leb-true c last both.1)))
-
-not_next : (c number last : ℕ) → (nat_le 1 c && nat_le c last) ≡ true → number ≡ last + 1 → (c == number) ≡ true → ⊥
-not_next c number last given next is =
-    let both = and_parts (nat_le 1 c) (nat_le c last) given in
-    omega (arith, leb-true c last both.1, next, eqb-true c number is)
 
 -- where a record is put among the unconfirmed ones, its client or one that was there is among them
 known_put : (r : ClientRecord) (records : List ClientRecord) (c : ℕ) → list_any (is_of_client c) (without_id r.id records ++ r ∷ []) ≡ true → ((c == r.state.client.number) ≡ true) ⊎ (list_any (is_of_client c) records ≡ true)
@@ -234,12 +224,15 @@ known_left id records c there = any_of_kept (is_of_client c) (λ s. not (is_of i
 can_changed : (change : ClientChange) (old : Registry) → HasSingles old → IsClientReady change old → (c : ℕ) → can_become_live c (with_change change old) ≡ true → can_become_live c old ≡ true
 can_changed client_changes.Nothing old singles ready c can = can
 can_changed (client_changes.Arrives r) old singles ready c can =
-    once_by c old (with_change (client_changes.Arrives r) old) (given_still c old.last_number)
+    let n = r.state.client.number in
+    let stays : ClientRecord → Bool = λ s. not (has_slot (slot_of n) s) in
+    once_by c old (with_change (client_changes.Arrives r) old)
+    (still_given old.given (slot_of n) c (subst (λ many. slot_of n < many) (sym singles.slots) (slot_below n)))
     (λ given dead there. (
       dead,
-      elim (known_put r old.unconfirmed c there) [
-        | inl own ↦ absurd (not_next c r.state.client.number old.last_number given ready.0 own)
-        | inr was ↦ was
+      elim (known_put r (filter stays old.unconfirmed) c there) [
+        | inl own ↦ absurd (next_is_new old.given n c ready.0.next given (eqb-true c n own))
+        | inr was ↦ kept_is (is_of_client c) stays old.unconfirmed (any_of_kept (is_of_client c) stays old.unconfirmed was)
       ],
     )) can
 can_changed (client_changes.Updates r) old singles ready c can =
@@ -284,13 +277,22 @@ can_changed (client_changes.Replaces r client) old singles ready c can =
 
 -- Who comes could become live, and who goes was live.
 
-can_come : (client : ClientId) (id : List ℕ) (old : Registry) → HasSingles old → old.last_number ≤ CLIENT_LIMIT → HasRecord client id old.unconfirmed → is_live client.number old ≡ false → CanCome client.number old
-can_come client id old singles below there dead =
+-- a live client of the slot would have the same number
+alone_in_slot : (number : ℕ) (old : Registry) → HasSingles old → IsLastOf old.given number → is_live number old ≡ false → IsAlone number old
+alone_in_slot number old singles last dead = λ other slots.
+    false_from_ne_true (is_live other old)
+    (λ live.
+    let same = same_last old.given other number (numbered old singles other live) last slots in
+    never (is_live number old) dead (subst (λ n. is_live n old ≡ true) same live))
+
+can_come : (client : ClientId) (id : List ℕ) (old : Registry) → HasSingles old → HasRecord client id old.unconfirmed → is_live client.number old ≡ false → CanCome client.number old
+can_come client id old singles there dead =
     let n = client.number in
-    let found = find_record (HasGivenNumber old.last_number) client id old.unconfirmed there singles.given.1 in
-    let given : (1 ≤ n) × (n ≤ old.last_number) = subst (λ (x : ClientId). (1 ≤ x.number) × (x.number ≤ old.last_number)) found.client_is found.holds in (
+    let found = find_record (HasLastNumber old.given) client id old.unconfirmed there singles.given.1 in
+    let last : IsLastOf old.given n = subst (λ (x : ClientId). IsLastOf old.given x.number) found.client_is found.holds in (
       can_of_known (was_given n old) (is_live n old) (list_any (is_of_client n) old.unconfirmed) dead (of_record client id old.unconfirmed n there (eq-eqb n n refl)),
-      (given.0, omega (arith, given.1, below)),
+      last.0,
+      alone_in_slot n old singles last dead,
     )
 
 -- a client that has an unconfirmed record of an id has no confirmed record of another
@@ -306,17 +308,17 @@ same_number r client id old singles there held number =
     let numbers = ap (λ (x : ClientId). x.number) u.client_is ∙ number ∙ sym (ap (λ (x : ClientId). x.number) t.client_is) in
     sym t.client_is ∙ sym (t.holds numbers).0 ∙ u.client_is
 
-fits_changed : (change : ClientChange) (old : Registry) → HasSingles old → old.last_number ≤ CLIENT_LIMIT → IsClientReady change old → Fits (live_change change) old
-fits_changed client_changes.Nothing old singles below ready = tt
-fits_changed (client_changes.Arrives r) old singles below ready = tt
-fits_changed (client_changes.Updates r) old singles below ready = tt
-fits_changed (client_changes.Confirms r) old singles below ready =
-    can_come r.state.client r.id old singles below ready.1
+fits_changed : (change : ClientChange) (old : Registry) → HasSingles old → IsClientReady change old → Fits (live_change change) old
+fits_changed client_changes.Nothing old singles ready = tt
+fits_changed (client_changes.Arrives r) old singles ready = tt
+fits_changed (client_changes.Updates r) old singles ready = tt
+fits_changed (client_changes.Confirms r) old singles ready =
+    can_come r.state.client r.id old singles ready.1
     (sym (all_stay r.id old.confirmed r.state.client.number ready.0) ∙ own_id_before r.state.client r.id old singles ready.1)
-fits_changed (client_changes.Refreshes r) old singles below ready = tt
-fits_changed (client_changes.Replaces r client) old singles below ready =
+fits_changed (client_changes.Refreshes r) old singles ready = tt
+fits_changed (client_changes.Replaces r client) old singles ready =
     let n = r.state.client.number in (
-      can_come r.state.client r.id old singles below ready.2
+      can_come r.state.client r.id old singles ready.2
           (false_from_ne_true (is_live n old)
           (λ live. elim (others_stay client r.id old.confirmed n ready.0 live) [
             | inl kept ↦ never (list_any (takes_number r.id n) old.confirmed) (own_id_before r.state.client r.id old singles ready.2) kept
@@ -331,10 +333,10 @@ fits_changed (client_changes.Replaces r client) old singles below ready =
 pub follows_same : (registry : Registry) → HasSingles registry → LiveFollows Same registry registry
 follows_same registry singles = record { live = λ c. refl; fits = tt; once = λ c can. (can, not_yet registry singles c can) }
 
-pub follows_changed : (change : ClientChange) (old : Registry) → HasSingles old → old.last_number ≤ CLIENT_LIMIT → IsClientReady change old → LiveFollows (live_change change) old (with_change change old)
-follows_changed change old singles below ready = record {
+pub follows_changed : (change : ClientChange) (old : Registry) → HasSingles old → IsClientReady change old → LiveFollows (live_change change) old (with_change change old)
+follows_changed change old singles ready = record {
   live = live_changed change old singles ready;
-  fits = fits_changed change old singles below ready;
+  fits = fits_changed change old singles ready;
   once = λ c can. (can_changed change old singles ready c can, not_yet (with_change change old) (singles_changed change old ready singles) c can);
 }
 
@@ -410,7 +412,9 @@ epoch_of_record epoch client id records of h =
 
 pub epoch_changed : (epoch : ℕ) (op : Op) (change : ClientChange) (old : Registry) → IsClientReady change old → IsClientsFor epoch old op change → HaveEpoch epoch old → HaveEpoch epoch (with_change change old)
 epoch_changed epoch op client_changes.Nothing old ready is h = h
-epoch_changed epoch (ops.Setclientid args) (client_changes.Arrives r) old ready is h = each_unconfirmed (HasEpoch epoch) r old is h
+epoch_changed epoch (ops.Setclientid args) (client_changes.Arrives r) old ready is h =
+    each_unconfirmed (HasEpoch epoch) r (before_newcomer r old) is
+    (each_before (HasEpoch epoch) (HasEpoch epoch) r old ready.0.alone (λ s k _. k) h)
 epoch_changed epoch op (client_changes.Updates r) old ready is h = each_unconfirmed (HasEpoch epoch) r old (epoch_of_record epoch r.state.client r.id old.confirmed ready h.0) h
 epoch_changed epoch op (client_changes.Confirms r) old ready is h = each_confirmed (HasEpoch epoch) r old (epoch_of_record epoch r.state.client r.id old.unconfirmed ready.1 h.1) h
 epoch_changed epoch op (client_changes.Refreshes r) old ready is h = each_confirmed (HasEpoch epoch) r old (epoch_of_record epoch r.state.client r.id old.confirmed ready.1 h.0) h

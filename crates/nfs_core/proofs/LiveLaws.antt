@@ -5,13 +5,11 @@ use Rattle.nfs_core.proofs.ClientChanges.{IsFor, ruled_for}
 use Rattle.nfs_core.proofs.LiveClients.{HasEpoch, HaveEpoch, epoch_changed, epoch_marked, follows_changed, follows_ended, follows_marked, follows_same, live_number, numbered, told_by_number}
 use Rattle.nfs_core.proofs.Safety.{Holds, Laws, allowed_ready, holds_empty, holds_leads, holds_step}
 use Rattle.nfs_core.proofs.SoundClients.{HasSingles, each_left, singles_owned}
-use Rattle.nfs_core.proofs.SoundLimits.{limits_owned}
 use Rattle.nfs_core.proofs.SoundSequences.{never}
 use Rattle.nfs_core.proofs.SoundSteps.{IsChangeReady, IsEffectReady}
 use Rattle.nfs_core.specs.Lawful.{Lawful, Leads}
 use Rattle.nfs_core.specs.declared.event.Event.TheVariants as events
 use Rattle.nfs_core.specs.LiveClients.{AreNumbered, AreOfOneRun, CallsFollow, EffectsFollow, EndsFollow, EventsFollow, Fits, LiveFollows, confirmed_by, replaced_in}
-use Rattle.nfs_core.specs.Safe.{KeepsLimits}
 use Rattle.nfs_core.specs.Step.{IsAnswered, Step}
 use Rattle.nfs_owners.specs.ClientLaws.{HaveSameClients, MarksKeepClients}
 use Rattle.nfs_owners.specs.LiveChange.{is_live_after}
@@ -43,14 +41,14 @@ owned_clients : (change : OwnerChange) (number : ℕ) (old : State) → (with_ow
 owned_clients owner_changes.Nothing number old = refl
 owned_clients change number old = refl
 
-live_by_change : (change : Change) (old : State) → HasSingles old.clients → HasSingles (with_state_change change old).clients → KeepsLimits old → IsChangeReady change old
+live_by_change : (change : Change) (old : State) → HasSingles old.clients → HasSingles (with_state_change change old).clients → IsChangeReady change old
     → LiveFollows (live_change_of change) old.clients (with_state_change change old).clients
-live_by_change (changes.Clients change) old singles after within ready = follows_changed change old.clients singles within.clients ready
-live_by_change (changes.Expires client) old singles after within ready = follows_ended client.number old.clients after (live_number client old.clients.confirmed ready.0)
-live_by_change (changes.MarksPath client path) old singles after within ready = follows_marked client path old.clients singles
-live_by_change (changes.Opens node owner share None) old singles after within ready = follows_same old.clients singles
-live_by_change (changes.Opens node owner share (Some kind)) old singles after within ready = follows_same old.clients singles
-live_by_change change old singles after within ready = follows_same old.clients singles
+live_by_change (changes.Clients change) old singles after ready = follows_changed change old.clients singles ready
+live_by_change (changes.Expires client) old singles after ready = follows_ended client.number old.clients after (live_number client old.clients.confirmed ready.0)
+live_by_change (changes.MarksPath client path) old singles after ready = follows_marked client path old.clients singles
+live_by_change (changes.Opens node owner share None) old singles after ready = follows_same old.clients singles
+live_by_change (changes.Opens node owner share (Some kind)) old singles after ready = follows_same old.clients singles
+live_by_change change old singles after ready = follows_same old.clients singles
 
 epoch_by_change : (epoch : ℕ) (op : Op) (change : Change) (old : State) → IsChangeReady change old → IsFor epoch old.clients op change → HaveEpoch epoch old.clients → HaveEpoch epoch (with_state_change change old).clients
 epoch_by_change epoch op (changes.Clients change) old ready is h = epoch_changed epoch op change old.clients ready is h
@@ -64,7 +62,7 @@ live_by_effect : (number : ℕ) (effect : Effect) (old : State) → Holds old �
 live_by_effect number effect old holds then ready =
     let mid = with_owner_change effect.owner number old in
     subst (λ (r : Registry). LiveFollows (live_change_of effect.change) r (after number effect old).clients) (owned_clients effect.owner number old)
-    (live_by_change effect.change mid (singles_owned effect.owner number old holds.singles) then.singles (limits_owned effect.owner number old ready.0 holds.within) ready.1)
+    (live_by_change effect.change mid (singles_owned effect.owner number old holds.singles) then.singles ready.1)
 
 epoch_by_effect : (epoch : ℕ) (op : Op) (number : ℕ) (effect : Effect) (old : State) → IsEffectReady number old effect → IsFor epoch old.clients op effect.change → HaveEpoch epoch old.clients → HaveEpoch epoch (after number effect old).clients
 epoch_by_effect epoch op number effect old ready is h =
@@ -124,9 +122,7 @@ Lawful-run laws journal state lawful = λ number. told_by_number journal.epoch n
 
 pub Lawful-numbered : Laws → (journal : History) (state : State) → Lawful journal state → AreNumbered state.clients
 Lawful-numbered laws journal state lawful = λ number live.
-    let holds = lawful_holds laws journal state lawful in
-    let given = numbered state.clients holds.singles number live in
-    (given.0, omega (arith, given.1, holds.within.clients))
+    (numbered state.clients (lawful_holds laws journal state lawful).singles number live).0
 
 -- How entries change who is live.
 
@@ -231,7 +227,7 @@ same_clients registry = record {
   known = λ client. refl;
   client = λ client. refl;
   holder = λ id. refl;
-  last_given = refl;
+  same_given = refl;
   last_value = refl;
 }
 

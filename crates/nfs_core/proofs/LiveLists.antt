@@ -2,7 +2,7 @@
 use Rattle.std.proofs.Common.{◌≡◌, ◌⊎◌, inl, inr, Bool, true, false, Some, List, [], ◌∷◌, ◌++◌, filter, refl, sym, ap, ◌∙◌}
 use Rattle.std.specs.Prelude.{⊤, ◌&&◌, ◌||◌, find, is_some}
 use Rattle.std.specs.List.{AllByRecursion, list_any}
-use Rattle.std.proofs.lemmas.Bool.{and_from, and_parts, cases_Bool, cond-false, cond-true, or_cases, or_left, or_right}
+use Rattle.std.proofs.lemmas.Bool.{and_from, and_parts, cases_Bool, cond-false, cond-true, or_cases, or_left, or_parts, or_right}
 use Rattle.std.proofs.lemmas.List.Folds.{list_any-append}
 use Rattle.nfs_core.proofs.SafeLists.{all_always, any_found}
 
@@ -16,6 +16,13 @@ bool_equal false false to from = refl
 pub none_any : {X : Type 0} (p : X → Bool) (xs : List X) → AllByRecursion (λ x. p x ≡ false) xs → list_any p xs ≡ false
 none_any p [] none = refl
 none_any p (x ∷ xs) none = ap (λ b. b || list_any p xs) none.0 ∙ none_any p xs none.1
+
+-- where none passes, each fails
+pub none_passes : {X : Type 0} (p : X → Bool) (xs : List X) → list_any p xs ≡ false → AllByRecursion (λ x. p x ≡ false) xs
+none_passes p [] none = tt
+none_passes p (x ∷ xs) none =
+    let both = or_parts (p x) (list_any p xs) none in
+    (both.0, none_passes p xs both.1)
 
 -- the element that passes
 pub any_holds : {X : Type 0} (P : X → Type 0) (p : X → Bool) (xs : List X) → list_any p xs ≡ true → AllByRecursion P xs → (x : X) × P x × (p x ≡ true)

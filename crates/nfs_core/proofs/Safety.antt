@@ -65,7 +65,7 @@ allowed_ready journal old (entries.Revoke revoke) effect sound singles allowed =
 allowed_ready journal old (entries.Path path) effect sound singles allowed =
     subst (IsEffectReady (length journal.entries) old) (sym allowed.mark) (tt, tt)
 allowed_ready journal old (entries.Call call) effect sound singles allowed =
-    ruled_ready (length journal.entries) journal old call.request.op call.request (record { answer = call.answer; effect = effect }) refl sound allowed.rule
+    ruled_ready (length journal.entries) journal old call.request.op call.request (record { answer = call.answer; effect = effect }) refl sound singles allowed.rule
 
 -- What holds of the state after each entry.
 pub record Holds (state : State) : Type 0 where

@@ -1,27 +1,32 @@
 -- The clients' records: an id has one confirmed and one unconfirmed one at most, a clientid one confirmed one at most, and
--- each client number was given, to one id.
-use Rattle.std.proofs.Common.{◌≡◌, ℕ, Bool, true, false, List, [], ◌∷◌, ◌++◌, filter, refl, sym, ap, ◌∙◌, subst, arith}
-use Rattle.std.specs.Prelude.{⊤, ◌+◌, ◌≤◌, None, Some, nat_le, not}
+-- each client number is the last that was given of its slot, to one id.
+use Rattle.std.proofs.Common.{◌≡◌, ℕ, Bool, true, false, List, [], ◌∷◌, ◌++◌, filter, length, refl, sym, ap, ◌∙◌, subst, arith}
+use Rattle.std.specs.Prelude.{⊤, ◌+◌, ◌<◌, ◌≤◌, ◌==◌, None, Some, nat_lt, not}
 use Rattle.std.specs.List.{AllByRecursion, IsDistinct}
 use Rattle.std.specs.Str.{bytes_eq}
-use Rattle.std.proofs.lemmas.Bool.{and_from, and_parts, eqb-true, false_from_ne_true, le-leb, not-true}
+use Rattle.std.proofs.lemmas.Bool.{and_from, and_parts, eq-eqb, eqb-false, eqb-true, false_from_ne_true, lt-ltb, not-true}
+use Rattle.std.proofs.lemmas.List.{length-replicate, length-set}
 use Rattle.std.proofs.lemmas.Slice.Eq.{bytes_eq-Decides}
-use Rattle.nfs_core.specs.Safe.{WasGiven, have_same_client}
-use Rattle.nfs_core.proofs.LiveLists.{none_any}
+use Rattle.nfs_core.specs.Safe.{have_same_client}
+use Rattle.nfs_core.proofs.LiveLists.{none_any, none_passes}
 use Rattle.nfs_core.proofs.SafeDistinct.{distinct_filter, distinct_none, distinct_push}
-use Rattle.nfs_core.proofs.SafeLists.{all_always, all_both, all_filter, all_push, all_weaken, found_holds}
+use Rattle.nfs_core.proofs.SafeLists.{all_always, all_both, all_filter, all_push, all_replicate, all_set, all_weaken, found_holds}
+use Rattle.nfs_core.proofs.Slots.{IsLastOf, count_within, counted, last_elsewhere, last_here, slot_below}
 use Rattle.nfs_core.proofs.Sound.{HasRecord, IsAloneOf, equal_clients, is_live_in, is_record_of}
 use Rattle.nfs_core.proofs.SoundSequences.{never}
-use Rattle.nfs_core.proofs.SoundSteps.{IsChangeReady, IsClientReady}
+use Rattle.nfs_core.proofs.SoundSteps.{CanBeGiven, IsChangeReady, IsClientReady}
 use Rattle.nfs_forms.specs.ClientId.{is_same_client}
 use Rattle.nfs_forms.specs.declared.client_id.ClientId.{ClientId}
+use Rattle.nfs_owners.specs.Choice.{has_slot, is_live_slot, without_unconfirmed_of}
 use Rattle.nfs_owners.specs.ClientChange.{with_change, with_confirmed, with_unconfirmed}
-use Rattle.nfs_owners.specs.Registry.{AreRecords, HasOwnNumber, Registry, after_mark, have_same_id, is_of, is_of_client, no_clients, takes_number, with_mark, without_client, without_id}
+use Rattle.nfs_owners.specs.Registry.{AreRecords, HasOwnNumber, HaveValues, Registry, after_mark, given_of, have_same_id, is_of, is_of_client, no_clients, takes_number, with_mark, without_client, without_id}
 use Rattle.nfs_owners.specs.laws.Marks.{all_mapped, distinct_mapped, same_record}
+use Rattle.nfs_owners.specs.Slots.{generation_of, slot_of}
 use Rattle.nfs_owners.specs.declared.client_record.ClientRecord.{ClientRecord}
 use Rattle.nfs_owners.specs.declared.client_record.PathMark.{PathMark}
 use Rattle.nfs_owners.specs.declared.clients.client_change.ClientChange.{ClientChange}
 use Rattle.nfs_owners.specs.declared.clients.client_change.ClientChange.TheVariants as client_changes
+use Rattle.nfs_owners.specs.declared.slots.TheConstants.{SLOTS}
 use Rattle.nfs_state.specs.Changes.{with_owner_change, with_state_change}
 use Rattle.nfs_state.specs.State.{State}
 use Rattle.nfs_state.specs.declared.change.Change.{Change}
@@ -62,30 +67,31 @@ HasSameId r s = r.state.client.number ≡ s.state.client.number → (r.state.cli
 abbrev pub HaveSameIds : Registry → Type 0
 HaveSameIds registry = EachRecord (λ r. EachRecord (HasSameId r) registry) registry
 
--- the record's client number was given, where this one was the last
-abbrev pub HasGivenNumber : ℕ → ClientRecord → Type 0
-HasGivenNumber last r = WasGiven last r.state.client.number
+-- the record's client number is the last that was given of its slot, by these counts
+abbrev pub HasLastNumber : List ℕ → ClientRecord → Type 0
+HasLastNumber given r = IsLastOf given r.state.client.number
 
 -- what holds of the clients' records
 pub record HasSingles (registry : Registry) : Type 0 where
+  pub slots : length registry.given ≡ SLOTS
+  pub values : HaveValues registry
   pub confirmed : IsDistinct have_same_id registry.confirmed
   pub unconfirmed : IsDistinct have_same_id registry.unconfirmed
   pub same : HaveSameIds registry
-  pub given : EachRecord (HasGivenNumber registry.last_number) registry
+  pub given : EachRecord (HasLastNumber registry.given) registry
 
--- A record that is added has the id of all others of its client, and a number that was given.
-record Joins (last : ℕ) (registry : Registry) (r : ClientRecord) : Type 0 where
+-- A record that is added has the id of all others of its client, and the last number that was given of its slot.
+record Joins (registry : Registry) (r : ClientRecord) : Type 0 where
   before : EachRecord (λ s. HasSameId s r) registry
   after : EachRecord (HasSameId r) registry
-  given : HasGivenNumber last r
+  given : HasLastNumber registry.given r
 
 -- the record has the clientid and the id of one of these that are there
 joins_of_record : (r : ClientRecord) (records : List ClientRecord) (registry : Registry) → HasRecord r.state.client r.id records
-    → AllByRecursion (λ s. EachRecord (HasSameId s) registry) records → AllByRecursion (HasGivenNumber registry.last_number) records → Joins registry.last_number registry r
+    → AllByRecursion (λ s. EachRecord (HasSameId s) registry) records → AllByRecursion (HasLastNumber registry.given) records → Joins registry r
 joins_of_record r records registry of same given =
-    let last = registry.last_number in
-    let held = found_holds (λ s. EachRecord (HasSameId s) registry × HasGivenNumber last s) (is_record_of r.state.client r.id) records of
-    (all_both (λ s. EachRecord (HasSameId s) registry) (HasGivenNumber last) records same given) in
+    let held = found_holds (λ s. EachRecord (HasSameId s) registry × HasLastNumber registry.given s) (is_record_of r.state.client r.id) records of
+    (all_both (λ s. EachRecord (HasSameId s) registry) (HasLastNumber registry.given) records same given) in
     let s = held.0 in
     let both = and_parts (is_same_client s.state.client r.state.client) (bytes_eq s.id r.id) held.2 in
     let client : s.state.client ≡ r.state.client = equal_clients s.state.client r.state.client both.0 in
@@ -94,35 +100,20 @@ joins_of_record r records registry of same given =
     record {
       before = each_weaken (HasSameId s) (λ b. HasSameId b r) (λ b row is. (sym (row (number ∙ sym is)).0 ∙ client, sym (row (number ∙ sym is)).1 ∙ id)) registry held.1.0;
       after = each_weaken (HasSameId s) (HasSameId r) (λ b row is. (sym client ∙ (row (number ∙ is)).0, sym id ∙ (row (number ∙ is)).1)) registry held.1.0;
-      given = subst (λ (c : ClientId). (1 ≤ c.number) × (c.number ≤ last)) client held.1.1;
-    }
-
-fresh : (last a b : ℕ) → a ≤ last → b ≡ last + 1 → a ≡ b → ⊥
-fresh last a b below is same = omega (arith, below, is, same)
-
--- the record has the next number
-joins_fresh : (registry : Registry) (r : ClientRecord) → r.state.client.number ≡ registry.last_number + 1 → EachRecord (HasGivenNumber registry.last_number) registry → Joins (registry.last_number + 1) registry r
-joins_fresh registry r next given =
-    let last = registry.last_number in
-    record {
-      before = each_weaken (HasGivenNumber last) (λ s. HasSameId s r)
-          (λ s k is. absurd (fresh last s.state.client.number r.state.client.number k.1 next is)) registry given;
-      after = each_weaken (HasGivenNumber last) (HasSameId r)
-          (λ s k is. absurd (fresh last s.state.client.number r.state.client.number k.1 next (sym is))) registry given;
-      given = (omega (arith, next), omega (arith, next));
+      given = subst (λ (c : ClientId). IsLastOf registry.given c.number) client held.1.1;
     }
 
 -- one record is added
 
-same_unconfirmed : (last : ℕ) (r : ClientRecord) (old : Registry) → Joins last old r → HaveSameIds old → HaveSameIds (with_unconfirmed r old)
-same_unconfirmed last r old joins same =
+same_unconfirmed : (r : ClientRecord) (old : Registry) → Joins old r → HaveSameIds old → HaveSameIds (with_unconfirmed r old)
+same_unconfirmed r old joins same =
     let new = with_unconfirmed r old in
     each_unconfirmed (λ a. EachRecord (HasSameId a) new) r old (each_unconfirmed (HasSameId r) r old (λ _. (refl, refl)) joins.after)
     (each_weaken (λ a. EachRecord (HasSameId a) old × HasSameId a r) (λ a. EachRecord (HasSameId a) new) (λ a h. each_unconfirmed (HasSameId a) r old h.1 h.0) old
     (each_both (λ a. EachRecord (HasSameId a) old) (λ a. HasSameId a r) old same joins.before))
 
-same_confirmed : (last : ℕ) (r : ClientRecord) (old : Registry) → Joins last old r → HaveSameIds old → HaveSameIds (with_confirmed r old)
-same_confirmed last r old joins same =
+same_confirmed : (r : ClientRecord) (old : Registry) → Joins old r → HaveSameIds old → HaveSameIds (with_confirmed r old)
+same_confirmed r old joins same =
     let new = with_confirmed r old in
     each_confirmed (λ a. EachRecord (HasSameId a) new) r old (each_confirmed (HasSameId r) r old (λ _. (refl, refl)) joins.after)
     (each_weaken (λ a. EachRecord (HasSameId a) old × HasSameId a r) (λ a. EachRecord (HasSameId a) new) (λ a h. each_confirmed (HasSameId a) r old h.1 h.0) old
@@ -134,35 +125,101 @@ ids_put r records ids =
     distinct_push have_same_id (filter q records) r (distinct_filter have_same_id q records ids)
     (all_filter (λ s. ⊤) (λ s. have_same_id s r ≡ false) q (λ s _ kept. not-true (bytes_eq s.id r.id) kept) records (all_always records))
 
-singles_unconfirmed : (last confirm : ℕ) (r : ClientRecord) (old : Registry) → Joins last old r → EachRecord (HasGivenNumber last) old → HasSingles old
-    → HasSingles (record (with_unconfirmed r old) { last_number = last; last_confirm = confirm })
-singles_unconfirmed last confirm r old joins given h = record {
+singles_unconfirmed : (r : ClientRecord) (old : Registry) → Joins old r → HasSingles old → HasSingles (with_unconfirmed r old)
+singles_unconfirmed r old joins h = record {
+  slots = h.slots;
+  values = h.values;
   confirmed = h.confirmed;
   unconfirmed = ids_put r old.unconfirmed h.unconfirmed;
-  same = same_unconfirmed last r old joins h.same;
-  given = each_unconfirmed (HasGivenNumber last) r old joins.given given;
+  same = same_unconfirmed r old joins h.same;
+  given = each_unconfirmed (HasLastNumber old.given) r old joins.given h.given;
 }
 
-singles_confirmed : (r : ClientRecord) (old : Registry) → Joins old.last_number old r → HasSingles old → HasSingles (with_confirmed r old)
+singles_confirmed : (r : ClientRecord) (old : Registry) → Joins old r → HasSingles old → HasSingles (with_confirmed r old)
 singles_confirmed r old joins h = record {
+  slots = h.slots;
+  values = h.values;
   confirmed = ids_put r old.confirmed h.confirmed;
   unconfirmed = distinct_filter have_same_id (λ s. not (is_of r.id s)) old.unconfirmed h.unconfirmed;
-  same = same_confirmed old.last_number r old joins h.same;
-  given = each_confirmed (HasGivenNumber old.last_number) r old joins.given h.given;
+  same = same_confirmed r old joins h.same;
+  given = each_confirmed (HasLastNumber old.given) r old joins.given h.given;
 }
 
-rises : (registry : Registry) → EachRecord (HasGivenNumber registry.last_number) registry → EachRecord (HasGivenNumber (registry.last_number + 1)) registry
-rises registry given =
-    let last = registry.last_number in
-    each_weaken (HasGivenNumber last) (HasGivenNumber (last + 1)) (λ s k. (k.0, omega (arith, k.1))) registry given
+-- no count is above what none was above
+values_rise : (last : ℕ) (given : List ℕ) → AllByRecursion (λ count. count ≤ last) given → AllByRecursion (λ count. count ≤ last + 1) given
+values_rise last given h = all_weaken (λ count. count ≤ last) (λ count. count ≤ last + 1) (λ count below. omega (arith, below)) given h
+
+-- one more confirm value was given
+singles_valued : (old : Registry) → HasSingles old → HasSingles (record old { last_confirm = old.last_confirm + 1 })
+singles_valued old h = record {
+  slots = h.slots;
+  values = values_rise old.last_confirm old.given h.values;
+  confirmed = h.confirmed;
+  unconfirmed = h.unconfirmed;
+  same = h.same;
+  given = h.given;
+}
+
+-- A newcomer comes.
+
+-- the registry when the newcomer's number was given, and its slot is free
+abbrev pub before_newcomer : ClientRecord → Registry → Registry
+before_newcomer r old =
+    let slot = slot_of r.state.client.number in
+    record (without_unconfirmed_of slot old) { given = counted old.given slot; last_confirm = old.last_confirm + 1 }
+
+-- it holds of all records that stay, which have other slots
+pub each_before : (P Q : ClientRecord → Type 0) (r : ClientRecord) (old : Registry) → is_live_slot old (slot_of r.state.client.number) ≡ false
+    → ((s : ClientRecord) → P s → has_slot (slot_of r.state.client.number) s ≡ false → Q s) → EachRecord P old → EachRecord Q (before_newcomer r old)
+each_before P Q r old none_live keeps h =
+    let has : ClientRecord → Bool = has_slot (slot_of r.state.client.number) in (
+      all_weaken (λ s. P s × (has s ≡ false)) Q (λ s both. keeps s both.0 both.1) old.confirmed
+          (all_both P (λ s. has s ≡ false) old.confirmed h.0 (none_passes has old.confirmed none_live)),
+      all_filter P Q (λ s. not (has s)) (λ s k other. keeps s k (not-true (has s) other)) old.unconfirmed h.1,
+    )
+
+-- the numbers of two slots differ
+apart_from : (r s : ClientRecord) → has_slot (slot_of r.state.client.number) s ≡ false → s.state.client.number ≡ r.state.client.number → ⊥
+apart_from r s other same =
+    eqb-false (slot_of s.state.client.number) (slot_of r.state.client.number) other (ap slot_of same)
+
+joins_fresh : (r : ClientRecord) (old : Registry) → CanBeGiven r.state.client.number old → HasSingles old → Joins (before_newcomer r old) r
+joins_fresh r old ready h =
+    let n = r.state.client.number in
+    let last = HasLastNumber old.given in
+    record {
+      before = each_before last (λ s. HasSameId s r) r old ready.0.alone (λ s k other is. absurd (apart_from r s other is)) h.given;
+      after = each_before last (HasSameId r) r old ready.0.alone (λ s k other is. absurd (apart_from r s other (sym is))) h.given;
+      given = last_here old.given n (subst (λ many. slot_of n < many) (sym h.slots) (slot_below n)) ready.0.is_number ready.0.next;
+    }
+
+singles_before : (r : ClientRecord) (old : Registry) → CanBeGiven r.state.client.number old → HasSingles old → HasSingles (before_newcomer r old)
+singles_before r old ready h =
+    let slot = slot_of r.state.client.number in
+    let has : ClientRecord → Bool = has_slot slot in
+    let new = before_newcomer r old in
+    let none_live = ready.0.alone in
+    let last = old.last_confirm in
+    record {
+      slots = length-set old.given slot (given_of old slot + 1) ∙ h.slots;
+      values = all_set (λ count. count ≤ last + 1) old.given slot (given_of old slot + 1) (values_rise last old.given h.values)
+          (omega (arith, count_within last old.given slot h.values));
+      confirmed = h.confirmed;
+      unconfirmed = distinct_filter have_same_id (λ s. not (has s)) old.unconfirmed h.unconfirmed;
+      same = each_before (λ a. EachRecord (HasSameId a) old) (λ a. EachRecord (HasSameId a) new) r old none_live
+          (λ a row _. each_before (HasSameId a) (HasSameId a) r old none_live (λ s k _. k) row) h.same;
+      given = each_before (HasLastNumber old.given) (HasLastNumber (counted old.given slot)) r old none_live
+          (λ s k other. last_elsewhere old.given slot s.state.client.number (eqb-false (slot_of s.state.client.number) slot other) k) h.given;
+    }
 
 -- A change that is ready keeps the records single.
 pub singles_changed : (change : ClientChange) (old : Registry) → IsClientReady change old → HasSingles old → HasSingles (with_change change old)
 singles_changed client_changes.Nothing old ready h = h
 singles_changed (client_changes.Arrives r) old ready h =
-    singles_unconfirmed (old.last_number + 1) (old.last_confirm + 1) r old (joins_fresh old r ready.0 h.given) (rises old h.given) h
+    singles_unconfirmed r (before_newcomer r old) (joins_fresh r old ready h) (singles_before r old ready h)
 singles_changed (client_changes.Updates r) old ready h =
-    singles_unconfirmed old.last_number (old.last_confirm + 1) r old (joins_of_record r old.confirmed old ready h.same.0 h.given.0) h.given h
+    let new : Registry = record old { last_confirm = old.last_confirm + 1 } in
+    singles_unconfirmed r new (joins_of_record r old.confirmed new ready h.same.0 h.given.0) (singles_valued old h)
 singles_changed (client_changes.Confirms r) old ready h =
     singles_confirmed r old (joins_of_record r old.unconfirmed old ready.1 h.same.1 h.given.1) h
 singles_changed (client_changes.Refreshes r) old ready h =
@@ -207,13 +264,15 @@ same_marked number path old same =
 
 singles_marked : (number : ℕ) (path : PathMark) (old : Registry) → HasSingles old → HasSingles (with_mark number path old)
 singles_marked number path old h =
-    let given : ClientRecord → Type 0 = HasGivenNumber old.last_number in
+    let given : ClientRecord → Type 0 = HasLastNumber old.given in
     record {
+      slots = h.slots;
+      values = h.values;
       confirmed = distinct_mapped (after_mark number path) have_same_id (ids_marked number path) old.confirmed h.confirmed;
       unconfirmed = h.unconfirmed;
       same = same_marked number path old h.same;
       given = each_marked number path given given (λ r k. k)
-          (λ r k. subst (λ (c : ClientId). WasGiven old.last_number c.number) (sym (same_record number path r).1) k) old h.given;
+          (λ r k. subst (λ (c : ClientId). IsLastOf old.given c.number) (sym (same_record number path r).1) k) old h.given;
     }
 
 pub singles_after : (change : Change) (old : State) → IsChangeReady change old → HasSingles old.clients → HasSingles (with_state_change change old).clients
@@ -224,11 +283,13 @@ singles_after (changes.Expires client) old ready h =
     let q : ClientRecord → Bool = λ r. not (is_of_client client.number r) in
     let new = without_client client.number registry in
     record {
+      slots = h.slots;
+      values = h.values;
       confirmed = distinct_filter have_same_id q registry.confirmed h.confirmed;
       unconfirmed = distinct_filter have_same_id q registry.unconfirmed h.unconfirmed;
       same = each_left (λ a. EachRecord (HasSameId a) new) client.number registry
           (each_weaken (λ a. EachRecord (HasSameId a) registry) (λ a. EachRecord (HasSameId a) new) (λ a row. each_left (HasSameId a) client.number registry row) registry h.same);
-      given = each_left (HasGivenNumber registry.last_number) client.number registry h.given;
+      given = each_left (HasLastNumber registry.given) client.number registry h.given;
     }
 singles_after (changes.MarksPath client path) old ready h = singles_marked client path old.clients h
 -- an OPEN leaves the clients as they are, be a delegation given or not
@@ -241,7 +302,14 @@ singles_owned owner_changes.Nothing number old h = h
 singles_owned change number old h = h
 
 pub singles_empty : HasSingles no_clients
-singles_empty = record { confirmed = distinct_none have_same_id; unconfirmed = distinct_none have_same_id; same = (tt, tt); given = (tt, tt) }
+singles_empty = record {
+  slots = length-replicate {A = ℕ} SLOTS 0;
+  values = all_replicate (λ count. count ≤ 0) 0 (omega arith) SLOTS;
+  confirmed = distinct_none have_same_id;
+  unconfirmed = distinct_none have_same_id;
+  same = (tt, tt);
+  given = (tt, tt);
+}
 
 -- All confirmed records with the number of a client that is live are its own.
 pub alone : (client : ClientId) (registry : Registry) → is_live_in registry.confirmed client ≡ true → HaveSameIds registry → AllByRecursion (IsAloneOf client) registry.confirmed
@@ -284,21 +352,24 @@ takes_none r s same =
     let ids = (same (sym (eqb-true s.state.client.number r.state.client.number both.0))).1 in
     never (is_of r.id s) (not-true (is_of r.id s) both.1) ((bytes_eq-Decides s.id r.id).1 (sym ids)))
 
-own_number : (registry : Registry) (r : ClientRecord) → EachRecord (HasSameId r) registry × HasGivenNumber registry.last_number r → HasOwnNumber registry r
+own_number : (registry : Registry) (r : ClientRecord) → EachRecord (HasSameId r) registry × HasLastNumber registry.given r → HasOwnNumber registry r
 own_number registry r h =
     let n = r.state.client.number in
+    let slot = slot_of n in
     let takes : ClientRecord → Bool = takes_number r.id n in
     let none = each_weaken (HasSameId r) (λ s. takes s ≡ false) (λ s same. takes_none r s same) registry h.0 in (
-      and_from (nat_le 1 n) (nat_le n registry.last_number) (le-leb 1 n h.1.0) (le-leb n registry.last_number h.1.1),
+      and_from (nat_lt 0 slot) (generation_of n + 1 == given_of registry slot) (lt-ltb 0 slot h.1.0) (eq-eqb (generation_of n + 1) (given_of registry slot) h.1.1),
       none_any takes registry.confirmed none.0,
       none_any takes registry.unconfirmed none.1,
     )
 
 pub are_records : (registry : Registry) → HasSingles registry → AreRecords registry
 are_records registry h =
-    let own = each_weaken (λ r. EachRecord (HasSameId r) registry × HasGivenNumber registry.last_number r) (HasOwnNumber registry) (own_number registry) registry
-    (each_both (λ r. EachRecord (HasSameId r) registry) (HasGivenNumber registry.last_number) registry h.same h.given) in
+    let own = each_weaken (λ r. EachRecord (HasSameId r) registry × HasLastNumber registry.given r) (HasOwnNumber registry) (own_number registry) registry
+    (each_both (λ r. EachRecord (HasSameId r) registry) (HasLastNumber registry.given) registry h.same h.given) in
     record {
+      slots = h.slots;
+      values = h.values;
       confirmed = h.confirmed;
       unconfirmed = h.unconfirmed;
       confirmed_numbers = own.0;

@@ -1,9 +1,10 @@
 -- No limit is exceeded.
 use Rattle.std.proofs.Common.{◌≡◌, ℕ, Bool, true, false, cond, Option, Some, None, List, [], ◌∷◌, length, map, refl, arith}
 use Rattle.std.specs.Prelude.{◌+◌, ◌≤◌, ◌<◌, ◌&&◌, ◌||◌, is_some, nat_lt, not, if◌then◌else◌}
-use Rattle.std.specs.List.{AllByRecursion, list_any}
+use Rattle.std.specs.List.{AllByRecursion}
 use Rattle.std.proofs.lemmas.Bool.{ltb-false, ltb-true}
 use Rattle.nfs_core.specs.Safe.{HasFewRuns, KeepsLimits}
+use Rattle.nfs_core.proofs.LiveLists.{none_passes}
 use Rattle.nfs_core.proofs.SafeFiles.{locks_at, set_locks}
 use Rattle.nfs_core.proofs.SafeLists.{all_both, all_filter, all_map, all_push, all_replicate, all_set}
 use Rattle.nfs_core.proofs.SafeSums.{as_many, fewer, one_more, still_within, sum_all_none, sum_of_all, sum_ones}
@@ -16,12 +17,13 @@ use Rattle.nfs_locks.specs.AllLocks.{is_full_for, lock_count, locks_of}
 use Rattle.nfs_locks.specs.Locks.{ByteLocks, after_change, first_state, is_lock_of, is_lock_of_client, is_numbered, is_under, with_first_lock, with_lock_change, would_be_full}
 use Rattle.nfs_locks.specs.Locks as locks
 use Rattle.nfs_owners.specs.ClientChange.{with_change}
-use Rattle.nfs_owners.specs.Registry.{Registry}
+use Rattle.nfs_owners.specs.Registry.{Registry, given_of}
+use Rattle.nfs_owners.specs.Slots.{slot_of}
 use Rattle.nfs_owners.specs.StateOwner.{lock_owner, open_owner}
-use Rattle.nfs_owners.specs.declared.client_record.TheConstants.{CLIENT_LIMIT}
 use Rattle.nfs_owners.specs.declared.clients.client_change.ClientChange.{ClientChange}
 use Rattle.nfs_owners.specs.declared.clients.client_change.ClientChange.TheVariants as client_changes
 use Rattle.nfs_owners.specs.declared.owner.TheConstants.{OWNER_LIMIT}
+use Rattle.nfs_owners.specs.declared.slots.TheConstants.{GENERATIONS, SLOTS}
 use Rattle.nfs_owners.specs.declared.state_owner.StateOwner.{StateOwner}
 use Rattle.nfs_ranges.specs.Modes.{modes_of, with_change as with_mode_change}
 use Rattle.nfs_ranges.specs.Runs.{runs}
@@ -163,19 +165,24 @@ owners_changed change old below = below
 
 -- The clients' numbers.
 
-numbers_changed : (change : ClientChange) (old : Registry) → IsClientReady change old → old.last_number ≤ CLIENT_LIMIT → (with_change change old).last_number ≤ CLIENT_LIMIT
+abbrev HaveFewGenerations : Registry → Type 0
+HaveFewGenerations registry = AllByRecursion (λ count. count ≤ GENERATIONS) registry.given
+
+numbers_changed : (change : ClientChange) (old : Registry) → IsClientReady change old → HaveFewGenerations old → HaveFewGenerations (with_change change old)
 numbers_changed client_changes.Nothing old ready below = below
-numbers_changed (client_changes.Arrives r) old ready below = omega (arith, ltb-true old.last_number CLIENT_LIMIT ready.1)
+numbers_changed (client_changes.Arrives r) old ready below =
+    let slot = slot_of r.state.client.number in
+    all_set (λ count. count ≤ GENERATIONS) old.given slot (given_of old slot + 1) below (omega (arith, ltb-true (given_of old slot) GENERATIONS ready.1))
 numbers_changed change old ready below = below
 
-clients_changed : (change : Change) (old : State) → IsChangeReady change old → old.clients.last_number ≤ CLIENT_LIMIT → (with_state_change change old).clients.last_number ≤ CLIENT_LIMIT
+clients_changed : (change : Change) (old : State) → IsChangeReady change old → HaveFewGenerations old.clients → HaveFewGenerations (with_state_change change old).clients
 clients_changed changes.Nothing old ready below = below
 clients_changed (changes.Opens node owner share None) old ready below = below
 clients_changed (changes.Opens node owner share (Some kind)) old ready below = below
 clients_changed (changes.Clients change) old ready below = numbers_changed change old.clients ready below
 clients_changed change old ready below = below
 
-clients_owned : (change : OwnerChange) (number : ℕ) (old : State) → old.clients.last_number ≤ CLIENT_LIMIT → (with_owner_change change number old).clients.last_number ≤ CLIENT_LIMIT
+clients_owned : (change : OwnerChange) (number : ℕ) (old : State) → HaveFewGenerations old.clients → HaveFewGenerations (with_owner_change change number old).clients
 clients_owned owner_changes.Nothing number old below = below
 clients_owned change number old below = below
 
@@ -192,18 +199,6 @@ not_above many limit unset = ltb-false limit many unset
 
 runs_left : (test : ByteLocks → Bool) (xs : List ByteLocks) → AllByRecursion HasFewRuns xs → AllByRecursion HasFewRuns (locks.without test xs)
 runs_left test xs h = all_filter HasFewRuns HasFewRuns (λ l. not (test l)) (λ l k _. k) xs h
-
-none_passes : {X : Type 0} (p : X → Bool) (xs : List X) → list_any p xs ≡ false → AllByRecursion (λ x. p x ≡ false) xs
-none_passes p [] none = tt
-none_passes p (x ∷ xs) none = (or_first (p x) (list_any p xs) none, none_passes p xs (or_second (p x) (list_any p xs) none))
-  where
-    or_first : (a b : Bool) → (a || b) ≡ false → a ≡ false
-    or_first true b none = none
-    or_first false b none = refl
-
-    or_second : (a b : Bool) → (a || b) ≡ false → b ≡ false
-    or_second true b none = absurd cc
-    or_second false b none = none
 
 -- the lock state with the number isn't full after the change
 run_changed : (change : Piece) (l : ByteLocks) (numbered : Bool) → HasFewRuns l → (numbered && would_be_full change l) ≡ false → HasFewRuns (cond numbered (after_change change l) l)
@@ -271,6 +266,6 @@ limits_empty nodes =
     record {
       states = omega (arith, state_count_is (empty_server nodes), no_opens, no_locks, no_delegations);
       owners = omega arith;
-      clients = omega arith;
+      clients = all_replicate (λ count. count ≤ GENERATIONS) 0 (omega arith) SLOTS;
       runs = all_replicate (AllByRecursion HasFewRuns) [] tt count;
     }

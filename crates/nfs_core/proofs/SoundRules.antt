@@ -33,12 +33,14 @@ use Rattle.nfs_state.specs.Changes.{change_alone, with_owner_change}
 use Rattle.nfs_rules.specs.Refusing.{◌>>=◌}
 use Rattle.nfs_rules.specs.Stateids.{any_open, as_open, confirmed_open, verdict}
 use Rattle.nfs_state.specs.State.{State, History, record_has_state}
+use Rattle.nfs_core.proofs.Choosing.{chosen_next}
 use Rattle.nfs_core.proofs.Transferring.{each_read, each_write}
 use Rattle.nfs_core.proofs.SafeLists.{all_always, all_find, all_none, all_weaken, found_last, found_some}
 use Rattle.nfs_core.proofs.Sound.{AreSingle, HasSameClient, HasRecord, IsOnlyOf, IsSound, is_live_in, is_record_of, same_client_self, same_name_self}
+use Rattle.nfs_core.proofs.SoundClients.{HasSingles}
 use Rattle.nfs_core.proofs.SoundLocking.{lock_ready, lock_sequenced, locku_ready, stateid_of}
 use Rattle.nfs_core.proofs.SoundSequences.{IsFit, IsOf, IsOwnReady, as_decided, continues_ready, continuing, never, place_for_nobody, quiet_ready, sequenced_ready, some_equal}
-use Rattle.nfs_core.proofs.SoundSteps.{CanLend, IsChangeReady, IsClientReady, IsOwnerReady, IsReady, MayOpen}
+use Rattle.nfs_core.proofs.SoundSteps.{CanBeGiven, CanLend, IsChangeReady, IsClientReady, IsOwnerReady, IsReady, MayOpen}
 use Rattle.nfs_core.proofs.SoundTargets.{bound, ok_equal, unrefused}
 use Rattle.nfs_forms.specs.ClientId.{is_same_client}
 use Rattle.nfs_forms.specs.declared.client_id.ClientId.{ClientId}
@@ -53,10 +55,11 @@ use Rattle.nfs_operations.specs.declared.setclientid_confirm.SetclientidConfirm.
 use Rattle.nfs_forms.specs.declared.principal.Principal.{Principal}
 use Rattle.nfs_locks.specs.AllLocks.{holds}
 use Rattle.nfs_owners.specs.Addresses.{is_within_limit}
+use Rattle.nfs_owners.specs.Choice.{choice}
 use Rattle.nfs_owners.specs.Confirmation as confirmations
 use Rattle.nfs_owners.specs.Confirmation.{Confirmation, Stale, InUse, Retransmission, First, Update, InPlaceOf, confirmation_before, confirmation_beside, confirmation_by}
 use Rattle.nfs_owners.specs.Registration as registrations
-use Rattle.nfs_owners.specs.Registration.{has_number_left, registration_by}
+use Rattle.nfs_owners.specs.Registration.{arrival, registration_by}
 use Rattle.nfs_owners.specs.Registry.{Registry, confirmed_named_by, confirmed_of, is_named_by, is_of, record_of, record_state, unconfirmed_named_by}
 use Rattle.nfs_owners.specs.StateOwner.{as_open_owner, open_owner}
 use Rattle.nfs_owners.specs.declared.client_record.ClientRecord.{ClientRecord}
@@ -110,14 +113,20 @@ finding_found registry args (Some r) has_state principal is =
     (λ _. cond_both (bytes_eq r.state.verifier.0 args.verifier.0) (registrations.Update r.state.client) registrations.Arrival P (λ _. there) (λ _. tt))
     (λ _. cond_both has_state (registrations.InUse r.state.callback.address) registrations.Arrival P (λ _. tt) (λ _. tt))
 
-registered : (found : registrations.Finding) (epoch : ℕ) (registry : Registry) (principal : Principal) (args : Setclientid) → IsFound registry args found
+-- a newcomer's number can be given
+arrives : (epoch : ℕ) (registry : Registry) (principal : Principal) (args : Setclientid) (chosen : Option ℕ) → IfSome chosen (λ number. CanBeGiven number registry)
+    → IfSome (option_map (arrival epoch registry principal args) chosen) (λ x. IsClientReady x.1 registry)
+arrives epoch registry principal args None next = tt
+arrives epoch registry principal args (Some number) next = next
+
+registered : (found : registrations.Finding) (epoch : ℕ) (registry : Registry) (principal : Principal) (args : Setclientid) → HasSingles registry → IsFound registry args found
     → IfSome (registration_by found epoch registry principal args) (λ x. IsClientReady x.1 registry)
-registered (registrations.InUse address) epoch registry principal args found = tt
-registered (registrations.Update client) epoch registry principal args found =
+registered (registrations.InUse address) epoch registry principal args singles found = tt
+registered (registrations.Update client) epoch registry principal args singles found =
     cond_both (is_within_limit args.callback.address) _ None (λ o. IfSome o (λ x. IsClientReady x.1 registry)) (λ _. found) (λ _. tt)
-registered registrations.Arrival epoch registry principal args found =
-    cond_both (is_within_limit args.callback.address && has_number_left registry) _ None (λ o. IfSome o (λ x. IsClientReady x.1 registry))
-    (λ both. (refl, (and_parts (is_within_limit args.callback.address) (has_number_left registry) both).1)) (λ _. tt)
+registered registrations.Arrival epoch registry principal args singles found =
+    cond_both (is_within_limit args.callback.address) _ None (λ o. IfSome o (λ x. IsClientReady x.1 registry))
+    (λ _. arrives epoch registry principal args (choice args.id registry) (chosen_next args.id registry singles.given)) (λ _. tt)
 
 registers : (number : ℕ) (old : State) (d : Decision) (o : Option (registrations.Outcome × ClientChange)) → IfSome o (λ x. IsClientReady x.1 old.clients) → Some d ≡ option_map setclientid.decision_of o → IsReady number old d
 registers number old d None ready is = absurd cc
@@ -396,18 +405,18 @@ returns_ready number state (Err refusal) d is = as_decided number state d _ is (
 returns_ready number state (Ok at) d is = as_decided number state d _ is (tt, tt)
 
 -- what a rule decides is ready to keep the state sound
-pub ruled_ready : (number : ℕ) (journal : History) (state : State) (op : Op) (request : Request) (d : Decision) → request.op ≡ op → IsSound state → IsRuled op journal state request (Some d) → IsReady number state d
-ruled_ready number journal state (ops.Getattr mask) request d same sound is =
+pub ruled_ready : (number : ℕ) (journal : History) (state : State) (op : Op) (request : Request) (d : Decision) → request.op ≡ op → IsSound state → HasSingles state.clients → IsRuled op journal state request (Some d) → IsReady number state d
+ruled_ready number journal state (ops.Getattr mask) request d same sound singles is =
     as_decided number state d _ is (tt, tt)
-ruled_ready number journal state (ops.Delegreturn args) request d same sound is =
+ruled_ready number journal state (ops.Delegreturn args) request d same sound singles is =
     returns_ready number state (delegreturn.delegation_at journal state request.filehandle args) d is
-ruled_ready number journal state (ops.Setclientid args) request d same sound is =
+ruled_ready number journal state (ops.Setclientid args) request d same sound singles is =
     let holder = record_state (confirmed_of state.clients args.id) in
     let has_state = record_has_state state holder in
     registers number state d (registrations.registration journal.epoch has_state state.clients request.principal args)
-    (registered (registrations.finding holder has_state request.principal args) journal.epoch state.clients request.principal args
+    (registered (registrations.finding holder has_state request.principal args) journal.epoch state.clients request.principal args singles
     (finding_found state.clients args (confirmed_of state.clients args.id) has_state request.principal refl)) is
-ruled_ready number journal state (ops.SetclientidConfirm args) request d same sound is =
+ruled_ready number journal state (ops.SetclientidConfirm args) request d same sound singles is =
     let path = confirm.path_of journal.policy.callbacks in
     let named = unconfirmed_named_by args state.clients in
     let has_state = record_has_state state (record_state (confirmations.holder_of named state.clients)) in
@@ -416,34 +425,34 @@ ruled_ready number journal state (ops.SetclientidConfirm args) request d same so
       confirms state.clients (confirmations.finding named state.clients has_state request.principal args) path sound.single
           (finding_fits state.clients named has_state request.principal args refl),
     )
-ruled_ready number journal state (ops.Open args) request d same sound is =
+ruled_ready number journal state (ops.Open args) request d same sound singles is =
     sequenced_ready number journal state (requester_of_open state args.owner args.seqid) request (opening.own journal state args)
     (open_ready number journal state request.op args request sound same) d is
-ruled_ready number journal state (ops.OpenConfirm args) request d same sound is =
+ruled_ready number journal state (ops.OpenConfirm args) request d same sound singles is =
     sequenced_ready number journal state (requester_of_stateid journal state args.stateid args.seqid) request (open_confirm.own journal state args)
     (quiet_ready number journal state (requester_of_stateid journal state args.stateid args.seqid) request.op (open_confirm.own journal state args request) sound (ap is_open same) (λ client. ap (newcomer_of journal state client) same)
     (λ node passage ruling h. as_ruled ruling _ h (confirmation_quiet state (verdict (any_open node) journal.epoch state args.stateid >>= as_open)))) d is
-ruled_ready number journal state (ops.OpenDowngrade args) request d same sound is =
+ruled_ready number journal state (ops.OpenDowngrade args) request d same sound singles is =
     sequenced_ready number journal state (requester_of_stateid journal state args.stateid args.seqid) request (open_downgrade.own journal state args)
     (quiet_ready number journal state (requester_of_stateid journal state args.stateid args.seqid) request.op (open_downgrade.own journal state args request) sound (ap is_open same) (λ client. ap (newcomer_of journal state client) same)
     (λ node passage ruling h. found_quiet (verdict (confirmed_open node) journal.epoch state args.stateid >>= as_open) args ruling h)) d is
-ruled_ready number journal state (ops.Close args) request d same sound is =
+ruled_ready number journal state (ops.Close args) request d same sound singles is =
     sequenced_ready number journal state (requester_of_stateid journal state args.stateid args.seqid) request (close.own journal state args)
     (quiet_ready number journal state (requester_of_stateid journal state args.stateid args.seqid) request.op (close.own journal state args request) sound (ap is_open same) (λ client. ap (newcomer_of journal state client) same)
     (λ node passage ruling h. as_ruled ruling _ h (closing_quiet (verdict (confirmed_open node) journal.epoch state args.stateid >>= as_open)))) d is
-ruled_ready number journal state (ops.Lock args) request d same sound is =
+ruled_ready number journal state (ops.Lock args) request d same sound singles is =
     let sequenced = lock_sequenced args args.locker journal state request (Some d) is in
     sequenced_ready number journal state (requester_of_stateid journal state (stateid_of args.locker) sequenced.0) request (lock.own journal state args)
     (lock_ready number journal state request.op args request sequenced.0 sound same) d sequenced.1
-ruled_ready number journal state (ops.Lockt args) request d same sound is =
+ruled_ready number journal state (ops.Lockt args) request d same sound singles is =
     test_ready number state args (lockt.lockt_file journal state request.filehandle args) d is
-ruled_ready number journal state (ops.Locku args) request d same sound is =
+ruled_ready number journal state (ops.Locku args) request d same sound singles is =
     sequenced_ready number journal state (requester_of_stateid journal state args.stateid args.seqid) request (locku.own journal state args)
     (locku_ready number journal state request.op args request sound same) d is
-ruled_ready number journal state (ops.ReleaseLockowner args) request d same sound is =
+ruled_ready number journal state (ops.ReleaseLockowner args) request d same sound singles is =
     as_decided number state d _ is (release_ready number state args)
-ruled_ready number journal state (ops.Read args) request d same sound is =
+ruled_ready number journal state (ops.Read args) request d same sound singles is =
     as_decided number state d _ is (each_read (IsReady number state) journal state request args (λ refusal. (tt, tt)) (λ node. (tt, tt)) (λ node. (tt, tt)))
-ruled_ready number journal state (ops.Write args) request d same sound is =
+ruled_ready number journal state (ops.Write args) request d same sound singles is =
     as_decided number state d _ is (each_write (IsReady number state) journal state request args (λ refusal. (tt, tt)) (λ node. (tt, tt)) (tt, tt) (λ node short. (tt, short)))
-ruled_ready number journal state op request d same sound is = absurd cc
+ruled_ready number journal state op request d same sound singles is = absurd cc

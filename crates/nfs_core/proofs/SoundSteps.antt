@@ -26,8 +26,9 @@ use Rattle.nfs_locks.specs.AllLocks.{is_full_for, locks_of}
 use Rattle.nfs_locks.specs.Laws.{IsFreeFor}
 use Rattle.nfs_locks.specs.Locks.{first_state, is_lock_of, lock_of}
 use Rattle.nfs_locks.specs.Locks as locks
-use Rattle.nfs_owners.specs.Registration.{has_number_left}
+use Rattle.nfs_owners.specs.Choice.{IsNextNumber, has_number_left}
 use Rattle.nfs_owners.specs.Registry.{Registry, is_of, is_of_client}
+use Rattle.nfs_owners.specs.Slots.{slot_of}
 use Rattle.nfs_owners.specs.StateOwner.{is_same_state_owner, lock_owner, open_owner}
 use Rattle.nfs_owners.specs.declared.clients.client_change.ClientChange.{ClientChange}
 use Rattle.nfs_owners.specs.declared.clients.client_change.ClientChange.TheVariants as client_changes
@@ -57,12 +58,15 @@ IsOwnerReady (owner_changes.Restarts name) state =
 IsOwnerReady (owner_changes.Drops name) state = is_confirmed (open_owner name) state.owners ≡ false
 IsOwnerReady change state = ⊤
 
--- A new record has the next number, which is left, and any other the clientid and the id of one that is there. One is
--- confirmed as the first of its id, in place of one of its own client, or in place of one of the client that it replaces.
+-- the next number of a slot in which no client is live, and which has a generation left
+abbrev pub CanBeGiven : ℕ → Registry → Type 0
+CanBeGiven number registry = IsNextNumber number registry × (has_number_left registry (slot_of number) ≡ true)
+
+-- A new record has a number that can be given, and any other the clientid and the id of one that is there. One is confirmed
+-- as the first of its id, in place of one of its own client, or in place of one of the client that it replaces.
 abbrev pub IsClientReady : ClientChange → Registry → Type 0
 IsClientReady client_changes.Nothing registry = ⊤
-IsClientReady (client_changes.Arrives r) registry =
-    (r.state.client.number ≡ registry.last_number + 1) × (has_number_left registry ≡ true)
+IsClientReady (client_changes.Arrives r) registry = CanBeGiven r.state.client.number registry
 IsClientReady (client_changes.Updates r) registry = HasRecord r.state.client r.id registry.confirmed
 IsClientReady (client_changes.Confirms r) registry =
     AllByRecursion (λ s. is_of r.id s ≡ false) registry.confirmed × HasRecord r.state.client r.id registry.unconfirmed

@@ -1,13 +1,16 @@
 -- Which clients are live, and how entries of the journal change it (RFC 7530, sections 9.1.1, 9.6 and 16.34.5).
-use Rattle.std.specs.Prelude.{◌≡◌, ℕ, ⊤, not, ◌&&◌, ◌==◌, IsFalse, IsTrue, Option, Some, None, option_and_then}
+use Rattle.std.specs.Prelude.{◌≡◌, ℕ, ⊤, not, ◌&&◌, ◌==◌, ◌↔◌, IsFalse, IsTrue, List, Option, Some, None, option_and_then}
 use Rattle.nfs_core.specs.Events.{EndsNoClient, entry_by}
 use Rattle.nfs_core.specs.Lawful.{Lawful}
 use Rattle.nfs_core.specs.Step.{Step}
 use Rattle.nfs_core.specs.declared.event.Event.{Event}
+use Rattle.nfs_owners.specs.Choice.{choice}
 use Rattle.nfs_owners.specs.ClientLaws.{HaveSameClients}
 use Rattle.nfs_owners.specs.LiveChange.{is_live_after}
 use Rattle.nfs_owners.specs.LiveClients.{can_become_live, replaced_by}
 use Rattle.nfs_owners.specs.Registry.{IsClientNumber, Registry, is_live}
+use Rattle.nfs_owners.specs.SlotLaws.{AreSlotsLive}
+use Rattle.nfs_owners.specs.Slots.{slot_of}
 use Rattle.nfs_owners.specs.declared.live_change.LiveChange.{LiveChange}
 use Rattle.nfs_owners.specs.declared.live_change.LiveChange.TheVariants as live_changes
 use Rattle.nfs_rules.specs.entries.Expire.{is_live as is_live_in}
@@ -32,9 +35,23 @@ abbrev pub AreOfOneRun : History → State → Type 0
 AreOfOneRun journal state =
     (number : ℕ) → is_live_in journal state number ≡ is_live number state.clients
 
--- The client can become live, and has a number that can be given out.
+-- No client of the number's slot is live.
+abbrev pub IsAlone : ℕ → Registry → Type 0
+IsAlone number registry =
+    (other : ℕ) → slot_of other ≡ slot_of number → IsFalse (is_live other registry)
+
+-- There is no number for a newcomer exactly where a client is live in each slot: a lawful journal is too short to use up the
+-- generations of a slot.
+abbrev pub NewcomersFindSlots : Type 0
+NewcomersFindSlots =
+    (journal : History) (state : State) (id : List ℕ)
+    → Lawful journal state
+    → (choice id state.clients ≡ None) ↔ AreSlotsLive state.clients
+
+-- The client can become live, has a number that can be given out, and is alone in its slot.
 abbrev pub CanCome : ℕ → Registry → Type 0
-CanCome number registry = IsTrue (can_become_live number registry) × IsClientNumber number
+CanCome number registry =
+    IsTrue (can_become_live number registry) × IsClientNumber number × IsAlone number registry
 
 -- who comes could become live before, and who goes was live
 abbrev pub Fits : LiveChange → Registry → Type 0

@@ -15,7 +15,7 @@ use Rattle.nfs_state.specs.State.{State, History}
 use Rattle.nfs_owners.specs.Registry.{AreRecords, record_of}
 use Rattle.nfs_owners.specs.StateOwner.{lock_owner, open_owner}
 use Rattle.nfs_owners.specs.declared.client_record.ClientRecord.{ClientRecord}
-use Rattle.nfs_owners.specs.declared.client_record.TheConstants.{CLIENT_LIMIT}
+use Rattle.nfs_owners.specs.declared.slots.TheConstants.{GENERATIONS}
 use Rattle.nfs_owners.specs.declared.owner.TheConstants.{OWNER_LIMIT}
 use Rattle.nfs_ranges.specs.Runs.{runs}
 use Rattle.nfs_ranges.specs.declared.limits.TheConstants.{RUN_LIMIT}
@@ -120,8 +120,8 @@ pub record KeepsLimits (state : State) : Type 0 where
   -- opens, lock states and delegations together
   pub states : state_count state ≤ STATE_LIMIT
   pub owners : length state.owners ≤ OWNER_LIMIT
-  -- the numbers that clients were given
-  pub clients : state.clients.last_number ≤ CLIENT_LIMIT
+  -- how many numbers of each slot were given
+  pub clients : AllByRecursion (λ count. count ≤ GENERATIONS) state.clients.given
   pub runs : EachLock HasFewRuns state
 
 -- no file has more bytes than a file may have
@@ -154,8 +154,8 @@ pub record IsSafe (state : State) : Type 0 where
   -- the delegations of a file stand in the order of their numbers
   pub delegations_in_order : AllByRecursion StandInOrder state.delegations
   pub holders_live : EachDelegation (HasLiveHolder state) state
-  -- an id has at most one confirmed and at most one unconfirmed record (section 16.33.5), and each client number was
-  -- given, to one id
+  -- an id has at most one confirmed and at most one unconfirmed record (section 16.33.5), and each client number is the
+  -- last that was given of its slot, to one id
   pub records : AreRecords state.clients
   -- a clientid has at most one confirmed record
   pub one_of_client : IsDistinct have_same_client state.clients.confirmed

@@ -313,6 +313,13 @@ impl Core {
         self.held.store.tables.clients.next_live(after)
     }
 
+    /// How many clients are live: each has one confirmed record.
+    pub fn count_live(&self) -> usize
+        ensures { result ≡ length self.now.stored.clients.confirmed }
+    {
+        self.held.store.tables.clients.count_live()
+    }
+
     /// What the record of a live client has of whose path to its callbacks nothing is known: of the client with the
     /// least number above this one, if there is one.
     pub fn probe(&self, after: u32) -> Option<&ClientState>

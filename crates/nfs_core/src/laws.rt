@@ -1,5 +1,5 @@
 ghost use Rattle.nfs_core.specs.Lawful.{AtMostOneState, Lawful};
-ghost use Rattle.nfs_core.specs.LiveClients.{AreNumbered, AreOfOneRun, CallsFollow, EffectsFollow, EndsFollow, EventsFollow};
+ghost use Rattle.nfs_core.specs.LiveClients.{AreNumbered, AreOfOneRun, CallsFollow, EffectsFollow, EndsFollow, EventsFollow, NewcomersFindSlots};
 ghost use Rattle.nfs_core.specs.Recalls.{AreOneList, OthersRecallNothing, RecallsBegin, RecallsFollow, RecallsRise};
 ghost use Rattle.nfs_core.specs.Safe.{HaveFewBytes, IsSafe, KeepRequests};
 ghost use Rattle.nfs_core.specs.Step.{AtMostOneStateAfter, AtMostOneStep};
@@ -7,7 +7,7 @@ ghost use Rattle.nfs_state.specs.State.{State, History};
 ghost use Rattle.nfs_tree.specs.Tree.{IsTree};
 
 use nfs_locks::locks_stay_compatible;
-use nfs_owners::marks_keep_clients;
+use nfs_owners::{marks_keep_clients, no_number_is_left};
 use nfs_ranges::first_change_has_place;
 use nfs_rules::at_most_one_decision;
 use nfs_share::{delegations_stay_apart, delegations_stay_single, opens_stay_compatible};
@@ -79,6 +79,14 @@ pub fn lawful_is_safe()
     delegations_stay_apart();
     delegations_stay_single();
     first_change_has_place();
+}
+
+/// The law that a newcomer finds no number exactly where a client is live in each slot.
+pub fn newcomers_find_slots()
+    ensures { NewcomersFindSlots }
+{
+    lawful_is_safe();
+    no_number_is_left();
 }
 
 /// The law of how entries change which clients are live: as their effects say. One becomes so by its confirmation, and once

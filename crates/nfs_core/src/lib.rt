@@ -20,7 +20,7 @@ pub use entered::Entered;
 pub use event::Event;
 pub use following::FollowError;
 pub use laws::{
-    at_most_one_state, at_most_one_step, lawful_is_safe, live_clients_follow,
+    at_most_one_state, at_most_one_step, lawful_is_safe, live_clients_follow, newcomers_find_slots,
     others_recall_nothing, recalls_are_one_list, recalls_begin, recalls_follow, recalls_rise,
 };
 pub use nfs_rpc::Recall;

@@ -8,11 +8,11 @@ use Rattle.nfs_journal.specs.declared.opening.Opening.{Opening}
 use Rattle.xdr.specs.Form.{Form, ◌and◌, of, constant, many, u32}
 use Rattle.xdr.specs.Layout.{NO_LIMIT}
 
--- the ASCII text `NFSJRN01`, u32 epoch, u32 lease, policy
+-- the ASCII text `NFSJRN02`, u32 epoch, u32 lease, policy
 unfoldable pub opening : Form Opening
 opening = of (λ p. record { epoch = p.1.1.0; lease = p.1.1.1.0; policy = p.1.1.1.1 })
     (λ o. (tt, (tt, (o.epoch, (o.lease, o.policy))))) (λ p. refl) (λ o. refl)
-    (constant 0x4e46_534a and constant 0x524e_3031 and u32 and u32 and policy)
+    (constant 0x4e46_534a and constant 0x524e_3032 and u32 and u32 and policy)
 
 -- struct { opening; node nodes<>; entry entries<>; }
 unfoldable pub file : Form File

@@ -10,8 +10,8 @@ use xdr::{Wire, WireError, read_constant, write_five};
 /// The first four letters of each file, `NFSJ`.
 const FIRST_LETTERS: u32 = 0x4e46_534a;
 
-/// The letters after them, `RN01`.
-const LAST_LETTERS: u32 = 0x524e_3031;
+/// The letters after them, `RN02`.
+const LAST_LETTERS: u32 = 0x524e_3032;
 
 /// What a server began with, beside its tree.
 #[derive(Clone, Copy)]

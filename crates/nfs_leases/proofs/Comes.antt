@@ -1,5 +1,6 @@
 -- A sweep that has come to a client's number.
-use Rattle.std.proofs.Common.{◌≡◌, ℕ, ◌<◌, ◌≤◌, Bool, true, false, not, ◌==◌, ◌&&◌, nat_le, List, [], ◌∷◌, ◌++◌, Option, Some, None, refl, sym, ap, subst, ◌∙◌, arith}
+use Rattle.std.proofs.Common.{◌≡◌, ℕ, zero, suc, ◌-◌, ◌^◌, ◌<◌, ◌≤◌, Bool, true, false, not, ◌==◌, ◌&&◌, nat_le, List, [], ◌∷◌, ◌++◌, Option, Some, None, refl, sym, ap, subst, ◌∙◌, arith}
+use Rattle.std.proofs.lemmas.Bool.Decides.{nat_tests}
 use Rattle.std.proofs.lemmas.Grind.{common_steps}
 use Rattle.std.specs.Prelude.{IsFalse, IsTrue}
 use Rattle.std.specs.List.{list_any}
@@ -8,8 +9,8 @@ use Rattle.nfs_core.specs.Server.{IsLawful, Server}
 use Rattle.nfs_core.specs.Events.{expire_of}
 use Rattle.nfs_core.specs.Step.{Step}
 use Rattle.nfs_owners.specs.LiveClients.{IsNextLive, can_become_live}
-use Rattle.nfs_owners.specs.Registry.{Registry, is_live}
-use Rattle.nfs_leases.specs.BookEvent.{BookEvent, IsNextOpen, AllHappen, is_open_after, was_opened_after}
+use Rattle.nfs_owners.specs.Registry.{IsClientNumber, Registry, is_live}
+use Rattle.nfs_leases.specs.BookEvent.{BookEvent, AllHappen, is_open_after, was_opened_after}
 use Rattle.nfs_leases.specs.BookOf.{IsBookOf}
 use Rattle.nfs_leases.specs.Sweeps.{AreVisits, EndsClients, IsVisit, events_of_all, is_of, leased_server, none_swept, tally}
 use Rattle.nfs_leases.specs.Visit.{Gains, Visit, events_by, events_of, expiries, total, with_case}
@@ -70,14 +71,6 @@ stays ends cases.Changed client seen now old new lawful gains =
 stays ends cases.Refused client seen now old new lawful gains =
     stays_same client old.stored.clients new.stored.clients (ap (λ (s : State). s.clients) gains.leads)
 
--- whose lease is open next is live next, in a book whose open leases are those of the live clients
-pub next_live : (after : ℕ) (is_open : ℕ → Bool) (registry : Registry) (next : Option ℕ)
-    → ((client : ℕ) → is_open client ≡ is_live client registry)
-    → IsNextOpen after is_open next → IsNextLive after registry next
-next_live after is_open registry None same h = λ client live. h client (same client ∙ live)
-next_live after is_open registry (Some next) same h =
-    (sym (same next) ∙ h.0, h.1, λ client live above. h.2 client (same client ∙ live) above)
-
 -- The clients up to this number have had their visits, and `next` is the next one. The live clients above the number are
 -- those that were live at the beginning.
 pub record Comes {Book : Type 0} (happens : Book → BookEvent → Book → Type 0) (now upto : ℕ) (server : Server)
@@ -88,20 +81,24 @@ pub record Comes {Book : Type 0} (happens : Book → BookEvent → Book → Type
   pub right : AreVisits now visits server server'
   pub events : AllHappen happens book (events_of_all now visits) book'
   pub counts : swept ≡ tally none_swept visits
-  pub numbered : AreNumbered server'.stored.clients
   pub is_next : IsNextLive upto server'.stored.clients next
+
+-- nobody is live with the number 0
+none_first : (live : Bool) (client : ℕ) → (IsTrue live → IsClientNumber client) → (live && nat_le client 0) ≡ false
+none_first false client numbered = refl
+none_first true zero numbered = absurd (omega (arith, numbered refl))
+none_first true (suc client) numbered = grind (arith, nat_tests)
 
 pub comes_first : {Book : Type 0} (happens : Book → BookEvent → Book → Type 0) (now : ℕ) (server : Server) (book : Book)
     (next : Option ℕ) → AreNumbered server.stored.clients → IsNextLive 0 server.stored.clients next
     → Comes happens now 0 server book none_swept [] server book next
 comes_first happens now server book next numbered is_next = record {
-  each = λ client. grind (arith, common_steps, numbered client);
+  each = λ client. sym (none_first (is_live client server.stored.clients) client (numbered client));
   later = λ client h. refl;
   reaches = omega arith;
   right = refl;
   events = refl;
   counts = refl;
-  numbered = numbered;
   is_next = is_next;
 }
 
@@ -126,9 +123,9 @@ pub comes_further : {Book : Type 0} (happens : Book → BookEvent → Book → T
     → Comes happens now upto server book swept visits server' book' (Some t.client)
     → Stays (is_gone t.case) t.client server'.stored.clients server''.stored.clients
     → IsVisit now t server' server'' → AllHappen happens book' (events_of now t) book''
-    → AreNumbered server''.stored.clients → IsNextLive t.client server''.stored.clients next
+    → IsNextLive t.client server''.stored.clients next
     → Comes happens now t.client server book (with_case swept t.case) (visits ++ t ∷ []) server'' book'' next
-comes_further happens now upto server book swept visits server' book' t server'' book'' next h stay visit leads numbered is_next = record {
+comes_further happens now upto server book swept visits server' book' t server'' book'' next h stay visit leads is_next = record {
   each = λ client.
       each_further visits t upto client (is_live client server.stored.clients) (is_live client server'.stored.clients)
       (h.each client) (h.later client) h.is_next.1
@@ -146,7 +143,6 @@ comes_further happens now upto server book swept visits server' book' t server''
       subst (λ (events : List BookEvent). AllHappen happens book events book'') (sym (events_more now visits t))
       (happen_more happens book book' book'' (events_of_all now visits) (events_of now t) h.events leads);
   counts = ap (λ (s : Swept). with_case s t.case) h.counts ∙ sym (tally_more none_swept visits t);
-  numbered = numbered;
   is_next = is_next;
 }
 
@@ -165,12 +161,13 @@ comes_last happens now upto server book swept visits server' book' h = record {
   entries = gains_of_all now visits server server' h.right;
 }
 
--- there are no more visits than client numbers
+-- there are fewer visits than numbers of 32 bits
 pub total_before : {Book : Type 0} (happens : Book → BookEvent → Book → Type 0) (now upto : ℕ) (server : Server)
     (book : Book) (swept : Swept) (visits : List Visit) (server' : Server) (book' : Book) (client : ℕ)
-    → Comes happens now upto server book swept visits server' book' (Some client) → total swept < 4096
-total_before happens now upto server book swept visits server' book' client h =
-    omega (arith, ap total h.counts, total_tally none_swept visits, reaches_length 0 visits upto h.reaches, h.is_next.1, (h.numbered client h.is_next.0).1)
+    → Comes happens now upto server book swept visits server' book' (Some client) → client < 2 ^ 32
+    → total swept < 2 ^ 32 - 1
+total_before happens now upto server book swept visits server' book' client h low =
+    omega (arith, ap total h.counts, total_tally none_swept visits, reaches_length 0 visits upto h.reaches, h.is_next.1, low)
 
 -- The book after a visit.
 

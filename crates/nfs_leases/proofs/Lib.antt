@@ -1,5 +1,5 @@
 pub mod Lists
 pub mod Comes
-pub mod NextOpen
+pub mod Generations
 pub mod Books
 pub mod RevokedDelegations

@@ -2,18 +2,15 @@
 use Rattle.std.proofs.Common.{◌≡◌, ℕ, ◌+◌, ◌<◌, ◌≤◌, ◌==◌, ◌||◌, List, [], ◌∷◌, ◌++◌, length, refl, sym, ap, subst, ◌∙◌, append_assoc, arith}
 use Rattle.std.proofs.lemmas.Grind.{common_steps}
 use Rattle.std.specs.List.{list_any}
-use Rattle.nfs_core.specs.Lawful as lawful
-use Rattle.nfs_core.specs.Server.{IsLawful, Server}
+use Rattle.nfs_core.specs.Server.{Server}
 use Rattle.nfs_leases.specs.BookEvent.{BookEvent, AllHappen}
 use Rattle.nfs_leases.specs.laws.Counting.{expiries_more}
-use Rattle.nfs_leases.specs.laws.Gaining.{append-nil, gains_more, gains_none, states_more}
+use Rattle.nfs_leases.specs.laws.Gaining.{append-nil, gains_more, gains_none}
 use Rattle.nfs_leases.specs.Sweeps.{is_of, Ascend, AreVisits, IsVisit, events_of_all, tally}
 use Rattle.nfs_leases.specs.Visit.{Gains, Visit, events_of, expiries, total, with_case}
 use Rattle.nfs_leases.specs.declared.visit_case.VisitCase.{VisitCase}
 use Rattle.nfs_leases.specs.declared.visit_case.VisitCase.TheVariants as cases
 use Rattle.nfs_leases.specs.declared.swept.Swept.{Swept}
-use Rattle.nfs_state.specs.State.{History, empty_server}
-use Rattle.nfs_state.specs.Stored.{meaning}
 use Rattle.nfs_state.specs.declared.entry.Entry.{Entry}
 
 -- calls that lead to a book, and more that lead on from it
@@ -71,13 +68,6 @@ pub visits_more : (visits : List Visit) (t : Visit) (client : ℕ)
     → list_any (is_of client) (visits ++ t ∷ []) ≡ (list_any (is_of client) visits || (t.client == client))
 visits_more [] t client = grind (arith, common_steps)
 visits_more (u ∷ visits) t client = grind (arith, common_steps, visits_more visits t client)
-
--- the journal of a server that gained entries leads to its state, if it did before
-pub lawful_more : (more : List Entry) (old new : Server) → IsLawful old → Gains more old new → IsLawful new
-lawful_more more old new h gains =
-    subst (λ (j : History). lawful.Lawful j (meaning new.stored)) (sym gains.journal)
-    (states_more (record old.journal { entries = [] }) (empty_server old.journal.nodes) (meaning old.stored)
-    (meaning new.stored) old.journal.entries more h gains.leads)
 
 pub right_more : (now : ℕ) (visits : List Visit) (t : Visit) (old mid new : Server)
     → AreVisits now visits old mid → IsVisit now t mid new → AreVisits now (visits ++ t ∷ []) old new

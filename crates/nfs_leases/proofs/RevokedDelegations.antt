@@ -27,7 +27,7 @@ same_clients registry = record {
   known = λ c. refl;
   client = λ c. refl;
   holder = λ id. refl;
-  last_given = refl;
+  same_given = refl;
   last_value = refl;
 }
 
@@ -39,7 +39,7 @@ clients_more old mid new h k = record {
   known = λ c. k.known c ∙ h.known c;
   client = λ c. k.client c ∙ h.client c;
   holder = λ id. k.holder id ∙ h.holder id;
-  last_given = k.last_given ∙ h.last_given;
+  same_given = k.same_given ∙ h.same_given;
   last_value = k.last_value ∙ h.last_value;
 }
 

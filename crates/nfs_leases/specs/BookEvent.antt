@@ -1,6 +1,7 @@
 -- The calls on a book of leases, and what each answer says of a lease. RFC 7530, section 9.5, has a client's lease
 -- renewed by what the client sends, and lets the server forget a client whose lease is over.
-use Rattle.std.specs.Prelude.{◌≡◌, ℕ, ◌<◌, ◌≤◌, Bool, IsTrue, true, false, not, ◌&&◌, ◌||◌, ◌==◌, List, [], ◌∷◌, Option, Some, None}
+use Rattle.std.specs.Prelude.{◌≡◌, ℕ, Bool, IsFalse, true, false, not, ◌&&◌, ◌||◌, ◌==◌, List, [], ◌∷◌}
+use Rattle.nfs_owners.specs.Slots.{is_earlier, slot_of}
 use Rattle.nfs_leases.specs.declared.lease_state.LeaseState.{LeaseState}
 use Rattle.nfs_leases.specs.declared.lease_state.LeaseState.TheVariants as lease_state
 use Rattle.nfs_leases.specs.declared.renewal.Renewal.{Renewal}
@@ -22,7 +23,7 @@ shows_open lease_state.Vacant = false
 shows_open (lease_state.Open moment) = true
 shows_open lease_state.Closed = false
 
--- the lease that is shown was opened
+-- the lease that is shown, or a later one of its slot, was opened
 abbrev pub shows_opened : LeaseState → Bool
 shows_opened lease_state.Vacant = false
 shows_opened (lease_state.Open moment) = true
@@ -34,7 +35,7 @@ is_renewed renewal.Renewed = true
 is_renewed renewal.Closed = false
 is_renewed renewal.Unknown = false
 
--- the answer says that the lease was opened once
+-- the answer says that the lease, or a later one of its slot, was opened
 abbrev pub is_known : Renewal → Bool
 is_known renewal.Renewed = true
 is_known renewal.Closed = true
@@ -54,21 +55,19 @@ is_open_after (Close c seen now answer) client before = before && not (is_done a
 is_open_after (Open c moment) client before = before || (client == c)
 is_open_after (Retire c) client before = before && not (client == c)
 
--- whether a client's lease was opened by the end of a call, where it was (or wasn't) before
+-- Whether a client's lease, or that of a later generation of its slot, was opened by the end of a call, where it was (or
+-- wasn't) before.
 abbrev pub was_opened_after : BookEvent → ℕ → Bool → Bool
 was_opened_after (Look c shown) client before = before
 was_opened_after (Renew c moment answer) client before = before
 was_opened_after (Close c seen now answer) client before = before
-was_opened_after (Open c moment) client before = before || (client == c)
+was_opened_after (Open c moment) client before =
+    before || (client == c) || is_earlier client c
 was_opened_after (Retire c) client before = before
 
--- the least number above this one whose lease is open, or that none is
-abbrev pub IsNextOpen : ℕ → (ℕ → Bool) → Option ℕ → Type 0
-IsNextOpen after is_open None = (client : ℕ) → IsTrue (is_open client) → client ≤ after
-IsNextOpen after is_open (Some next) =
-    IsTrue (is_open next)
-    × (after < next)
-    × ((client : ℕ) → IsTrue (is_open client) → after < client → next ≤ client)
+-- no lease of the client's slot is open, by this test of which are
+abbrev pub IsAloneIn : (ℕ → Bool) → ℕ → Type 0
+IsAloneIn is_open client = (other : ℕ) → slot_of other ≡ slot_of client → IsFalse (is_open other)
 
 -- The calls lead, one after another, from the old book to the new one. `happens` says of one call whether it leads from
 -- a book to a book.

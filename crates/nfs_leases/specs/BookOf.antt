@@ -3,17 +3,18 @@ use Rattle.std.specs.Prelude.{◌≡◌, ℕ, ⊤, Bool, IsFalse, IsTrue, List, 
 use Rattle.nfs_core.specs.Server.{Server}
 use Rattle.nfs_core.specs.declared.entered.Entered.{Entered}
 use Rattle.nfs_owners.specs.LiveClients.{can_become_live}
-use Rattle.nfs_owners.specs.Registry.{IsClientNumber, is_live}
+use Rattle.nfs_owners.specs.Registry.{is_live}
 use Rattle.nfs_owners.specs.declared.live_change.LiveChange.{LiveChange}
 use Rattle.nfs_owners.specs.declared.live_change.LiveChange.TheVariants as changes
-use Rattle.nfs_leases.specs.BookEvent.{BookEvent, Open, Retire}
+use Rattle.nfs_leases.specs.BookEvent.{BookEvent, IsAloneIn, Open, Retire}
 
 -- A book with these open leases, these that were opened, and this lease in seconds is the book of this core's clients.
 pub record IsBookOf (is_open was_opened : ℕ → Bool) (lease : ℕ) (server : Server) : Type 0 where
   pub lasts : lease ≡ server.journal.lease
   -- the leases that are open are those of the live clients
   pub live : (client : ℕ) → is_open client ≡ is_live client server.stored.clients
-  -- no client whose lease was opened can become live, so that no lease has to be opened twice
+  -- no client can become live whose lease, or that of a later generation of its slot, was opened; so no lease has to be
+  -- opened twice
   pub past : (client : ℕ) → IsTrue (was_opened client)
       → IsFalse (can_become_live client server.stored.clients)
 
@@ -30,16 +31,14 @@ abbrev pub events_entered : Option Entered → ℕ → List BookEvent
 events_entered None moment = []
 events_entered (Some entered) moment = events_of_change entered.live moment
 
--- the lease of the client can be opened, as it never was; it can be retired, as it was opened
-abbrev pub CanOpen : (ℕ → Bool) → ℕ → Type 0
-CanOpen was_opened client = IsClientNumber client × IsFalse (was_opened client)
+-- The lease of the client can be opened, as neither it nor a later one of its slot was, and none of its slot is open.
+abbrev pub CanOpen : (is_open was_opened : ℕ → Bool) → ℕ → Type 0
+CanOpen is_open was_opened client = IsFalse (was_opened client) × IsAloneIn is_open client
 
-abbrev pub CanRetire : (ℕ → Bool) → ℕ → Type 0
-CanRetire was_opened client = IsClientNumber client × IsTrue (was_opened client)
-
--- the book can be asked what a change wants
-abbrev pub CanFollow : (ℕ → Bool) → LiveChange → Type 0
-CanFollow was_opened changes.Same = ⊤
-CanFollow was_opened (changes.Comes comes) = CanOpen was_opened comes
-CanFollow was_opened (changes.Replaces comes goes) = CanOpen was_opened comes × CanRetire was_opened goes
-CanFollow was_opened (changes.Goes goes) = CanRetire was_opened goes
+-- the book can be asked what a change wants: a lease that is retired was opened
+abbrev pub CanFollow : (is_open was_opened : ℕ → Bool) → LiveChange → Type 0
+CanFollow is_open was_opened changes.Same = ⊤
+CanFollow is_open was_opened (changes.Comes comes) = CanOpen is_open was_opened comes
+CanFollow is_open was_opened (changes.Replaces comes goes) =
+    CanOpen is_open was_opened comes × IsTrue (was_opened goes)
+CanFollow is_open was_opened (changes.Goes goes) = IsTrue (was_opened goes)

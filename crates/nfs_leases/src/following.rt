@@ -9,7 +9,7 @@ use nfs_state::Moment;
 
 /// Opens the lease of the client that became live, and retires that of the client that isn't live any more.
 pub(crate) fn follow<B: LeaseBook>(book: &mut B, change: LiveChange, moment: Moment)
-    requires { CanFollow (B.was_opened book.old) change }
+    requires { CanFollow (B.is_open book.old) (B.was_opened book.old) change }
     ensures { AllHappen B.happens book.old (events_of_change change moment) book.new }
 {
     match change {

@@ -16,6 +16,7 @@ use crate::renewing::renew_lease;
 use crate::sweeping::sweep_core;
 use crate::{LeaseBook, PlainLeases, Swept};
 use nfs_core::{Core, CoreError, Entered, Event, Recall, lawful_is_safe, live_clients_follow};
+use nfs_owners::slots_are_apart;
 use nfs_state::{Moment, Request};
 use nfs_xdr::OpResult;
 
@@ -52,6 +53,7 @@ impl<B: LeaseBook> LeasedCore<B> {
     {
         lawful_is_safe();
         live_clients_follow();
+        slots_are_apart();
         cores_are_lawful(&self.core);
         let moment = request.moment;
         let (answer, entered) = self.core.answer(request);

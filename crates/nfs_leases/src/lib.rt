@@ -8,6 +8,7 @@ mod laws;
 mod lease_book;
 mod lease_state;
 mod leased_core;
+mod place;
 mod plain_leases;
 mod renewal;
 mod renewing;

@@ -1,32 +1,32 @@
-ghost use Rattle.std.specs.Prelude.{◌≡◌, ◌+◌, ℕ, IfOk, false, replicate, slice_index_or};
-ghost use Rattle.std.specs.List.{position};
-ghost use Rattle.nfs_owners.specs.declared.client_record.TheConstants.{CLIENT_LIMIT};
-ghost use Rattle.nfs_leases.specs.BookEvent.{shows_open};
-ghost use Rattle.nfs_leases.specs.PlainBook.{Happens, is_open_in, was_opened_in};
+ghost use Rattle.std.specs.Prelude.{◌≡◌, ◌<◌, ℕ, IfOk, false, length, replicate, slice_index_or, slice_set};
+ghost use Rattle.nfs_owners.specs.Slots.{generation_of, slot_of};
+ghost use Rattle.nfs_owners.specs.declared.slots.TheConstants.{SLOTS};
+ghost use Rattle.nfs_leases.specs.PlainBook.{Happens, empty_place, is_open_in, lease_in, was_opened_in};
 
+use crate::place::Place;
 use crate::{Closing, LeaseBook, LeaseState, Renewal};
-use nfs_owners::CLIENT_LIMIT;
+use nfs_owners::{SLOTS, generation_of, slot_of};
 use nfs_state::Moment;
 use std::alloc::{AllocError, Global};
 use std::marker::Model;
 
-/// A book of leases that is a plain list, with a place for each number of a client. Nobody else renews in it.
+/// A book of leases that is a plain list, with a place for each slot of clients' numbers. Nobody else renews in it.
 #[derive(Drop)]
 pub struct PlainLeases {
     lease: u32,
-    leases: Vec<LeaseState>,
+    places: Vec<Place>,
 }
 
 impl Model for PlainLeases {
-    ghost use Rattle.std.specs.Prelude.{◌≡◌, ◌+◌, length};
-    ghost use Rattle.nfs_owners.specs.declared.client_record.TheConstants.{CLIENT_LIMIT};
+    ghost use Rattle.std.specs.Prelude.{◌≡◌, length};
+    ghost use Rattle.nfs_owners.specs.declared.slots.TheConstants.{SLOTS};
     ghost use Rattle.nfs_leases.specs.PlainBook.{PlainBook};
 
     ghost Value = { PlainBook };
 
-    ghost view = { λ b. record { lease = b.lease; leases = b.leases.items } };
+    ghost view = { λ b. record { lease = b.lease; places = b.places.items } };
 
-    ghost invariant = { λ b. length b.leases.items ≡ CLIENT_LIMIT + 1 };
+    ghost invariant = { λ b. length b.places.items ≡ SLOTS };
 }
 
 impl PlainLeases {
@@ -34,35 +34,40 @@ impl PlainLeases {
     pub fn new(alloc: Global, lease: u32) -> Result<PlainLeases, AllocError>
         ensures value { IfOk result (λ book. book ≡ record {
           lease = lease;
-          leases = replicate (CLIENT_LIMIT + 1) LeaseState.Vacant;
+          places = replicate SLOTS empty_place;
         }) }
         ensures closed { IfOk result (λ book. (client : ℕ) → is_open_in book client ≡ false) }
         ensures fresh { IfOk result (λ book. (client : ℕ) → was_opened_in book client ≡ false) }
     {
         Ok(PlainLeases {
             lease,
-            leases: vec![in alloc; LeaseState::Vacant; CLIENT_LIMIT as usize + 1]?,
+            places: vec![in alloc; Place::EMPTY; SLOTS as usize]?,
         })
     }
 }
 
 // The client's lease.
-fn lease_at(leases: &[LeaseState], client: u32) -> LeaseState
-    ensures { result ≡ slice_index_or leases.now client LeaseState.Vacant }
+fn lease_at(places: &[Place], client: u32) -> LeaseState
+    requires { slot_of client < length places.now }
+    ensures { result ≡ lease_in (slice_index_or places.now (slot_of client) empty_place)
+        (generation_of client) }
 {
-    leases
-        .get(client as usize)
-        .copied()
-        .unwrap_or(LeaseState::Vacant)
+    let place = places[slot_of(client) as usize];
+    place.lease_in(generation_of(client))
 }
 
-// The first place of an open lease.
-fn open_place(leases: &[LeaseState]) -> Option<usize>
-    ensures { result ≡ position shows_open leases.now }
+// The client's lease becomes this one.
+fn put(places: &mut [Place], client: u32, lease: LeaseState)
+    requires { slot_of client < length places.old }
+    ensures { places.new ≡ slice_set places.old (slot_of client) (record {
+      generation = generation_of client;
+      lease = lease;
+    }) }
 {
-    leases
-        .iter()
-        .position(|lease| matches!(lease, LeaseState::Open(_)))
+    places[slot_of(client) as usize] = Place {
+        generation: generation_of(client),
+        lease,
+    };
 }
 
 impl LeaseBook for PlainLeases {
@@ -77,32 +82,29 @@ impl LeaseBook for PlainLeases {
     ghost happens = { Happens };
 
     fn look(&mut self, client: u32) -> LeaseState {
-        lease_at(&self.leases, client)
-    }
-
-    fn next_open(&self, after: u32) -> Option<u32> {
-        let first = after as usize + 1;
-        let place = open_place(self.leases.get(first..)?)?;
-        Some((first + place) as u32)
+        lease_at(&self.places, client)
     }
 
     fn renew(&mut self, client: u32, moment: Moment) -> Renewal {
-        match lease_at(&self.leases, client) {
+        match lease_at(&self.places, client) {
             LeaseState::Vacant => Renewal::Unknown,
             LeaseState::Closed => Renewal::Closed,
             LeaseState::Open(last) => {
-                if last.seconds() < moment.seconds() {
-                    self.leases[client as usize] = LeaseState::Open(moment);
-                }
+                let latest = if last.seconds() < moment.seconds() {
+                    moment
+                } else {
+                    last
+                };
+                put(&mut self.places, client, LeaseState::Open(latest));
                 Renewal::Renewed
             }
         }
     }
 
     fn close(&mut self, client: u32, seen: Moment, _now: Moment) -> Closing {
-        match lease_at(&self.leases, client) {
+        match lease_at(&self.places, client) {
             LeaseState::Open(last) if last.seconds() == seen.seconds() => {
-                self.retire(client);
+                put(&mut self.places, client, LeaseState::Closed);
                 Closing::Closed
             }
             _ => Closing::Changed,
@@ -110,11 +112,15 @@ impl LeaseBook for PlainLeases {
     }
 
     fn open(&mut self, client: u32, moment: Moment) {
-        self.leases[client as usize] = LeaseState::Open(moment);
+        put(&mut self.places, client, LeaseState::Open(moment));
     }
 
     fn retire(&mut self, client: u32) {
-        self.leases[client as usize] = LeaseState::Closed;
+        let last = self.places[slot_of(client) as usize].generation;
+        // Where a later one of its slot was opened, the lease has ended.
+        if last <= generation_of(client) {
+            put(&mut self.places, client, LeaseState::Closed);
+        }
     }
 
     ghost keeps_lease = { keeps_lease };

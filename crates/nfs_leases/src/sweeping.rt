@@ -3,7 +3,7 @@
 ghost use Rattle.std.specs.Prelude.{◌≡◌, List, ℕ, IsTrue};
 ghost use Rattle.nfs_core.specs.LiveClients.{AreOfOneRun};
 ghost use Rattle.nfs_core.specs.Server.{IsLawful};
-ghost use Rattle.nfs_owners.specs.Registry.{IsClientNumber, is_live};
+ghost use Rattle.nfs_owners.specs.Registry.{is_live};
 ghost use Rattle.nfs_leases.specs.BookEvent.{AllHappen};
 ghost use Rattle.nfs_leases.specs.BookOf.{IsBookOf};
 ghost use Rattle.nfs_leases.specs.Sweeps.{EndsClients, Sweeps, leased_server, none_swept, tally};
@@ -13,7 +13,7 @@ ghost use Rattle.nfs_state.specs.Stored.{meaning};
 use crate::revoking::revoke_due;
 use crate::visit_case::VisitCase;
 use crate::{Closing, LeaseBook, LeaseState, Swept};
-use nfs_core::{Core, Event, lawful_is_safe, live_clients_follow};
+use nfs_core::{Core, Event, live_clients_follow};
 use nfs_state::{Expire, Moment, is_over};
 
 /// Goes through the live clients, by rising numbers, and removes each whose lease is over at `now`: from the book, where
@@ -53,13 +53,11 @@ fn end_clients<B: LeaseBook>(core: &mut Core, book: &mut B, now: Moment) -> Swep
     ensures lawful { IsLawful core.new }
 {
     live_clients_follow();
-    lawful_is_safe();
-    core.journal();
     let mut swept = Swept::NONE;
-    let mut next = book.next_open(0);
+    let mut next = core.next_live(0);
     while let Some(client) = next {
         swept = swept.and(visit_of(core, book, client, now));
-        next = book.next_open(client);
+        next = core.next_live(client);
     }
     swept
 }
@@ -68,7 +66,6 @@ fn end_clients<B: LeaseBook>(core: &mut Core, book: &mut B, now: Moment) -> Swep
 // it was seen, and then the client is removed from the core.
 fn visit_of<B: LeaseBook>(core: &mut Core, book: &mut B, client: u32, now: Moment) -> VisitCase
     requires live { IsTrue (is_live client core.old.stored.clients) }
-    requires number { IsClientNumber client }
     requires run { AreOfOneRun core.old.journal (meaning core.old.stored) }
     requires agrees { IsBookOf (B.is_open book.old) (B.was_opened book.old) (B.lease book.old)
         core.old }

@@ -121,7 +121,7 @@ abbrev pub moment_default : ℕ
 moment_default = 0
 
 abbrev pub moment_max : ℕ
-moment_max = 1099511627775
+moment_max = 1099511627773
 
 abbrev pub listen_default : Text
 listen_default = codes "127.0.0.1:2049"

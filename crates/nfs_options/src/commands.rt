@@ -51,7 +51,7 @@ fn once_command<'a>(alloc: Global) -> Result<Command<'a>, AllocError>
         alloc,
         "now",
         "SECONDS",
-        "The moment of all calls, 0 to 1099511627775 seconds [default: 0]",
+        "The moment of all calls, 0 to 1099511627773 seconds [default: 0]",
     );
     let once = Command::new(alloc, "once")
         .about("Answers the records on standard input, to its end, on standard output")

@@ -17,18 +17,18 @@ pub struct OnceOptions<'a> {
     pub lease: u32,
     /// The number of the server's run, the upper half of each clientid.
     pub epoch: u32,
-    /// The moment of all calls, in seconds below 2^40.
+    /// The moment of all calls, in seconds below 2^40 - 2.
     pub moment: u64,
     /// The file to which the journal is written at the end, if there is one.
     pub journal: Option<&'a str>,
 }
 
-/// The moment of all calls, in seconds below 2^40.
+/// The moment of all calls, in seconds below 2^40 - 2.
 const MOMENT: NumberOption = NumberOption {
     name: "now",
     value_name: "SECONDS",
     least: 0,
-    most: (1 << 40) - 1,
+    most: (1 << 40) - 3,
     default: 0,
 };
 

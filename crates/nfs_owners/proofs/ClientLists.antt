@@ -1,8 +1,9 @@
 -- The clients' records: no two of one kind have one id, and each client number is that of one id.
-use Rattle.std.proofs.Common.{◌≡◌, ◌⊎◌, ℕ, ◌+◌, Bool, true, false, Some, None, List, [], ◌∷◌, ◌++◌, refl, sym, ap, ◌∙◌, subst, arith, inl, inr}
-use Rattle.std.specs.Prelude.{◌&&◌, ◌==◌, nat_le, not, filter, find, IfOk, Option, Result, Ok, Err, option_map, if◌then◌else◌}
+use Rattle.std.proofs.Common.{◌≡◌, ◌⊎◌, ℕ, zero, suc, ◌+◌, ◌≤◌, Bool, true, false, Some, None, replicate, List, [], ◌∷◌, ◌++◌, refl, sym, ap, ◌∙◌, subst, arith, inl, inr}
+use Rattle.std.specs.Prelude.{◌&&◌, not, filter, find, IfOk, Option, Result, Ok, Err, option_map, if◌then◌else◌}
 use Rattle.std.specs.List.{AllByRecursion, IsDistinct, list_any}
-use Rattle.std.proofs.lemmas.Bool.{and_from, and_parts, cases_Bool, cond-false, cond-true, cond_both, eqb-true, false_from_ne_true, le-leb, leb-true, not-true}
+use Rattle.std.proofs.lemmas.Bool.{cases_Bool, cond-false, cond-true, cond_both, not-true}
+use Rattle.std.proofs.lemmas.List.{length-replicate}
 use Rattle.std.proofs.lemmas.Slice.Eq.{bytes_eq-Decides}
 use Rattle.nfs_forms.specs.ClientId.{is_same_client}
 use Rattle.nfs_forms.specs.Principal.{is_same_principal}
@@ -16,6 +17,7 @@ use Rattle.nfs_owners.specs.declared.client_record.ClientState.{ClientState}
 use Rattle.nfs_owners.specs.declared.client_record.PathMark.{PathMark}
 use Rattle.nfs_owners.specs.declared.clients.client_change.ClientChange.{ClientChange}
 use Rattle.nfs_owners.specs.declared.clients.client_change.ClientChange.TheVariants as changes
+use Rattle.nfs_owners.specs.declared.slots.TheConstants.{SLOTS}
 use Rattle.nfs_owners.proofs.Lists.{all_both, all_filter, all_find, all_push, all_weaken, distinct_filter, distinct_none, distinct_push, none_each, none_filtered, none_pushed}
 
 of_itself : (r : ClientRecord) → is_of r.id r ≡ true
@@ -44,6 +46,8 @@ without_confirmed p old are =
     let keeps : (s : ClientRecord) → HasOwnNumber old s → HasOwnNumber new s =
     λ s own. (own.0, none_filtered p (takes_number s.id s.state.client.number) old.confirmed own.1, own.2) in
     record {
+      slots = are.slots;
+      values = are.values;
       confirmed = distinct_filter have_same_id p old.confirmed are.confirmed;
       unconfirmed = are.unconfirmed;
       confirmed_numbers = all_filter (HasOwnNumber old) (HasOwnNumber new) p (λ s own _. keeps s own) old.confirmed are.confirmed_numbers;
@@ -56,6 +60,8 @@ without_unconfirmed p old are =
     let keeps : (s : ClientRecord) → HasOwnNumber old s → HasOwnNumber new s =
     λ s own. (own.0, own.1, none_filtered p (takes_number s.id s.state.client.number) old.unconfirmed own.2) in
     record {
+      slots = are.slots;
+      values = are.values;
       confirmed = are.confirmed;
       unconfirmed = distinct_filter have_same_id p old.unconfirmed are.unconfirmed;
       confirmed_numbers = all_weaken (HasOwnNumber old) (HasOwnNumber new) keeps old.confirmed are.confirmed_numbers;
@@ -88,6 +94,8 @@ push_confirmed r old are own other =
     λ s h. (h.0.0, none_pushed (takes_number s.id s.state.client.number) old.confirmed r h.0.1 h.1, h.0.2) in
     let Before : ClientRecord → Type 0 = λ s. HasOwnNumber old s × (takes_number s.id s.state.client.number r ≡ false) in
     record {
+      slots = are.slots;
+      values = are.values;
       confirmed = distinct_push have_same_id old.confirmed r are.confirmed other;
       unconfirmed = are.unconfirmed;
       confirmed_numbers = all_push (HasOwnNumber new) old.confirmed r (all_weaken Before (HasOwnNumber new) keeps old.confirmed (beside old r old.confirmed are.confirmed_numbers own.1)) (keeps r (own, takes_itself r));
@@ -101,13 +109,15 @@ push_unconfirmed r old are own other =
     λ s h. (h.0.0, h.0.1, none_pushed (takes_number s.id s.state.client.number) old.unconfirmed r h.0.2 h.1) in
     let Before : ClientRecord → Type 0 = λ s. HasOwnNumber old s × (takes_number s.id s.state.client.number r ≡ false) in
     record {
+      slots = are.slots;
+      values = are.values;
       confirmed = are.confirmed;
       unconfirmed = distinct_push have_same_id old.unconfirmed r are.unconfirmed other;
       confirmed_numbers = all_weaken Before (HasOwnNumber new) keeps old.confirmed (beside old r old.confirmed are.confirmed_numbers own.1);
       unconfirmed_numbers = all_push (HasOwnNumber new) old.unconfirmed r (all_weaken Before (HasOwnNumber new) keeps old.unconfirmed (beside old r old.unconfirmed are.unconfirmed_numbers own.2)) (keeps r (own, takes_itself r));
     }
 
-records_unconfirmed : (r : ClientRecord) (old : Registry) → AreRecords old → HasOwnNumber old r → AreRecords (with_unconfirmed r old)
+pub records_unconfirmed : (r : ClientRecord) (old : Registry) → AreRecords old → HasOwnNumber old r → AreRecords (with_unconfirmed r old)
 records_unconfirmed r old are own =
     let p : ClientRecord → Bool = λ s. not (is_of r.id s) in
     push_unconfirmed r (record old { unconfirmed = without_id r.id old.unconfirmed }) (without_unconfirmed p old are)
@@ -121,49 +131,11 @@ records_confirmed r old are own =
     push_confirmed r rest (without_unconfirmed p (record old { confirmed = without_id r.id old.confirmed }) (without_confirmed p old are))
     (own.0, none_filtered p takes old.confirmed own.1, none_filtered p takes old.unconfirmed own.2) (others r old.confirmed)
 
--- The next client number is given.
-
-given_still : (number last : ℕ) → (nat_le 1 number && nat_le number last) ≡ true → (nat_le 1 number && nat_le number (last + 1)) ≡ true
-given_still number last given =
-    let both = and_parts (nat_le 1 number) (nat_le number last) given in
-    and_from (nat_le 1 number) (nat_le number (last + 1)) both.0 (le-leb number (last + 1) (omega (arith, leb-true number last both.1)))
-
-records_raised : (old : Registry) → AreRecords old → AreRecords (record old { last_number = old.last_number + 1 })
-records_raised old are =
-    let new : Registry = record old { last_number = old.last_number + 1 } in
-    let keeps : (s : ClientRecord) → HasOwnNumber old s → HasOwnNumber new s =
-    λ s own. (given_still s.state.client.number old.last_number own.0, own.1, own.2) in
-    record {
-      confirmed = are.confirmed;
-      unconfirmed = are.unconfirmed;
-      confirmed_numbers = all_weaken (HasOwnNumber old) (HasOwnNumber new) keeps old.confirmed are.confirmed_numbers;
-      unconfirmed_numbers = all_weaken (HasOwnNumber old) (HasOwnNumber new) keeps old.unconfirmed are.unconfirmed_numbers;
-    }
-
-not_next : (number last next : ℕ) → (nat_le 1 number && nat_le number last) ≡ true → next ≡ last + 1 → (number == next) ≡ false
-not_next number last next given is =
-    let both = and_parts (nat_le 1 number) (nat_le number last) given in
-    false_from_ne_true (number == next) (λ same. omega (arith, leb-true number last both.1, is, eqb-true number next same))
-
-none_takes_new : (old : Registry) (number : ℕ) (id : List ℕ) (records : List ClientRecord) → AllByRecursion (HasOwnNumber old) records → number ≡ old.last_number + 1 → list_any (takes_number id number) records ≡ false
-none_takes_new old number id [] have next = refl
-none_takes_new old number id (s ∷ records) have next =
-    grind (arith, not_next s.state.client.number old.last_number number have.0.0 next, none_takes_new old number id records have.1 next)
-
-next_given : (last : ℕ) → (nat_le 1 (last + 1) && nat_le (last + 1) (last + 1)) ≡ true
-next_given last = and_from (nat_le 1 (last + 1)) (nat_le (last + 1) (last + 1)) (le-leb 1 (last + 1) (omega arith)) (le-leb (last + 1) (last + 1) (omega arith))
-
-own_new : (r : ClientRecord) (old : Registry) → AreRecords old → r.state.client.number ≡ old.last_number + 1 → HasOwnNumber (record old { last_number = old.last_number + 1 }) r
-own_new r old are next = (
-  subst (λ n. (nat_le 1 n && nat_le n (old.last_number + 1)) ≡ true) (sym next) (next_given old.last_number),
-  none_takes_new old r.state.client.number r.id old.confirmed are.confirmed_numbers next,
-  none_takes_new old r.state.client.number r.id old.unconfirmed are.unconfirmed_numbers next,
-)
-
--- The confirm values are of no account.
-
-confirm_raised : (old : Registry) (confirm : ℕ) → AreRecords old → AreRecords (record old { last_confirm = confirm })
-confirm_raised old confirm are = record {
+-- One more confirm value is given.
+confirm_raised : (old : Registry) → AreRecords old → AreRecords (record old { last_confirm = old.last_confirm + 1 })
+confirm_raised old are = record {
+  slots = are.slots;
+  values = all_weaken (λ count. count ≤ old.last_confirm) (λ count. count ≤ old.last_confirm + 1) (λ count within. omega (arith, within)) old.given are.values;
   confirmed = are.confirmed;
   unconfirmed = are.unconfirmed;
   confirmed_numbers = are.confirmed_numbers;
@@ -182,56 +154,50 @@ own_of r old records have of = by (find (is_of r.id) records) refl of
         let id : s.id ≡ r.id = (bytes_eq-Decides s.id r.id).0 held.1 in
         subst (λ (c : ClientId). IsNumberOf r.id c.number old) client (subst (λ i. IsNumberOf i s.state.client.number old) id held.0)
 
--- A change that fits keeps the records so.
-pub records_changed : (change : ClientChange) (old : Registry) → AreRecords old → FitsRecords change old → AreRecords (with_change change old)
-records_changed changes.Nothing old are fits = are
-records_changed (changes.Arrives r) old are fits =
-    let raised : Registry = record old { last_number = old.last_number + 1 } in
-    confirm_raised (with_unconfirmed r raised) (old.last_confirm + 1) (records_unconfirmed r raised (records_raised old are) (own_new r old are fits))
-records_changed (changes.Updates r) old are fits =
-    confirm_raised (with_unconfirmed r old) (old.last_confirm + 1) (records_unconfirmed r old are (own_of r old old.confirmed are.confirmed_numbers fits))
-records_changed (changes.Confirms r) old are fits =
-    records_confirmed r old are (own_of r old old.unconfirmed are.unconfirmed_numbers fits.1)
-records_changed (changes.Refreshes r) old are fits =
-    records_confirmed r old are (own_of r old old.confirmed are.confirmed_numbers fits)
-records_changed (changes.Replaces r client) old are fits =
-    records_confirmed r old are (own_of r old old.unconfirmed are.unconfirmed_numbers fits.1)
+-- An update that fits keeps the records so.
 
--- the changes that add a confirmed record
-pub records_confirmed_by : (change : ClientChange) (r : ClientRecord) (old : Registry) → AreRecords old → FitsRecords change old
-    → (change ≡ changes.Confirms r) ⊎ (change ≡ changes.Refreshes r) ⊎ ((client : ClientId) × (change ≡ changes.Replaces r client)) → AreRecords (with_confirmed r old)
-records_confirmed_by change r old are fits by =
+own_updated : (r : ClientRecord) (old : Registry) → AreRecords old → IsClientOf r.id r.state.client old.confirmed → HasOwnNumber old r
+own_updated r old are fits = own_of r old old.confirmed are.confirmed_numbers fits
+
+pub update_takes_none : (r : ClientRecord) (old : Registry) → AreRecords old → IsClientOf r.id r.state.client old.confirmed → list_any (takes_number r.id r.state.client.number) old.unconfirmed ≡ false
+update_takes_none r old are fits = (own_updated r old are fits).2
+
+pub records_updated : (r : ClientRecord) (old : Registry) → AreRecords old → IsClientOf r.id r.state.client old.confirmed → AreRecords (with_change (changes.Updates r) old)
+records_updated r old are fits = confirm_raised (with_unconfirmed r old) (records_unconfirmed r old are (own_updated r old are fits))
+
+-- So do the changes that add a confirmed record.
+
+abbrev Confirms : ClientChange → ClientRecord → Type 0
+Confirms change r = (change ≡ changes.Confirms r) ⊎ (change ≡ changes.Refreshes r) ⊎ ((client : ClientId) × (change ≡ changes.Replaces r client))
+
+own_confirmed : (change : ClientChange) (r : ClientRecord) (old : Registry) → AreRecords old → FitsRecords change old → Confirms change r → HasOwnNumber old r
+own_confirmed change r old are fits by =
     let fits_as : (c : ClientChange) → change ≡ c → FitsRecords c old = λ c is. subst (λ t. FitsRecords t old) is fits in
     elim by [
-      | inl first ↦ records_changed (changes.Confirms r) old are (fits_as (changes.Confirms r) first)
+      | inl first ↦ own_of r old old.unconfirmed are.unconfirmed_numbers (fits_as (changes.Confirms r) first).1
       | inr again ↦ elim again [
-        | inl anew ↦ records_changed (changes.Refreshes r) old are (fits_as (changes.Refreshes r) anew)
-        | inr other ↦ records_changed (changes.Replaces r other.0) old are (fits_as (changes.Replaces r other.0) other.1)
+        | inl anew ↦ own_of r old old.confirmed are.confirmed_numbers (fits_as (changes.Refreshes r) anew)
+        | inr other ↦ own_of r old old.unconfirmed are.unconfirmed_numbers (fits_as (changes.Replaces r other.0) other.1).1
       ]
     ]
 
--- No other record has the number of one that is added.
+pub confirmed_takes_none : (change : ClientChange) (r : ClientRecord) (old : Registry) → AreRecords old → FitsRecords change old → Confirms change r
+    → list_any (takes_number r.id r.state.client.number) old.confirmed ≡ false
+confirmed_takes_none change r old are fits by = (own_confirmed change r old are fits by).1
 
-pub own_arrived : (r : ClientRecord) (old : Registry) → AreRecords old → r.state.client.number ≡ old.last_number + 1 → list_any (takes_number r.id r.state.client.number) old.unconfirmed ≡ false
-own_arrived r old are next = (own_new r old are next).2
+pub records_confirmed_by : (change : ClientChange) (r : ClientRecord) (old : Registry) → AreRecords old → FitsRecords change old → Confirms change r → AreRecords (with_confirmed r old)
+records_confirmed_by change r old are fits by = records_confirmed r old are (own_confirmed change r old are fits by)
 
-pub own_updated : (r : ClientRecord) (old : Registry) → AreRecords old → IsClientOf r.id r.state.client old.confirmed → list_any (takes_number r.id r.state.client.number) old.unconfirmed ≡ false
-own_updated r old are of = (own_of r old old.confirmed are.confirmed_numbers of).2
+-- At first there are none.
 
-pub own_confirmed_by : (change : ClientChange) (r : ClientRecord) (old : Registry) → AreRecords old → FitsRecords change old
-    → (change ≡ changes.Confirms r) ⊎ (change ≡ changes.Refreshes r) ⊎ ((client : ClientId) × (change ≡ changes.Replaces r client)) → list_any (takes_number r.id r.state.client.number) old.confirmed ≡ false
-own_confirmed_by change r old are fits by =
-    let fits_as : (c : ClientChange) → change ≡ c → FitsRecords c old = λ c is. subst (λ t. FitsRecords t old) is fits in
-    elim by [
-      | inl first ↦ (own_of r old old.unconfirmed are.unconfirmed_numbers (fits_as (changes.Confirms r) first).1).1
-      | inr again ↦ elim again [
-        | inl anew ↦ (own_of r old old.confirmed are.confirmed_numbers (fits_as (changes.Refreshes r) anew)).1
-        | inr other ↦ (own_of r old old.unconfirmed are.unconfirmed_numbers (fits_as (changes.Replaces r other.0) other.1).1).1
-      ]
-    ]
+zeros_within : (n last : ℕ) → AllByRecursion (λ count. count ≤ last) (replicate n 0)
+zeros_within zero last = tt
+zeros_within (suc n) last = (omega arith, zeros_within n last)
 
 pub records_empty : AreRecords no_clients
 records_empty = record {
+  slots = length-replicate {A = ℕ} SLOTS 0;
+  values = zeros_within SLOTS 0;
   confirmed = distinct_none have_same_id;
   unconfirmed = distinct_none have_same_id;
   confirmed_numbers = tt;

@@ -1,5 +1,10 @@
 pub mod Lists
 pub mod ClientLists
+pub mod Numbering
+pub mod Choosing
+pub mod SlotMarks
+pub mod SlotsApart
+pub mod GivingWay
 pub mod OwnerLists
 pub mod RecordRows
 pub mod LiveNumbers

@@ -1,17 +1,18 @@
 -- What is found by a client's number among records of different clients, and which number comes next.
-use Rattle.std.proofs.Common.{◌≡◌, ℕ, ◌+◌, ◌<◌, ◌≤◌, Bool, true, false, ◌&&◌, ◌||◌, cond, List, [], ◌∷◌, Option, Some, None, filter, find, is_some, inl, inr, refl, sym, ap, ◌∙◌, subst, arith, true≢false}
-use Rattle.std.specs.Prelude.{◌==◌, nat_le, option_and_then}
-use Rattle.std.specs.List.{AllByRecursion, IsDistinct, list_any}
-use Rattle.std.proofs.lemmas.Bool.{and_from, and_parts, cases_lt, eq-eqb, eqb-true, false_from_ne_true, leb-true}
+use Rattle.std.proofs.Common.{◌≡◌, ℕ, Bool, true, false, ◌&&◌, ◌||◌, cond, List, [], ◌∷◌, ◌++◌, Option, Some, None, filter, find, is_some, map, append_assoc, refl, sym, ap, ◌∙◌, subst, true≢false}
+use Rattle.std.specs.Prelude.{◌==◌, option_and_then}
+use Rattle.std.specs.List.{IsDistinct, list_any}
+use Rattle.std.proofs.lemmas.Bool.{and_from, and_parts, eq-eqb, eqb-true, false_from_ne_true}
+use Rattle.std.proofs.lemmas.List.{append-nil}
+use Rattle.std.proofs.lemmas.List.Elements.{filter-append}
 use Rattle.nfs_forms.specs.ClientId.{is_same_client}
 use Rattle.nfs_forms.specs.declared.client_id.ClientId.{ClientId}
 use Rattle.nfs_operations.specs.declared.setclientid_confirm.SetclientidConfirm.{SetclientidConfirm}
-use Rattle.nfs_rows.proofs.Each.{all_filter, all_weaken, find_none}
-use Rattle.nfs_owners.specs.LiveClients.{IsNextAmong, IsNextLive, IsNextUnknown, has_unknown_path, is_unknown, is_unknown_of}
+use Rattle.nfs_rows.proofs.Each.{all_weaken, find_none}
+use Rattle.nfs_owners.specs.LiveClients.{IsNextAmong, IsNextUnknown, has_unknown_path, is_unknown}
 use Rattle.nfs_owners.specs.Records.{have_same_client}
-use Rattle.nfs_owners.specs.Registry.{AreRecords, HasOwnNumber, Registry, is_named_by, is_of_client, record_state}
+use Rattle.nfs_owners.specs.Registry.{Registry, is_named_by, is_of_client, record_state}
 use Rattle.nfs_owners.specs.declared.client_record.ClientRecord.{ClientRecord}
-use Rattle.nfs_owners.specs.declared.client_record.ClientState.{ClientState}
 use Rattle.nfs_owners.specs.declared.client_record.PathMark.{PathMark}
 use Rattle.nfs_owners.specs.declared.client_record.PathMark.TheVariants as marks
 
@@ -71,84 +72,22 @@ of_name args records found distinct is =
     (λ r same. (and_parts (r.state.client.epoch == args.client.epoch) (r.state.client.number == args.client.number) (and_parts (is_same_client r.state.client args.client) (r.state.confirm == args.confirm) same).0).1)
     records distinct)
 
-pub of_unknown : (number : ℕ) (records : List ClientRecord) (found : Option ClientRecord) → IsDistinct have_same_client records → found ≡ find (is_of_client number) records
+-- the record is of the client with this number, and nothing is known of the client's path
+abbrev is_unknown_of : ℕ → ClientRecord → Bool
+is_unknown_of number r = is_of_client number r && has_unknown_path r
+
+of_unknown : (number : ℕ) (records : List ClientRecord) (found : Option ClientRecord) → IsDistinct have_same_client records → found ≡ find (is_of_client number) records
     → option_and_then (λ r. cond (is_unknown_of number r) (Some r) None) found ≡ find (is_unknown_of number) records
 of_unknown number records found distinct is =
     ap (option_and_then (λ r. cond (is_unknown_of number r) (Some r) None)) is
     ∙ sym (narrowed (is_unknown_of number) number (λ r unknown. (and_parts (is_of_client number r) (has_unknown_path r) unknown).0) records distinct)
 
--- Numbers that no client has.
-
-abbrev pub NoneBetween : (ℕ → Bool) → ℕ → ℕ → Type 0
-NoneBetween has after last = (k : ℕ) → after < k → k ≤ last → has k ≡ false
-
-pub none_at_first : (has : ℕ → Bool) (after : ℕ) → NoneBetween has after after
-none_at_first has after k above below = absurd (omega (arith, above, below))
-
-pub none_more : (has : ℕ → Bool) (after last : ℕ) → NoneBetween has after last → has (last + 1) ≡ false → NoneBetween has after (last + 1)
-none_more has after last none next k above below =
-    elim (cases_lt last k) [
-      | inl more ↦ subst (λ n. has n ≡ false) (omega (arith, more, below)) next
-      | inr less ↦ none k above less
-    ]
-
-abbrev pub has_client : List ClientRecord → ℕ → Bool
-has_client records number = list_any (is_of_client number) records
-
-pub next_found : (after last : ℕ) (records : List ClientRecord) → NoneBetween (has_client records) after last → after ≤ last → has_client records (last + 1) ≡ true → IsNextAmong after records (Some (last + 1))
-next_found after last records none within here = (
-  here,
-  omega (arith, within),
-  λ k there above. elim (cases_lt last k) [
-    | inl more ↦ omega (arith, more)
-    | inr less ↦ absurd (true≢false (sym there ∙ none k above less))
-  ],
-)
-
-within : (last k : ℕ) (records : List ClientRecord) → AllByRecursion (λ r. r.state.client.number ≤ last) records → has_client records k ≡ true → k ≤ last
-within last k [] given there = absurd (true≢false (sym there))
-within last k (r ∷ records) given there = by (is_of_client k r) refl there (λ later. within last k records given.1 later)
-  where
-    by : (b : Bool) → is_of_client k r ≡ b → (b || has_client records k) ≡ true → (has_client records k ≡ true → k ≤ last) → k ≤ last
-    by true here there later = subst (λ n. n ≤ last) (eqb-true r.state.client.number k here) given.0
-    by false here there later = later there
-
-pub none_found : (after last : ℕ) (records : List ClientRecord) → NoneBetween (has_client records) after last → AllByRecursion (λ r. r.state.client.number ≤ last) records → IsNextAmong after records None
-none_found after last records none given k there =
-    elim (cases_lt after k) [
-      | inl above ↦ absurd (true≢false (sym there ∙ none k above (within last k records given there)))
-      | inr below ↦ below
-    ]
-
--- each client's number was given
-pub all_given : (registry : Registry) → AreRecords registry → AllByRecursion (λ r. r.state.client.number ≤ registry.last_number) registry.confirmed
-all_given registry are =
-    all_weaken (HasOwnNumber registry) (λ r. r.state.client.number ≤ registry.last_number)
-    (λ r own. leb-true r.state.client.number registry.last_number (and_parts (nat_le 1 r.state.client.number) (nat_le r.state.client.number registry.last_number) own.0).1)
-    registry.confirmed are.confirmed_numbers
-
 -- Those of whose paths nothing is known.
 
-abbrev pub has_unknown : List ClientRecord → ℕ → Bool
-has_unknown records number = has_client (filter has_unknown_path records) number
-
-unknown_any : (number : ℕ) (records : List ClientRecord) → has_unknown records number ≡ is_some (find (is_unknown_of number) records)
+unknown_any : (number : ℕ) (records : List ClientRecord) → list_any (is_of_client number) (filter has_unknown_path records) ≡ is_some (find (is_unknown_of number) records)
 unknown_any number records = any_filtered (is_of_client number) has_unknown_path records ∙ sym (found_any (is_unknown_of number) records)
 
-none_of_state : (found : Option ClientRecord) → None ≡ record_state found → is_some found ≡ false
-none_of_state None is = refl
-none_of_state (Some r) is = absurd (cc)
-
-pub no_unknown : (number : ℕ) (records : List ClientRecord) → None ≡ record_state (find (is_unknown_of number) records) → has_unknown records number ≡ false
-no_unknown number records none = unknown_any number records ∙ none_of_state (find (is_unknown_of number) records) none
-
-pub none_unknown : (after last : ℕ) (registry : Registry) → AreRecords registry → NoneBetween (has_unknown registry.confirmed) after last → registry.last_number ≤ last → IsNextUnknown after registry None
-none_unknown after last registry are none all =
-    none_found after last (filter has_unknown_path registry.confirmed) none
-    (all_filter (λ r. r.state.client.number ≤ last) has_unknown_path registry.confirmed
-    (all_weaken (λ r. r.state.client.number ≤ registry.last_number) (λ r. r.state.client.number ≤ last) (λ r below. omega (arith, below, all)) registry.confirmed (all_given registry are)))
-
-pub passes_found : (test : ClientRecord → Bool) (records : List ClientRecord) (r : ClientRecord) → find test records ≡ Some r → test r ≡ true
+passes_found : (test : ClientRecord → Bool) (records : List ClientRecord) (r : ClientRecord) → find test records ≡ Some r → test r ≡ true
 passes_found test [] r is = absurd (cc)
 passes_found test (s ∷ records) r is = by (test s) refl is (λ later. passes_found test records r later)
   where
@@ -172,47 +111,62 @@ the_one test (Some s) r is = by (test s) is
     by true is = is
     by false is = absurd (cc)
 
-pub unknown_found : (after last : ℕ) (registry : Registry) (state : ClientState) → IsDistinct have_same_client registry.confirmed → NoneBetween (has_unknown registry.confirmed) after last → after ≤ last
-    → Some state ≡ record_state (find (is_unknown_of (last + 1)) registry.confirmed) → IsNextUnknown after registry (Some state)
-unknown_found after last registry state distinct none within is = by (find (is_unknown_of (last + 1)) registry.confirmed) refl is
+pub unknown_is_next : (after number : ℕ) (registry : Registry) → IsDistinct have_same_client registry.confirmed → IsNextAmong after (filter has_unknown_path registry.confirmed) (Some number)
+    → IsNextUnknown after registry (record_state (find (is_of_client number) registry.confirmed))
+unknown_is_next after number registry distinct next = by (find (is_unknown_of number) registry.confirmed) refl
   where
-    by : (found : Option ClientRecord) → find (is_unknown_of (last + 1)) registry.confirmed ≡ found → Some state ≡ record_state found → IsNextUnknown after registry (Some state)
-    by None found is = absurd (cc)
-    by (Some r) found is =
-        let records = registry.confirmed in
-        let same : state ≡ r.state = cc in
-        let parts = and_parts (is_of_client (last + 1) r) (has_unknown_path r) (passes_found (is_unknown_of (last + 1)) records r found) in
-        let number : r.state.client.number ≡ last + 1 = eqb-true r.state.client.number (last + 1) parts.0 in
-        let here : find (is_of_client (last + 1)) records ≡ Some r = the_one (is_unknown_of (last + 1)) (find (is_of_client (last + 1)) records) r (of_unknown (last + 1) records (find (is_of_client (last + 1)) records) distinct refl ∙ found) in
+    records : List ClientRecord
+    records = registry.confirmed
+
+    by : (found : Option ClientRecord) → find (is_unknown_of number) records ≡ found → IsNextUnknown after registry (record_state (find (is_of_client number) records))
+    by None none = absurd (true≢false (sym next.0 ∙ unknown_any number records ∙ ap is_some none))
+    by (Some r) found =
+        let parts = and_parts (is_of_client number r) (has_unknown_path r) (passes_found (is_unknown_of number) records r found) in
+        let same : r.state.client.number ≡ number = eqb-true r.state.client.number number parts.0 in
+        let here : find (is_of_client number) records ≡ Some r = the_one (is_unknown_of number) (find (is_of_client number) records) r (of_unknown number records (find (is_of_client number) records) distinct refl ∙ found) in
         let held : find (λ s. is_same_client s.state.client r.state.client) records ≡ Some r =
-        sym (of_clientid r.state.client records (Some r) distinct (sym here ∙ ap (λ n. find (is_of_client n) records) (sym number)))
+        sym (of_clientid r.state.client records (Some r) distinct (sym here ∙ ap (λ n. find (is_of_client n) records) (sym same)))
         ∙ ap (λ b. cond b (Some r) None) (and_from (r.state.client.epoch == r.state.client.epoch) (r.state.client.number == r.state.client.number)
         (eq-eqb r.state.client.epoch r.state.client.epoch refl) (eq-eqb r.state.client.number r.state.client.number refl)) in
-        let next : IsNextAmong after (filter has_unknown_path records) (Some (last + 1)) =
-        next_found after last (filter has_unknown_path records) none within (unknown_any (last + 1) records ∙ ap is_some found) in
-        subst (λ (s : ClientState). IsNextUnknown after registry (Some s)) (sym same) (
-          subst (λ n. IsNextAmong after (filter has_unknown_path records) (Some n)) (sym number) next,
+        subst (λ found. IsNextUnknown after registry (record_state found)) (sym here) (
+          subst (λ n. IsNextAmong after (filter has_unknown_path records) (Some n)) (sym same) next,
           ap record_state held,
           is_unmarked r.state.path parts.1,
         )
 
-and_no : (a b : Bool) → b ≡ false → (a && b) ≡ false
-and_no true b fails = fails
-and_no false b fails = refl
+-- those that pass whatever they are
+pub filter_any : {X : Type 0} (xs : List X) → filter (λ x. true) xs ≡ xs
+filter_any [] = refl
+filter_any (x ∷ xs) = ap (λ rest. x ∷ rest) (filter_any xs)
 
-pub unknown_with : (number : ℕ) (records : List ClientRecord) (r : ClientRecord) → IsDistinct have_same_client records → Some r ≡ find (is_of_client number) records → is_unknown r.state.path ≡ true
-    → Some r.state ≡ record_state (find (is_unknown_of number) records)
-unknown_with number records r distinct found unknown =
-    sym (ap (λ b. record_state (cond b (Some r) None)) (and_from (is_of_client number r) (has_unknown_path r) (passes_found (is_of_client number) records r (sym found)) unknown))
-    ∙ ap record_state (of_unknown number records (Some r) distinct found)
+-- The least number above another among those that pass a test, while the records are looked at.
 
-pub unknown_without : (number : ℕ) (records : List ClientRecord) (r : ClientRecord) → IsDistinct have_same_client records → Some r ≡ find (is_of_client number) records → is_unknown r.state.path ≡ false
-    → None ≡ record_state (find (is_unknown_of number) records)
-unknown_without number records r distinct found known =
-    sym (ap (λ b. record_state (cond b (Some r) None)) (and_no (is_of_client number r) (has_unknown_path r) known))
-    ∙ ap record_state (of_unknown number records (Some r) distinct found)
+pub record Walked (test : ClientRecord → Bool) (after : ℕ) (records : List ClientRecord) (left : List (ℕ × ClientRecord)) (next : Option ℕ) : Type 0 where
+  pub done : List ClientRecord
+  pub whole : done ++ map (λ item. item.1) left ≡ records
+  pub least : IsNextAmong after (filter test done) next
 
-pub none_live : (after last : ℕ) (registry : Registry) → AreRecords registry → NoneBetween (has_client registry.confirmed) after last → registry.last_number ≤ last → IsNextLive after registry None
-none_live after last registry are none all =
-    none_found after last registry.confirmed none
-    (all_weaken (λ r. r.state.client.number ≤ registry.last_number) (λ r. r.state.client.number ≤ last) (λ r below. omega (arith, below, all)) registry.confirmed (all_given registry are))
+module _ (test : ClientRecord → Bool) (after : ℕ) (records : List ClientRecord) where
+  pub walked_none : (left : List (ℕ × ClientRecord)) → map (λ item. item.1) left ≡ records → Walked test after records left None
+  walked_none left all = record { done = []; whole = all; least = λ number here. absurd (true≢false (sym here)) }
+
+  next_done : (done : List ClientRecord) (item : ℕ × ClientRecord) (left : List (ℕ × ClientRecord)) → done ++ map (λ i. i.1) (item ∷ left) ≡ records → (done ++ item.1 ∷ []) ++ map (λ i. i.1) left ≡ records
+  next_done done item left whole = append_assoc done (item.1 ∷ []) (map (λ i. i.1) left) ∙ whole
+
+  pub walked_past : (item : ℕ × ClientRecord) (left : List (ℕ × ClientRecord)) (next : Option ℕ) → test item.1 ≡ false → Walked test after records (item ∷ left) next → Walked test after records left next
+  walked_past item left next fails walked = record {
+    done = walked.done ++ item.1 ∷ [];
+    whole = next_done walked.done item left walked.whole;
+    least = subst (λ rs. IsNextAmong after rs next) (sym (filter-append test walked.done (item.1 ∷ []) ∙ ap (λ b. filter test walked.done ++ cond b (item.1 ∷ []) []) fails ∙ append-nil (filter test walked.done))) walked.least;
+  }
+
+  pub walked_on : (item : ℕ × ClientRecord) (left : List (ℕ × ClientRecord)) (next nearer : Option ℕ) → test item.1 ≡ true
+      → ((rs : List ClientRecord) → IsNextAmong after rs next → IsNextAmong after (rs ++ item.1 ∷ []) nearer) → Walked test after records (item ∷ left) next → Walked test after records left nearer
+  walked_on item left next nearer passes keeps walked = record {
+    done = walked.done ++ item.1 ∷ [];
+    whole = next_done walked.done item left walked.whole;
+    least = subst (λ rs. IsNextAmong after rs nearer) (sym (filter-append test walked.done (item.1 ∷ []) ∙ ap (λ b. filter test walked.done ++ cond b (item.1 ∷ []) []) passes)) (keeps (filter test walked.done) walked.least);
+  }
+
+  pub walked_all : (next : Option ℕ) → Walked test after records [] next → IsNextAmong after (filter test records) next
+  walked_all next walked = subst (λ rs. IsNextAmong after (filter test rs) next) (sym (append-nil walked.done) ∙ walked.whole) walked.least

@@ -1,5 +1,5 @@
 -- Rows of clients' records: by an id, by its hash, and by a client's number, one is found.
-use Rattle.std.proofs.Common.{◌≡◌, ℕ, ◌+◌, ◌<◌, ◌≤◌, Bool, true, false, not, cond, List, [], ◌∷◌, ◌++◌, Some, None, Option, option_map, filter, find, map, refl, sym, ap, ◌∙◌, subst, arith, true≢false}
+use Rattle.std.proofs.Common.{◌≡◌, ℕ, ◌+◌, ◌<◌, ◌≤◌, Bool, true, false, not, cond, List, [], ◌∷◌, ◌++◌, Some, None, Option, option_map, find, map, refl, sym, ap, ◌∙◌, subst, arith, true≢false}
 use Rattle.std.specs.Prelude.{nat_eq, Result, Ok, Err, IsOk, OnOk}
 use Rattle.std.specs.List.{AllByRecursion, IsDistinct, list_any}
 use Rattle.std.specs.Map.{lookup}
@@ -17,7 +17,7 @@ use Rattle.nfs_owners.specs.declared.client_record.ClientRecord.{ClientRecord}
 use Rattle.nfs_owners.specs.declared.client_record.PathMark.{PathMark}
 use Rattle.nfs_owners.specs.laws.Marks.{distinct_mapped, same_record}
 use Rattle.nfs_owners.proofs.ClientLists.{found_of_id}
-use Rattle.nfs_owners.proofs.Lists.{all_find, both_false, distinct_filter, distinct_none, distinct_push, neither, none_each}
+use Rattle.nfs_owners.proofs.Lists.{all_find, both_false, distinct_filter, distinct_none, distinct_push, filter_agree, neither, none_each, none_when}
 
 abbrev Rows : Type 0
 Rows = List (Row ClientRecord)
@@ -257,14 +257,6 @@ rows_marked ids old index newest room n number path are is =
 same_record_is : (r s : ClientRecord) → Some r ≡ Some s → r ≡ s
 same_record_is r s is = cc
 
-none_when : (test : ClientRecord → Bool) (records : List ClientRecord) → find test records ≡ None → AllByRecursion (λ r. test r ≡ false) records
-none_when test [] none = tt
-none_when test (r ∷ records) none = by (test r) refl none (λ later. none_when test records later)
-  where
-    by : (b : Bool) → test r ≡ b → cond b (Some r) (find test records) ≡ None → (find test records ≡ None → AllByRecursion (λ s. test s ≡ false) records) → AllByRecursion (λ s. test s ≡ false) (r ∷ records)
-    by true is none later = absurd (cc)
-    by false is none later = (is, later none)
-
 pub none_with_id : (id : List ℕ) (records : List ClientRecord) → None ≡ find (is_of id) records → records ≡ without_id id records
 none_with_id id records none = sym (drop_none (is_of id) records (none_when (is_of id) records (sym none)))
 
@@ -296,10 +288,6 @@ one_with_id id (s ∷ records) r names clients found = by (is_of id s) refl foun
     by false here there later =
         let apart = all_find (λ t. have_same_client s t ≡ false) (is_of id) records r there clients.0 in
         (apart.0 ∙ sym here, later there)
-
-filter_agree : (p q : ClientRecord → Bool) (records : List ClientRecord) → AllByRecursion (λ r. p r ≡ q r) records → filter (λ r. not (p r)) records ≡ filter (λ r. not (q r)) records
-filter_agree p q [] h = refl
-filter_agree p q (r ∷ records) h = λ i. cond (not (h.0 i)) (r ∷ filter_agree p q records h.1 i) (filter_agree p q records h.1 i)
 
 pub without_its_id : (id : List ℕ) (records : List ClientRecord) (r : ClientRecord) → IsDistinct have_same_id records → IsDistinct have_same_client records → Some r ≡ find (is_of id) records
     → without_number r.state.client.number records ≡ without_id id records

@@ -19,7 +19,7 @@ pub record HaveSameClients (old new : Registry) : Type 0 where
   pub holder : (id : List ℕ)
       → option_map (λ r. r.state.client) (confirmed_of new id)
       ≡ option_map (λ r. r.state.client) (confirmed_of old id)
-  pub last_given : new.last_number ≡ old.last_number
+  pub same_given : new.given ≡ old.given
   pub last_value : new.last_confirm ≡ old.last_confirm
 
 -- A mark changes no client, and of the confirmed records nothing but the mark.

@@ -1,5 +1,7 @@
 pub mod Addresses
+pub mod Slots
 pub mod Registry
+pub mod Choice
 pub mod Records
 pub mod ClientChange
 pub mod Registration
@@ -15,6 +17,7 @@ pub mod OwnerLaws
 pub mod LiveClients
 pub mod LiveChange
 pub mod ClientLaws
+pub mod SlotLaws
 pub mod Numbers
 pub mod OwnersError
 pub mod laws

@@ -32,10 +32,6 @@ is_unknown marks.Down = false
 abbrev pub has_unknown_path : ClientRecord → Bool
 has_unknown_path r = is_unknown r.state.path
 
--- the record is of the client with this number, and nothing is known of the client's path
-abbrev pub is_unknown_of : ℕ → ClientRecord → Bool
-is_unknown_of number r = is_of_client number r && has_unknown_path r
-
 -- Of the live clients of whose paths nothing is known, the one with the least number above this one, by what its
 -- confirmed record has; or that there is none.
 abbrev pub IsNextUnknown : ℕ → Registry → Option ClientState → Type 0
@@ -63,7 +59,8 @@ replaced_by number registry =
     (unconfirmed_of_client number registry)
 
 -- The client with this number can become live: the number wasn't given yet, or the client has an unconfirmed record and
--- no confirmed one. A client that was live can't become so again.
+-- no confirmed one. A client that was live can't become so again. A number of slot 0 passes too, as one that wasn't given
+-- yet, and never is.
 abbrev pub can_become_live : ℕ → Registry → Bool
 can_become_live number registry =
     not (was_given number registry)

@@ -1,13 +1,13 @@
 -- What SETCLIENTID does to the clients' records (RFC 7530, section 16.33.5).
-use Rattle.std.specs.Prelude.{ℕ, ◌+◌, nat_lt, Bool, ◌&&◌, Option, Some, None, if◌then◌else◌}
+use Rattle.std.specs.Prelude.{ℕ, ◌+◌, Bool, Option, option_map, Some, None, if◌then◌else◌}
 use Rattle.std.specs.Str.{bytes_eq}
 use Rattle.nfs_owners.specs.declared.client_record.ClientRecord.{ClientRecord}
 use Rattle.nfs_owners.specs.declared.client_record.ClientState.{ClientState}
 use Rattle.nfs_owners.specs.declared.client_record.PathMark.TheVariants.{Unknown}
-use Rattle.nfs_owners.specs.declared.client_record.TheConstants.{CLIENT_LIMIT}
 use Rattle.nfs_owners.specs.declared.clients.client_change.ClientChange.{ClientChange}
 use Rattle.nfs_owners.specs.declared.clients.client_change.ClientChange.TheVariants.{Nothing, Arrives, Updates}
 use Rattle.nfs_owners.specs.Addresses.{is_within_limit}
+use Rattle.nfs_owners.specs.Choice.{choice}
 use Rattle.nfs_owners.specs.Registry.{Registry, confirmed_of, record_state}
 use Rattle.nfs_forms.specs.declared.callback.Address.{Address}
 use Rattle.nfs_forms.specs.declared.answer.Answer.{Answer}
@@ -54,20 +54,18 @@ unconfirmed_record principal args answer = record {
   };
 }
 
--- there is still a number for another client
-abbrev pub has_number_left : Registry → Bool
-has_number_left registry = nat_lt registry.last_number CLIENT_LIMIT
-
--- the clientid with the next client number
-abbrev pub next_client : ℕ → Registry → ClientId
-next_client epoch registry = record { epoch = epoch; number = registry.last_number + 1 }
-
 -- a clientid together with the next confirm value
 abbrev pub next_confirm : ClientId → Registry → SetclientidConfirm
 next_confirm client registry = record { client = client; confirm = registry.last_confirm + 1 }
 
--- The answer and the change in each case, or `None` if a limit would be exceeded. `epoch` is the number of the server's
--- run.
+-- the answer to a newcomer who is given this number, and the change
+abbrev pub arrival : ℕ → Registry → Principal → Setclientid → ℕ → Outcome × ClientChange
+arrival epoch registry principal args number =
+    let answer = next_confirm (record { epoch = epoch; number = number }) registry in
+    (Done answer, Arrives (unconfirmed_record principal args answer))
+
+-- The answer and the change in each case, or `None` if a limit would be exceeded: the address is too long, or no number
+-- is left for a newcomer. `epoch` is the number of the server's run.
 abbrev pub registration_by :
     Finding → ℕ → Registry → Principal → Setclientid → Option (Outcome × ClientChange)
 registration_by (InUse address) epoch registry principal args = Some (ClidInUse address, Nothing)
@@ -77,9 +75,8 @@ registration_by (Update client) epoch registry principal args =
     then Some (Done answer, Updates (unconfirmed_record principal args answer))
     else None
 registration_by Arrival epoch registry principal args =
-    let answer = next_confirm (next_client epoch registry) registry in
-    if is_within_limit args.callback.address && has_number_left registry
-    then Some (Done answer, Arrives (unconfirmed_record principal args answer))
+    if is_within_limit args.callback.address
+    then option_map (arrival epoch registry principal args) (choice args.id registry)
     else None
 
 -- the answer of SETCLIENTID and its change of the clients' records, or `None` if a limit would be exceeded

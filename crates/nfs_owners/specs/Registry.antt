@@ -1,5 +1,5 @@
 -- The clients' records (RFC 7530, section 16.33.5).
-use Rattle.std.specs.Prelude.{◌≡◌, ℕ, ◌≤◌, nat_le, Bool, ◌&&◌, ◌==◌, not, IsFalse, IsTrue, List, [], filter, find, map, Option, Some, option_map, if◌then◌else◌}
+use Rattle.std.specs.Prelude.{◌≡◌, ℕ, ◌+◌, ◌<◌, ◌≤◌, nat_lt, Bool, ◌&&◌, ◌==◌, not, IsFalse, IsTrue, List, [], filter, find, map, Option, Some, option_map, if◌then◌else◌, length, replicate, slice_index}
 use Rattle.std.specs.List.{AllByRecursion, IsDistinct, list_any}
 use Rattle.std.specs.Str.{bytes_eq}
 use Rattle.nfs_forms.specs.ClientId.{is_same_client}
@@ -8,20 +8,26 @@ use Rattle.nfs_operations.specs.declared.setclientid_confirm.SetclientidConfirm.
 use Rattle.nfs_owners.specs.declared.client_record.ClientRecord.{ClientRecord}
 use Rattle.nfs_owners.specs.declared.client_record.ClientState.{ClientState}
 use Rattle.nfs_owners.specs.declared.client_record.PathMark.{PathMark}
-use Rattle.nfs_owners.specs.declared.client_record.TheConstants.{CLIENT_LIMIT}
 use Rattle.nfs_owners.specs.declared.client_ref.ClientRef.{ClientRef}
+use Rattle.nfs_owners.specs.declared.slots.TheConstants.{SLOTS}
+use Rattle.nfs_owners.specs.Slots.{generation_of, slot_of}
 
--- The confirmed and the unconfirmed records, each in the order in which they were added, and the last client number and
--- the last confirm value that were given out; each of these is 0 before the first.
+-- The confirmed and the unconfirmed records, each in the order in which they were added; how many numbers of each slot
+-- were given out; and the last confirm value that was given out, 0 before the first.
 pub record Registry : Type 0 where
   pub confirmed : List ClientRecord
   pub unconfirmed : List ClientRecord
-  pub last_number : ℕ
+  pub given : List ℕ
   pub last_confirm : ℕ
 
 -- a registry without clients
 abbrev pub no_clients : Registry
-no_clients = record { confirmed = []; unconfirmed = []; last_number = 0; last_confirm = 0 }
+no_clients = record {
+  confirmed = [];
+  unconfirmed = [];
+  given = replicate SLOTS 0;
+  last_confirm = 0;
+}
 
 -- the record that is lent
 abbrev pub client_seen : ClientRef → ClientRecord
@@ -55,13 +61,23 @@ record_of client registry = find (λ r. is_same_client r.state.client client) re
 abbrev pub is_live : ℕ → Registry → Bool
 is_live number registry = list_any (is_of_client number) registry.confirmed
 
--- a client can have this number
+-- a client can have this number: no number of slot 0 is given
 abbrev pub IsClientNumber : ℕ → Type 0
-IsClientNumber number = (1 ≤ number) × (number ≤ CLIENT_LIMIT)
+IsClientNumber number = 0 < slot_of number
+
+-- how many numbers of the slot were given
+abbrev pub given_of : Registry → ℕ → ℕ
+given_of registry slot = slice_index registry.given slot
 
 -- a client was given this number
 abbrev pub was_given : ℕ → Registry → Bool
-was_given number registry = nat_le 1 number && nat_le number registry.last_number
+was_given number registry =
+    nat_lt 0 (slot_of number) && nat_lt (generation_of number) (given_of registry (slot_of number))
+
+-- of the numbers of its slot that were given, this one was the last
+abbrev pub is_last_given : ℕ → Registry → Bool
+is_last_given number registry =
+    nat_lt 0 (slot_of number) && (generation_of number + 1 == given_of registry (slot_of number))
 
 -- the records without those of the client with this number
 abbrev pub without_number : ℕ → List ClientRecord → List ClientRecord
@@ -105,10 +121,10 @@ have_same_id r s = bytes_eq r.id s.id
 abbrev pub takes_number : List ℕ → ℕ → ClientRecord → Bool
 takes_number id number r = is_of_client number r && not (is_of id r)
 
--- the client number was given, and no record with another id has it
+-- the client number is the last that was given of its slot, and no record with another id has it
 abbrev pub IsNumberOf : List ℕ → ℕ → Registry → Type 0
 IsNumberOf id number registry =
-    IsTrue (was_given number registry)
+    IsTrue (is_last_given number registry)
     × IsFalse (list_any (takes_number id number) registry.confirmed)
     × IsFalse (list_any (takes_number id number) registry.unconfirmed)
 
@@ -116,9 +132,16 @@ IsNumberOf id number registry =
 abbrev pub HasOwnNumber : Registry → ClientRecord → Type 0
 HasOwnNumber registry r = IsNumberOf r.id r.state.client.number registry
 
+-- of no slot were more numbers given than confirm values, as each number comes with one
+abbrev pub HaveValues : Registry → Type 0
+HaveValues registry = AllByRecursion (λ count. count ≤ registry.last_confirm) registry.given
+
 -- The records that clients can have: no two confirmed ones have one id, nor two unconfirmed ones, and each client number
--- was given, to one id.
+-- is the last that was given of its slot, to one id. There is a count for each slot, and none is above the last confirm
+-- value.
 pub record AreRecords (registry : Registry) : Type 0 where
+  pub slots : length registry.given ≡ SLOTS
+  pub values : HaveValues registry
   pub confirmed : IsDistinct have_same_id registry.confirmed
   pub unconfirmed : IsDistinct have_same_id registry.unconfirmed
   pub confirmed_numbers : AllByRecursion (HasOwnNumber registry) registry.confirmed

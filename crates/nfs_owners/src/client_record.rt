@@ -1,3 +1,4 @@
+use crate::slots::slot_of;
 use crate::{ClientCallback, ClientRef};
 use nfs_operations::setclientid::ID_LIMIT;
 use nfs_operations::setclientid_confirm::SetclientidConfirm;
@@ -40,12 +41,12 @@ pub enum PathMark {
     Down,
 }
 
-/// How many client numbers can be given out in one run of the server.
-pub const CLIENT_LIMIT: u32 = 4096;
-
 impl ClientRecord {
-    ghost use Rattle.std.specs.Prelude.{◌≡◌};
+    ghost use Rattle.std.specs.Prelude.{◌≡◌, ◌<◌};
+    ghost use Rattle.nfs_owners.specs.LiveClients.{has_unknown_path};
     ghost use Rattle.nfs_owners.specs.Registry.{client_seen, is_named_by, is_of, is_of_client};
+    ghost use Rattle.nfs_owners.specs.Slots.{slot_of};
+    ghost use Rattle.nfs_owners.specs.declared.slots.TheConstants.{SLOTS};
 
     /// Whether the record has this id.
     pub(crate) fn is_of(&self, id: &[u8]) -> bool
@@ -59,6 +60,24 @@ impl ClientRecord {
         ensures { result ≡ is_of_client number self.now }
     {
         self.state.client.number == number
+    }
+
+    /// The slot of the client's number.
+    pub(crate) fn slot(&self) -> u32
+        ensures slot { result ≡ slot_of self.now.state.client.number }
+        ensures range { result < SLOTS }
+    {
+        slot_of(self.state.client.number)
+    }
+
+    /// Whether nothing is known of the path to the client's callbacks.
+    pub(crate) fn has_unknown_path(&self) -> bool
+        ensures { result ≡ has_unknown_path self.now }
+    {
+        match self.state.path {
+            PathMark::Unknown => true,
+            PathMark::Up | PathMark::Down => false,
+        }
     }
 
     /// Whether the arguments of SETCLIENTID_CONFIRM name the record, by its clientid and its confirm value.

@@ -1,13 +1,15 @@
-ghost use Rattle.std.specs.Prelude.{◌≡◌, ◌≤◌, IsOk, OnOk, find, option_map};
+ghost use Rattle.std.specs.Prelude.{◌≡◌, ◌-◌, ◌^◌, ◌<◌, ◌≤◌, IsOk, IsTrue, OnOk, find, length, option_map};
 ghost use Rattle.std.specs.Option.{option_copied};
 ghost use Rattle.nfs_owners.specs.Registry.{client_seen, is_named_by, record_state};
 
+mod choice;
 mod client_change;
 mod confirmation;
 mod path_marks;
 mod records;
 mod registration;
 
+use crate::slots::{SLOTS, generation_of, slot_of};
 use crate::{ClientRecord, ClientRef, ClientState};
 pub use client_change::ClientChange;
 use nfs_operations::setclientid_confirm::SetclientidConfirm;
@@ -18,14 +20,14 @@ use std::hash::RandomState;
 use std::marker::Model;
 
 /// The clients' confirmed and unconfirmed records, each in the order in which they were added, and the numbers that were
-/// given out last. An id has at most one record of each kind, and a client number is that of one id. SETCLIENTID and
+/// given out. An id has at most one record of each kind, and a client number is that of one id. SETCLIENTID and
 /// SETCLIENTID_CONFIRM are decided first (`set`, `confirm`); after `make_room` the change takes no memory.
 #[derive(Drop)]
 pub struct Clients {
     confirmed: Records,
     unconfirmed: Records,
-    /// The client number that was given out last; 0 before the first.
-    last_number: u32,
+    /// How many numbers of each slot were given out.
+    given: [u32; SLOTS as usize],
     /// The confirm value that was given out last; 0 before the first.
     last_confirm: u64,
 }
@@ -40,7 +42,7 @@ impl Model for Clients {
       registry = record {
         confirmed = c.confirmed.records;
         unconfirmed = c.unconfirmed.records;
-        last_number = c.last_number;
+        given = c.given;
         last_confirm = c.last_confirm;
       };
       confirmed_room = c.confirmed.room;
@@ -50,16 +52,18 @@ impl Model for Clients {
     ghost invariant = { λ c. AreRecords (record {
       confirmed = c.confirmed.records;
       unconfirmed = c.unconfirmed.records;
-      last_number = c.last_number;
+      given = c.given;
       last_confirm = c.last_confirm;
     }) };
 }
 
 impl Clients {
-    ghost use Rattle.nfs_owners.specs.ClientChange.{with_change};
+    ghost use Rattle.nfs_owners.specs.Choice.{IsNextNumber, has_number_left, without_unconfirmed_of};
+    ghost use Rattle.nfs_owners.specs.ClientChange.{with_change, with_newcomer};
     ghost use Rattle.nfs_owners.specs.ClientRoom.{FitsRecords, HasNumbersFor, HasRoomFor};
     ghost use Rattle.nfs_owners.specs.LiveClients.{IsNextLive, replaced_by, unconfirmed_of_client};
     ghost use Rattle.nfs_owners.specs.Registry.{AreRecords, client_seen, confirmed_named_by, confirmed_of, is_live, no_clients, record_of, record_state, unconfirmed_named_by, was_given, without_client};
+    ghost use Rattle.nfs_owners.specs.Slots.{slot_of};
 
     /// A registry without clients, taking no memory.
     pub fn new(alloc: Global, ids: RandomState) -> Clients
@@ -69,13 +73,13 @@ impl Clients {
         Clients {
             confirmed: Records::new(alloc, ids),
             unconfirmed: Records::new(alloc, ids),
-            last_number: 0,
+            given: [0; SLOTS as usize],
             last_confirm: 0,
         }
     }
 
     /// The law of the records: an id has at most one confirmed and one unconfirmed record, and a client number is that of
-    /// one id.
+    /// one id, and the last that was given of its slot.
     pub fn records_are_apart(&self)
         ensures { AreRecords self.now.registry }
     {
@@ -108,16 +112,18 @@ impl Clients {
         self.confirmed.of_client(number).is_some()
     }
 
+    /// How many clients are live: each has one confirmed record.
+    pub fn count_live(&self) -> usize
+        ensures { result ≡ length self.now.registry.confirmed }
+    {
+        self.confirmed.len()
+    }
+
     /// The least number above this one that a live client has, if there is one.
     pub fn next_live(&self, after: u32) -> Option<u32>
         ensures { IsNextLive after self.now.registry result }
     {
-        for number in after..self.last_number {
-            if self.live(number + 1) {
-                return Some(number + 1);
-            }
-        }
-        None
+        self.confirmed.next_client(after, |_| true)
     }
 
     /// The number of the live client that the client with this number replaces once it is confirmed: another one, of the
@@ -141,7 +147,8 @@ impl Clients {
     pub fn was_given(&self, number: u32) -> bool
         ensures { result ≡ was_given number self.now.registry }
     {
-        1 <= number && number <= self.last_number
+        let slot = slot_of(number);
+        slot > 0 && generation_of(number) < self.given[slot as usize]
     }
 
     /// The unconfirmed record that the arguments of SETCLIENTID_CONFIRM name, if there is one.
@@ -193,11 +200,7 @@ impl Clients {
     {
         match change {
             ClientChange::Nothing => {}
-            ClientChange::Arrives(record) => {
-                self.last_number += 1;
-                self.last_confirm += 1;
-                self.unconfirmed.put(record);
-            }
+            ClientChange::Arrives(record) => self.add_newcomer(record),
             ClientChange::Updates(record) => {
                 self.last_confirm += 1;
                 self.unconfirmed.put(record);
@@ -209,6 +212,34 @@ impl Clients {
                 self.unconfirmed.remove_id(record.id.as_slice(), number);
                 self.confirmed.put(record);
             }
+        }
+    }
+
+    // Adds the record of a newcomer, whose number is then given. An unconfirmed record of its slot gives way.
+    fn add_newcomer(&mut self, newcomer: ClientRecord)
+        requires room { 0 < self.old.unconfirmed_room }
+        requires left { IsTrue (has_number_left self.old.registry
+            (slot_of newcomer.state.client.number)) }
+        requires confirm { self.old.registry.last_confirm < 2 ^ 64 - 1 }
+        requires next { IsNextNumber newcomer.state.client.number self.old.registry }
+        ensures { self.new.registry ≡ with_newcomer newcomer self.old.registry }
+    {
+        let number = newcomer.state.client.number;
+        self.vacate(number);
+        self.given[slot_of(number) as usize] += 1;
+        self.last_confirm += 1;
+        self.unconfirmed.put(newcomer);
+    }
+
+    // Removes the unconfirmed record of the slot whose next number this is, if there is one. It has the slot's last number.
+    fn vacate(&mut self, next: u32)
+        requires { IsNextNumber next self.old.registry }
+        ensures registry { self.new.registry
+            ≡ without_unconfirmed_of (slot_of next) self.old.registry }
+        ensures room { self.new.unconfirmed_room ≡ self.old.unconfirmed_room }
+    {
+        if let Some(last) = next.checked_sub(SLOTS) {
+            self.unconfirmed.remove_client(last);
         }
     }
 }

@@ -19,11 +19,15 @@ mod owner_ref;
 mod owner_rows;
 mod owners;
 mod owners_error;
+mod slots;
 mod state_owner;
 
 pub use client_callback::{ADDRESS_LIMIT, ClientCallback};
-pub use client_laws::marks_keep_clients;
-pub use client_record::{CLIENT_LIMIT, ClientRecord, ClientState, PathMark};
+pub use client_laws::{
+    marks_keep_clients, no_number_is_left, numbers_come_once, one_gives_way, slots_are_apart,
+    updates_stay,
+};
+pub use client_record::{ClientRecord, ClientState, PathMark};
 pub use client_ref::ClientRef;
 pub use clients::{ClientChange, Clients};
 pub use kept::{Kept, KeptRequest, Verdict};
@@ -35,4 +39,5 @@ pub use owner_laws::{client_takes_its_owners, kinds_are_apart, other_owners_stay
 pub use owner_ref::OwnerRef;
 pub use owners::Owners;
 pub use owners_error::OwnersError;
+pub use slots::{GENERATIONS, SLOTS, generation_of, slot_of};
 pub use state_owner::{OwnerKind, StateOwner};

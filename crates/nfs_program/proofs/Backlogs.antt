@@ -15,12 +15,6 @@ is_entry first i entries piece is lt =
     let most = PIECE_LEN - first % PIECE_LEN in
     omega (arith, lt, ap length is, length-take most (drop first entries), length-drop first entries)
 
--- the piece ends with the journal, or before, unless it is empty
-pub piece_ends : (first most : ℕ) (entries piece : List Entry) → piece ≡ piece_from first entries → length entries ≤ most → first ≤ most → first + length piece ≤ most
-piece_ends first most entries piece is few le =
-    let least = PIECE_LEN - first % PIECE_LEN in
-    omega (arith, few, le, ap length is, length-take least (drop first entries), length-drop first entries)
-
 -- with less room it has none either
 less_room : (capacity more len : ℕ) (e : Entry) → capacity ≤ more → HasNoPlace more len e → HasNoPlace capacity len e
 less_room capacity more len e le (inl unfit) = inl unfit

@@ -88,7 +88,7 @@ impl<'a, R: Wait + Clock, D: Draft> Watcher for Reporter<'a, R, D> {
     }
 
     fn look(&self, core: &Core) -> bool {
-        self.sight.lock(self.rt).look(core.journal())
+        self.sight.lock(self.rt).look(core)
     }
 
     fn write_down(&self) {

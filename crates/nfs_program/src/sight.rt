@@ -1,14 +1,14 @@
 use crate::reached_limits::ReachedLimits;
 use crate::{Beginning, Draft};
-use nfs_core::Journal;
+use nfs_core::{Core, Journal};
 use std::io::Write;
 
-/// What was seen of the journal of a run that goes on.
+/// What was seen of a run that goes on.
 #[derive(Drop)]
 pub(crate) struct Sight<'a, D> {
     limits: ReachedLimits,
     beginning: Option<Beginning<'a, D>>,
-    // Whether the last look saw the last entry. The next one comes at once, and sees nothing.
+    // Whether the last look left no entry. The next one comes at once, and sees nothing.
     is_level: bool,
 }
 
@@ -22,18 +22,18 @@ impl<'a, D: Draft> Sight<'a, D> {
         }
     }
 
-    /// Looks at the next of the journal's entries. Returns whether there may be something to write down.
-    pub(crate) fn look(&mut self, journal: &Journal) -> bool {
+    /// Looks at the limits and at the next of the journal's entries. Returns whether there may be something to write down.
+    pub(crate) fn look(&mut self, core: &Core) -> bool {
         if self.is_level {
             self.is_level = false;
             return false;
         }
-        let more_limits = self.limits.look(journal);
-        let more_entries = match &mut self.beginning {
-            Some(beginning) => beginning.take(journal),
+        self.limits.look(core);
+        let are_left = match &mut self.beginning {
+            Some(beginning) => beginning.take(core.journal()),
             None => false,
         };
-        self.is_level = !more_limits && !more_entries;
+        self.is_level = !are_left;
         true
     }
 

@@ -2,7 +2,7 @@ use nfs_core::Moment;
 use std::sync::atomic::{AtomicU64, Ordering};
 
 // The last moment that there is.
-const LAST_SECOND: u64 = (1 << 40) - 1;
+const LAST_SECOND: u64 = (1 << 40) - 3;
 
 /// The calls of all connections of an order so far.
 #[derive(Drop)]

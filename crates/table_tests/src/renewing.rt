@@ -28,10 +28,6 @@ impl LeaseBook for Renewing {
         shown
     }
 
-    fn next_open(&self, after: u32) -> Option<u32> {
-        self.leases.next_open(after)
-    }
-
     fn renew(&mut self, client: u32, moment: Moment) -> Renewal {
         let answer = self.leases.renew(client, moment);
         let _ = self.leases.renew(client, self.moment);

@@ -101,6 +101,8 @@ mark_keeps_records mark path old are =
     λ r own. subst (λ i. IsNumberOf i (f r).state.client.number new) (sym (same_record mark path r).0)
     (subst (λ (c : ClientId). IsNumberOf r.id c.number new) (sym (same_record mark path r).1) (keeps r own)) in
     record {
+      slots = are.slots;
+      values = are.values;
       confirmed = distinct_mapped f have_same_id (λ r s. rw ((same_record mark path r).0, (same_record mark path s).0) refl) old.confirmed are.confirmed;
       unconfirmed = are.unconfirmed;
       confirmed_numbers = all_mapped f (HasOwnNumber old) (HasOwnNumber new) marked old.confirmed are.confirmed_numbers;
@@ -122,7 +124,7 @@ marks_keep_clients mark path old = record {
         ap (option_map (λ r. r.state.client)) (marked_of mark path old client) ∙ client_marked mark path (record_of client old);
     holder = λ id.
         ap (option_map (λ r. r.state.client)) (marked_with_id mark path old id) ∙ client_marked mark path (confirmed_of old id);
-    last_given = refl;
+    same_given = refl;
     last_value = refl;
   };
   marked = marked_of mark path old;

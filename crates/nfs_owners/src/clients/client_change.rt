@@ -5,7 +5,8 @@ use nfs_xdr::ClientId;
 #[derive(Drop)]
 pub enum ClientChange {
     Nothing,
-    /// Adds this unconfirmed record, with the next client number and the next confirm value.
+    /// Adds this unconfirmed record, with the next number of a slot and the next confirm value. An unconfirmed record of
+    /// the slot gives way.
     Arrives(ClientRecord),
     /// Adds this unconfirmed record, with the clientid that its client has and the next confirm value.
     Updates(ClientRecord),

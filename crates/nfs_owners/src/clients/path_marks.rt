@@ -1,13 +1,11 @@
 //! What is known of the paths to the clients' callbacks.
 
-ghost use Rattle.std.specs.Prelude.{◌≡◌, find};
-ghost use Rattle.std.specs.List.{IsDistinct};
+ghost use Rattle.std.specs.Prelude.{◌≡◌};
 ghost use Rattle.std.specs.Option.{option_copied};
-ghost use Rattle.nfs_owners.specs.LiveClients.{IsNextUnknown, is_unknown_of};
-ghost use Rattle.nfs_owners.specs.Records.{have_same_client};
-ghost use Rattle.nfs_owners.specs.Registry.{record_state, with_mark};
+ghost use Rattle.nfs_owners.specs.LiveClients.{IsNextUnknown};
+ghost use Rattle.nfs_owners.specs.Registry.{with_mark};
 
-use super::Clients;
+use super::{Clients, state_of};
 use crate::{ClientState, PathMark};
 
 impl Clients {
@@ -25,24 +23,9 @@ impl Clients {
     pub fn next_unknown(&self, after: u32) -> Option<&ClientState>
         ensures { IsNextUnknown after self.now.registry (option_copied result) }
     {
-        for number in after..self.last_number {
-            if let Some(state) = self.unknown_of(number + 1) {
-                return Some(state);
-            }
-        }
-        None
-    }
-
-    // What the confirmed record of the client with this number has, if nothing is known of the client's path.
-    fn unknown_of(&self, number: u32) -> Option<&ClientState>
-        ensures state { option_copied result
-            ≡ record_state (find (is_unknown_of number) self.now.registry.confirmed) }
-        ensures apart { IsDistinct have_same_client self.now.registry.confirmed }
-    {
-        let record = self.confirmed.of_client(number)?;
-        match record.state.path {
-            PathMark::Unknown => Some(&record.state),
-            PathMark::Up | PathMark::Down => None,
-        }
+        let number = self
+            .confirmed
+            .next_client(after, |record| record.has_unknown_path())?;
+        state_of(self.confirmed.of_client(number))
     }
 }

@@ -1,14 +1,16 @@
-ghost use Rattle.std.specs.Prelude.{◌≡◌, ◌<◌, [], ◌∷◌, ◌++◌, IsOk, IsFalse, OnOk, find, map};
+ghost use Rattle.std.specs.Prelude.{◌≡◌, ◌<◌, [], ◌∷◌, ◌++◌, Bool, List, IsOk, IsFalse, OnOk, filter, find, length, map};
 ghost use Rattle.std.specs.List.{IsDistinct, list_any};
 ghost use Rattle.std.specs.Option.{option_copied};
 ghost use Rattle.nfs_rows.specs.NameHash.{hash_of};
-ghost use Rattle.nfs_rows.specs.Rows.{is_numbered, without};
+ghost use Rattle.nfs_rows.specs.Rows.{AnswersAs, is_numbered, without};
+ghost use Rattle.nfs_owners.specs.LiveClients.{IsNextAmong};
 ghost use Rattle.nfs_owners.specs.Records.{have_same_client};
+ghost use Rattle.nfs_owners.specs.declared.client_record.ClientRecord.{ClientRecord};
 ghost use Rattle.nfs_owners.specs.Registry.{after_mark, is_of, is_of_client, takes_number, without_id, without_number};
 
 use crate::{ClientRecord, PathMark};
 use indexmap::IndexMap;
-use nfs_rows::{Rows, hash_of};
+use nfs_rows::{Iter, Rows, hash_of};
 use std::alloc::{AllocError, Global};
 use std::hash::RandomState;
 use std::marker::Model;
@@ -56,6 +58,13 @@ impl Records {
         }
     }
 
+    /// How many records there are.
+    pub fn len(&self) -> usize
+        ensures { result ≡ length self.now.records }
+    {
+        self.rows.len()
+    }
+
     /// The record with this id, if there is one.
     pub fn of_id(&self, id: &[u8]) -> Option<&ClientRecord>
         ensures { option_copied result ≡ find (is_of id.now) self.now.records }
@@ -86,6 +95,29 @@ impl Records {
     {
         let row = *self.by_client.get(&number)?;
         self.rows.find(row)
+    }
+
+    /// The records in the order in which they were added, with the numbers of their rows.
+    pub fn iter(&self) -> Iter<'_, ClientRecord>
+        ensures { map (λ item. item.1) result ≡ self.now.records }
+    {
+        self.rows.iter()
+    }
+
+    /// The least client number above this one that a record has which passes the test, if there is one. It looks at each
+    /// record once.
+    pub fn next_client<F: Fn(&ClientRecord) -> bool>(&self, after: u32, test: F) -> Option<u32>
+        requires { F.IsAlwaysCallable test }
+        ensures { (p : ClientRecord → Bool) → AnswersAs F.Fn test p
+            → IsNextAmong after (filter p self.now.records) result }
+    {
+        let mut next = None;
+        for (_, record) in self.iter() {
+            if test(record) {
+                next = nearer(next, record, after);
+            }
+        }
+        next
     }
 
     /// Makes room for one more record.
@@ -185,6 +217,19 @@ impl Records {
                 record.state.path = path;
             }
         }
+    }
+}
+
+// The record's client number instead, if it is above `after` and below the least so far.
+fn nearer(least: Option<u32>, candidate: &ClientRecord, after: u32) -> Option<u32>
+    ensures { (records : List ClientRecord) → IsNextAmong after records least
+        → IsNextAmong after (records ++ candidate.now ∷ []) result }
+{
+    let number = candidate.state.client.number;
+    match least {
+        None if after < number => Some(number),
+        Some(next) if after < number && number < next => Some(number),
+        _ => least,
     }
 }
 

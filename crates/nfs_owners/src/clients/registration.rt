@@ -8,7 +8,7 @@ ghost use Rattle.nfs_xdr.specs.Short.{IsShort};
 ghost use Rattle.nfs_xdr.specs.declared.op_result.OpResult.TheVariants as OpResult;
 
 use super::{ClientChange, Clients};
-use crate::{CLIENT_LIMIT, ClientCallback, ClientRecord, ClientState, OwnersError, PathMark};
+use crate::{ClientCallback, ClientRecord, ClientState, OwnersError, PathMark};
 use nfs_operations::setclientid::{Outcome, Setclientid};
 use nfs_operations::setclientid_confirm::SetclientidConfirm;
 use nfs_xdr::{Address, ClientId, Principal};
@@ -89,13 +89,10 @@ impl Clients {
         ensures fits { IfOk result (λ r. FitsRecords r.1 self.now.registry) }
         ensures short { IfOk result (λ r. IsShort (OpResult.Setclientid r.0)) }
     {
-        if self.last_number >= CLIENT_LIMIT {
+        let Some(number) = self.choose(args.id.as_slice()) else {
             return Err(OwnersError::Full);
-        }
-        let client = ClientId {
-            epoch,
-            number: self.last_number + 1,
         };
+        let client = ClientId { epoch, number };
         let confirm = self.last_confirm + 1;
         let answer = SetclientidConfirm { client, confirm };
         let record = unconfirmed_record(principal, args, answer)?;

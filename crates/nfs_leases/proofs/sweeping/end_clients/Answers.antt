@@ -1,22 +1,18 @@
 -- The loop goes one visit further.
 use Rattle.std.proofs.Common.{ℕ, [], ◌∷◌, ◌++◌, ◌∙◌, Option, refl, sym, subst, arith}
 use Rattle.nfs_leases.specs.Sweeps.{IsVisit}
-use Rattle.nfs_leases.specs.Visit.{Visit, events_of, expiries, with_case}
+use Rattle.nfs_leases.specs.Visit.{Visit, with_case}
 use Rattle.nfs_leases.specs.declared.swept.Swept.{Swept}
-use Rattle.nfs_leases.proofs.Comes.{AreLaws, Comes, Stays, book_further, comes_first, comes_further, comes_last, is_gone, next_live, stays, total_before}
-use Rattle.nfs_leases.proofs.Lists.{lawful_more}
+use Rattle.nfs_leases.proofs.Comes.{AreLaws, Comes, Stays, book_further, comes_first, comes_further, comes_last, is_gone, stays, total_before}
 use Rattle.nfs_leases.proofs.sweeping.end_clients.Goals as goal
 
 pub loop-next-init : goal.loop-next-init
 loop-next-init g c =
-    let lawful = c.journal.ensures.lawful in
-    let next =
-    next_live 0 (g.B.LeaseBook.is_open c.args.book.now) c.args.core.now.stored.clients c.next_open-next.result
-    c.requires.agrees.live c.next_open-next.ensures.next in
+    let next = c.next_live-next.ensures in
     let first =
-    comes_first g.B.LeaseBook.happens c.args.now c.args.core.now c.args.book.now c.next_open-next.result
-    (c.lawful_is_safe.ensures.numbered _ _ lawful) next in
-    (0, [], first, c.requires.agrees, c.lawful_is_safe.ensures.run _ _ lawful, lawful, refl)
+    comes_first g.B.LeaseBook.happens c.args.now c.args.core.now c.args.book.now c.next_live-next.result next.numbered
+    next.next in
+    (0, [], first, c.requires.agrees, next.run, next.lawful, refl)
 
 pub and-swept-requires : goal.and-swept-requires
 and-swept-requires g c =
@@ -27,7 +23,7 @@ and-swept-requires g c =
     Comes g.B.LeaseBook.happens c.args.now i.0 c.args.core.now c.args.book.now c.loop-next.swept i.1
     c.loop-next.core c.loop-next.book next)
     c.in-Some.is i.2 in
-    omega (arith, total_before _ _ _ _ _ _ _ _ _ _ at)
+    omega (arith, total_before _ _ _ _ _ _ _ _ _ _ at (omega arith))
 
 pub loop-next-preserved : goal.loop-next-preserved
 loop-next-preserved g c =
@@ -50,24 +46,21 @@ loop-next-preserved g c =
       open_follows = g.met.B.LeaseBook.open_follows;
       opened_follows = g.met.B.LeaseBook.opened_follows;
     } in
-    let lawful = lawful_more (expiries (events_of c.args.now t)) c.loop-next.core c.visit_of.new.core i.5 told.3 in
     let agrees =
     book_further happens g.B.LeaseBook.lease g.B.LeaseBook.is_open g.B.LeaseBook.was_opened laws t.case t.client
     t.seen c.args.now c.loop-next.core c.visit_of.new.core c.loop-next.book c.visit_of.new.book told.2 told.3 stay i.3 in
-    let next =
-    next_live t.client (g.B.LeaseBook.is_open c.visit_of.new.book) c.visit_of.new.core.stored.clients
-    c.next_open-next-in-Some.result agrees.live c.next_open-next-in-Some.ensures.next in
+    let next = c.next_live-next-in-Some.ensures in
     let further =
     comes_further happens c.args.now i.0 c.args.core.now c.args.book.now c.loop-next.swept i.1 c.loop-next.core
-    c.loop-next.book t c.visit_of.new.core c.visit_of.new.book c.next_open-next-in-Some.result at stay visit told.2
-    (c.lawful_is_safe.ensures.numbered _ _ lawful) next in
+    c.loop-next.book t c.visit_of.new.core c.visit_of.new.book c.next_live-next-in-Some.result at stay visit told.2
+    next.next in
     let counted =
     subst
     (λ (s : Swept).
     Comes happens c.args.now t.client c.args.core.now c.args.book.now s (i.1 ++ t ∷ []) c.visit_of.new.core
-    c.visit_of.new.book c.next_open-next-in-Some.result)
+    c.visit_of.new.book c.next_live-next-in-Some.result)
     {x = with_case c.loop-next.swept t.case} (sym c.and-swept.ensures) further in
-    (t.client, i.1 ++ t ∷ [], counted, agrees, c.lawful_is_safe.ensures.run _ _ lawful, lawful, c.visit_of.ensures.recalls ∙ i.6)
+    (t.client, i.1 ++ t ∷ [], counted, agrees, next.run, next.lawful, c.visit_of.ensures.recalls ∙ i.6)
 
 pub returns-clause-ends : goal.returns-clause-ends
 returns-clause-ends g c =

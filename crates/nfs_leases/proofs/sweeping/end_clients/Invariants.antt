@@ -10,7 +10,7 @@ use Rattle.nfs_state.specs.Stored.{meaning}
 -- how far the next client is from the last number that there may be
 abbrev left : Option ℕ → ℕ
 left None = 0
-left (Some client) = 4097 - client
+left (Some client) = 4294967296 - client
 
 abbrev pub invariant-loop-next : goal.invariant-loop-next
 invariant-loop-next g l =

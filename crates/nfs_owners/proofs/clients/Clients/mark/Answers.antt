@@ -7,7 +7,7 @@ invariant_of-self c =
     let old : Registry = record {
       confirmed = c.self.inside.confirmed.records;
       unconfirmed = c.self.inside.unconfirmed.records;
-      last_number = c.self.inside.last_number;
+      given = c.self.inside.given;
       last_confirm = c.self.inside.last_confirm;
     } in
     rw c.mark.ensures.records (mark_keeps_records c.args.number c.args.path old c.self.invariant)

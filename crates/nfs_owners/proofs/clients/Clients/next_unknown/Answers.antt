@@ -1,21 +1,19 @@
-use Rattle.std.proofs.Common.{◌∙◌, ◌+◌, ◌≤◌, ap, option_copied, subst, sym}
+use Rattle.std.proofs.Common.{◌∙◌, ap, option_copied, rules, subst, sym}
 use Rattle.nfs_owners.specs.ClientRoom.{RoomyClients}
-use Rattle.nfs_owners.specs.Registry.{AreRecords}
-use Rattle.nfs_owners.proofs.LiveNumbers.{has_unknown, no_unknown, none_more, none_unknown, unknown_found}
+use Rattle.nfs_owners.specs.LiveClients.{IsNextUnknown, has_unknown_path}
+use Rattle.nfs_owners.specs.Registry.{Registry, record_state}
+use Rattle.nfs_owners.proofs.LiveNumbers.{unknown_is_next}
 use Rattle.nfs_owners.proofs.clients.Clients.next_unknown.Goals as goal
-
-pub returns-in-Some : goal.returns-in-Some
-returns-in-Some c =
-    unknown_found c.args.after c.loop-number.number c.args.self.now.registry c.in-Some.state.now c.unknown_of.ensures.apart c.loop-number.invariant c.loop-number.auto.number c.in-Some.ensures.state
-
-pub loop-number-preserved : goal.loop-number-preserved
-loop-number-preserved c =
-    let records = c.args.self.now.registry.confirmed in
-    let last = c.loop-number.number in
-    none_more (has_unknown records) c.args.after last c.loop-number.invariant (no_unknown (last + 1) records (sym (ap option_copied c.in_default.is) ∙ c.unknown_of.ensures.state))
 
 pub returns : goal.returns
 returns c =
-    let last = c.loop-number.number in
-    none_unknown c.args.after last c.args.self.now.registry (subst (λ (s : RoomyClients). AreRecords s.registry) c.self.view_is c.self.invariant) c.loop-number.invariant
-    (subst (λ n. n ≤ last) (ap (λ (s : RoomyClients). s.registry.last_number) c.self.view_is) c.loop-number-test.false)
+    let number = c.in_ok-number.number in
+    let inside : Registry = record {
+      confirmed = c.self.inside.confirmed.records;
+      unconfirmed = c.self.inside.unconfirmed.records;
+      given = c.self.inside.given;
+      last_confirm = c.self.inside.last_confirm;
+    } in
+    let next = c.in_ok-number.ensures has_unknown_path (λ shown answer called. search rules) in
+    subst (λ (s : RoomyClients). IsNextUnknown c.args.after s.registry (option_copied c.state_of.result)) c.self.view_is
+    (subst (IsNextUnknown c.args.after inside) (sym (c.state_of.ensures ∙ ap record_state c.of_client.ensures.found)) (unknown_is_next c.args.after number inside c.of_client.ensures.apart next))

@@ -9,7 +9,7 @@ invariant_of-self c =
     let old : Registry = record {
       confirmed = c.self.inside.confirmed.records;
       unconfirmed = c.self.inside.unconfirmed.records;
-      last_number = c.self.inside.last_number;
+      given = c.self.inside.given;
       last_confirm = c.self.inside.last_confirm;
     } in
     let stays : ClientRecord → Bool = λ r. not (is_of_client c.args.number r) in
