@@ -23,7 +23,7 @@ use std::process::ExitCode;
 use std::{env, io};
 
 // What `--version` prints: the toolchain by which all of this is proved.
-const VERSION: &str = "nfs4state, proved by rattle-kit-13b\n";
+const VERSION: &str = "nfs4state, proved by rattle-kit-13\n";
 
 /// Does what the words of the command line ask for: see `nfs4state --help`.
 fn main(rt: HostRuntime) -> ExitCode {
