@@ -1,6 +1,6 @@
 """Beginnings of journals, for check_journals.py: of a journal with 0 or with its own number of entries, which is cut
 at many places, the whole entries are read, also where it comes in pieces; and tools/show_journal and tools/explain
-show, judge, save and follow such files."""
+show, judge, save and follow such files. And how clients are named there, whose slots were given before."""
 import os
 import signal
 import subprocess
@@ -11,11 +11,11 @@ import time
 
 from entries import Expire, NotJournal, entry_bytes
 from journal import Growing, Recorder, head_bytes, journal_bytes
-from journal_cases import sample, small, with_words
+from journal_cases import LAST, NOBODY, ask_for_number, confirm, open_by, sample, small, with_words
 from reason_cases import kept_answers
-from tree import Tree
-from wire import Opnum, Read, Stateid, Write, u32
-from words import line_of
+from tree import DEFAULT, Tree
+from wire import Delegreturn, OpenConfirm, Opnum, READ, Read, Stateid, Write, u32
+from words import client_words, line_of
 
 TOOLS = os.path.join(os.path.dirname(os.path.abspath(__file__)), "..")
 # The seconds that a tool has, on however busy a machine.
@@ -96,6 +96,53 @@ def check_faults():
     except NotJournal:
         pass
     return wrong
+
+
+# Clients by their numbers.
+CLIENTS = {
+    1: "client 1", 255: "client 255", 256: "client 256", 257: "client 257 (slot 1, second)",
+    767: "client 767 (slot 255, third)", 769: "client 769 (slot 1, 4th)", 2561: "client 2561 (slot 1, 11th)",
+    2817: "client 2817 (slot 1, 12th)", 3073: "client 3073 (slot 1, 13th)", 5121: "client 5121 (slot 1, 21st)",
+    5377: "client 5377 (slot 1, 22nd)", 5633: "client 5633 (slot 1, 23rd)", 28161: "client 28161 (slot 1, 111th)",
+    LAST: "client 4294967295 (slot 255, 16777216th)",
+}
+# The ends of the lines of `slot_given_again`: what is answered, or what no call asks for.
+LINES = [
+    "SETCLIENTID NFS4_OK 1 1 u64:1", "SETCLIENTID_CONFIRM NFS4_OK", "client 1 expires, seen at 0, now 91",
+    "SETCLIENTID NFS4_OK 1 257 u64:2  # client 257 (slot 1, second)", "SETCLIENTID_CONFIRM NFS4_OK",
+    "OPEN NFS4_OK 1 1 257 1 1 u64:0 u64:0 6 0 0", "OPEN_CONFIRM NFS4_OK 2 1 257 1",
+    "OPEN NFS4_OK 3 1 257 1 1 u64:0 u64:0 4 0 1 1 1 257 2 0 0 0 0 0  # gives client 257 (slot 1, second) state 2, a "
+    "delegation for reading",
+    "the path of client 257 (slot 1, second) is marked down",
+    "DELEGRETURN NFS4_OK  # client 257 (slot 1, second) gives state 2 back",
+    "client 257 (slot 1, second) expires, seen at 0, now 91",
+]
+
+
+def slot_given_again():
+    """Client 1 ends, and client 257 has its slot; it gets a delegation, gives that back, and ends, too."""
+    server = Recorder(Tree('policy.callbacks = "assume"\n' + DEFAULT))
+    ask_for_number(server, b"c1")
+    confirm(server, 1)
+    server.expire(1, 0, 91)
+    ask_for_number(server, b"c1")
+    confirm(server, 257)
+    open_by(server, 257, 1)
+    server.apply(Opnum.OPEN_CONFIRM, OpenConfirm(Stateid(1, 1, 257, 1), 2), 1, NOBODY)
+    open_by(server, 257, 3, READ)
+    server.mark_path(257, False)
+    server.apply(Opnum.DELEGRETURN, Delegreturn(Stateid(1, 1, 257, 2)), 1, NOBODY)
+    server.expire(257, 0, 91)
+    return server.journal()
+
+
+def check_clients():
+    wrong = [f"{client_words(number)}, not {words}" for number, words in CLIENTS.items()
+             if client_words(number) != words]
+    journal = slot_given_again()
+    ends = [line_of(entry, journal.tree).split(" -> ")[-1] for entry in journal.entries]
+    return wrong + [f"a line ends with {end}, not {wanted}" for end, wanted in zip(ends, LINES, strict=True)
+                    if end != wanted]
 
 
 # The tools.
@@ -285,6 +332,7 @@ def try_follow(room):
 
 def check_beginnings():
     wrong = check_cuts("three entries", small(), 1) + check_cuts("all operations", sample(), 11) + check_faults()
+    wrong += check_clients()
     with tempfile.TemporaryDirectory() as folder:
         room = Room(folder)
         for attempt in (try_shown, try_data, try_explained, try_again, try_follow):

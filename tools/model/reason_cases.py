@@ -614,7 +614,40 @@ def clients_with_delegations():
     return story
 
 
+def clients_of_slots():
+    """Clients 257 and 258, live, each the second in its slot: entries 3 to 7. The first has a delegation."""
+    story = Story("clients of slots", 'policy.callbacks = "assume"\n' + DEFAULT)
+    one, other = "client 257 (slot 1, second)", "client 258 (slot 2, second)"
+    story.introduce()
+    story.confirm_client(1, 1)
+    story.expire(1)
+    story.introduce()
+    story.confirm_client(257, 2)
+    story.introduce(b"c2")
+    story.introduce(b"c2")
+    story.confirm_client(258, 4)
+    story.open(1, client=257)
+    story.confirm(2, state(1, client=257))
+    story.tell(f"{one} gets state 2, {A_DELEGATION}")
+    story.open(3, client=257)
+    used = (f'the id "c1" is that of {one}, by AUTH_NONE, which has state: state 1, an open of file "/a" by open owner '
+            f'"A" of {one}, since entry 8 (OPEN)')
+    story.introduce(verifier=2, because=(used, "SETCLIENTID"), principal=SOMEBODY)
+    value = f"entry 3 (SETCLIENTID) gave confirm value 2 to {one}"
+    story.confirm_client(258, 2, (value, "SETCLIENTID_CONFIRM"))
+    whose = f"state 2 was given to {one}, and the stateid is one of {other}"
+    story.give_back(state(2, client=258), (whose, STATEIDS))
+    theirs = (f"of the delegation's stateid: it is that of state 2, {A_DELEGATION} to {one}, and the OPEN is one of "
+              f"{other}")
+    story.open(1, (theirs, "OPEN"), b"B", 1, client=258, claim=Claim(2, b"a", state(2, client=257)))
+    story.tell(f"the path of {one} was up since entry 4 (SETCLIENTID_CONFIRM)")
+    story.server.mark_path(257, False)
+    story.tell(f"{one} gives back state 2, {A_DELEGATION}; it wasn't called back")
+    story.give_back(state(2, client=257))
+    return story
+
+
 def stories():
     return [stateids(), ends(), clients(), records_that_give_way(), sequence_ids(), kept_answers(), no_kept_answers(),
             opens(), shares(), many_shares(), locks(), bytes_of_files(), bytes_of_lent_files(), delays(), many_delays(),
-            delegation_stateids(), ends_of_delegations(), clients_with_delegations()]
+            delegation_stateids(), ends_of_delegations(), clients_with_delegations(), clients_of_slots()]
