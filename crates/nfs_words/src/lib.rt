@@ -5,6 +5,8 @@ mod event;
 mod laws;
 mod lease_seat;
 mod rule;
+#[cfg(test)]
+mod tests;
 mod word;
 mod word_desk;
 mod word_leases;

@@ -165,7 +165,7 @@ impl WordLeases {
     }
 
     // The raise of a renewal, after a look that showed the lease open.
-    pub(crate) fn raise<C: Asked>(
+    fn raise<C: Asked>(
         &self,
         seat: &mut LeaseSeat,
         client: u32,
