@@ -8,9 +8,9 @@ use Rattle.nfs_words.specs.declared.event.Deed.{Deed}
 use Rattle.nfs_words.specs.declared.event.Deed.TheVariants.{Renew, Open}
 use Rattle.nfs_words.specs.declared.rule.View.{View}
 use Rattle.nfs_words.specs.Words.{closed_part}
-use Rattle.nfs_words.specs.Deeds.{event, deeds_of, own_deeds_of, phase_of, is_standing}
+use Rattle.nfs_words.specs.Deeds.{HasOpened, event, deeds_of, own_deeds_of, phase_of, is_standing}
 use Rattle.nfs_words.specs.Rule.{Kept}
-use Rattle.nfs_words.specs.Rules.{AnswersAlone, HasOpened, HasSameOf, IsSeated, KeeperHas, WroteAt, client_part}
+use Rattle.nfs_words.specs.Rules.{AnswersAlone, HasSameOf, IsSeated, KeeperHas, WroteAt, client_part}
 use Rattle.nfs_words.proofs.Turns.{alone_live, contains_cons, has_own, in_more}
 use Rattle.nfs_words.proofs.Ruling.{keeper_held, rules}
 
@@ -69,8 +69,8 @@ no_less_there one other a b c here there same =
     let u = same w.2.0 w.2.1 in
     let wrote = wrote_moved c w.0 w.2.0 u.0 u.2 w.2.2 in
     let up : w.0 + 1 ≤ client_part other c =
-    ⊎_elim (λ (o : Contains u.0.own (event c (Open w.0))). (rules other b).greatest.no_less c w.0 u.0 u.1 there o)
-    (λ (r : (from : ℕ) × (from ≢ closed_part) × Contains u.0.own (event c (Renew w.0 from))). (rules other b).greatest.greatest c w.0 r.0 u.0 u.1 there r.2 r.1)
+    ⊎_elim (λ (o : Contains u.0.own (event c (Open w.0))). (rules other b).greatest.no_less c w.0 u.0 u.0.own u.1 (inl refl) there o)
+    (λ (r : (from : ℕ) × (from ≢ closed_part) × Contains u.0.own (event c (Renew w.0 from))). (rules other b).greatest.greatest c w.0 r.0 u.0 u.0.own u.1 (inl refl) there r.2 r.1)
     wrote in
     omega (arith, w.1, up)
 

@@ -145,3 +145,30 @@ not_true false h = refl
 
 pub never_vacant_again : (lease : ℕ) (es : List Event) → ((c : ℕ) → in_order lease (deeds_of c es) ≡ true) → NeverVacantAgain es
 never_vacant_again lease es order = record { not_vacant = λ newer older c is. not_true (knows (deeds_of c older)) (may_at lease c (Look 0) newer older es (order c) is) }
+
+saw_more : (d : Deed) (ds : List Deed) → saw_open ds ≡ true → saw_open (d ∷ ds) ≡ true
+saw_more (Look w) ds h = grind (arith, nat_tests)
+saw_more (Renew m old) ds h = h
+saw_more (Open m) ds h = h
+saw_more (Close seen now done) ds h = h
+saw_more Retire ds h = h
+
+saw_cond : (b p : Bool) (d : Deed) (ds : List Deed) → saw_open ds ≡ true → saw_open (cond b (d ∷ ds) (cond p (Retire ∷ ds) ds)) ≡ true
+saw_cond true p d ds h = saw_more d ds h
+saw_cond false true d ds h = h
+saw_cond false false d ds h = h
+
+-- a list in order that has a renewal has a look that showed the lease open
+pub renewed_saw : (lease : ℕ) (es : List Event) (c m from : ℕ) → in_order lease (deeds_of c es) ≡ true → Contains es (event c (Renew m from)) → saw_open (deeds_of c es) ≡ true
+renewed_saw lease [] c m from order (k, low, e) = absurd (omega (arith, low))
+renewed_saw lease (x ∷ es) c m from order has =
+    ⊎_elim
+    (λ (is : x ≡ event c (Renew m from)).
+    let o : in_order lease (Renew m from ∷ deeds_of c es) ≡ true =
+    subst (λ (l : List Deed). in_order lease l ≡ true) (of_same c (Renew m from) es) (subst (λ (y : Event). in_order lease (deeds_of c (y ∷ es)) ≡ true) is order) in
+    let may = left_true (may_follow lease (Renew m from) (deeds_of c es)) (in_order lease (deeds_of c es)) o in
+    let saw : saw_open (deeds_of c es) ≡ true = left_true (saw_open (deeds_of c es)) _ may in
+    subst (λ (y : Event). saw_open (deeds_of c (y ∷ es)) ≡ true) (sym is) (subst (λ (l : List Deed). saw_open l ≡ true) (sym (of_same c (Renew m from) es)) saw))
+    (λ (older : Contains es (event c (Renew m from))).
+    saw_cond (x.client == c) (opens_later c x) x.deed (deeds_of c es) (renewed_saw lease es c m from (order_cond lease (x.client == c) (opens_later c x) x.deed (deeds_of c es) order) older))
+    (contains_cons x es (event c (Renew m from)) has)

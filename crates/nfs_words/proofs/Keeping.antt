@@ -1,5 +1,5 @@
 -- A step of one seat on one client's word keeps the rule, where it does so for that client.
-use Rattle.std.proofs.Common.{◌&&◌, ◌==◌, ◌≡◌, ◌≢◌, ◌⊎◌, ℕ, zero, suc, ◌+◌, ◌<◌, List, [], ◌∷◌, length, set, cond, Bool, true, false, true≢false, refl, sym, ap, ◌∙◌, subst, ⊎_elim, arith, eq-eqb, ne_eqb, length-set, slice_index, get_or-set_same, get_or-set_other}
+use Rattle.std.proofs.Common.{◌&&◌, ◌==◌, ◌≡◌, ◌≢◌, ◌⊎◌, inl, inr, ℕ, zero, suc, ◌+◌, ◌<◌, List, [], ◌∷◌, length, set, cond, Bool, true, false, true≢false, refl, sym, ap, ◌∙◌, subst, ⊎_elim, arith, eq-eqb, ne_eqb, length-set, slice_index, get_or-set_same, get_or-set_other}
 use mathlib.Core.Option.{some, some-ne-none, some-injective}
 use mathlib.Core.Logic.{dite}
 use native.Mathlib.Decide.{ℕ_discrete}
@@ -9,14 +9,15 @@ use Rattle.atomic_table.proofs.Lists.{at_set, set_else}
 use Rattle.nfs_words.specs.declared.event.Event.{Event}
 use Rattle.nfs_words.specs.declared.event.Deed.{Deed}
 use Rattle.nfs_words.specs.declared.event.Deed.TheVariants.{Open, Retire}
+use Rattle.nfs_words.proofs.Turns.{in_more}
 use Rattle.std.proofs.lemmas.Bool.Decides.{nat_tests}
 use Rattle.nfs_words.specs.declared.rule.View.{View}
 use Rattle.nfs_owners.specs.declared.slots.TheConstants.{SLOTS}
 use Rattle.nfs_owners.specs.Slots.{slot_of, generation_of, is_earlier}
 use Rattle.nfs_words.specs.Words.{closed_part, part_in, part_at}
-use Rattle.nfs_words.specs.Deeds.{Phase, Unopened, Standing, Ended, event, deeds_of, opens_later, is_opening, is_ending, was_opened, count_opened, AreInTurn, saw_end, wrote, phase_of}
+use Rattle.nfs_words.specs.Deeds.{HasOpened, saw_open, Phase, Unopened, Standing, Ended, event, deeds_of, opens_later, is_opening, is_ending, was_opened, count_opened, AreInTurn, saw_end, wrote, phase_of}
 use Rattle.nfs_words.specs.Views.{with_event}
-use Rattle.nfs_words.specs.Rule.{FitsPhase, AreLawful, Stands, FitsView, RuleFor, HasKeeper, IsWordOf, Kept}
+use Rattle.nfs_words.specs.Rule.{HasOpenedAt, HasSeenOpen, FitsPhase, AreLawful, Stands, FitsView, RuleFor, HasKeeper, IsWordOf, Kept}
 use Rattle.nfs_words.specs.Plays.{Agrees, IsSound, IsPartIn, IsTold}
 
 pub of_same : (c : ℕ) (a : Deed) (es : List Event) → deeds_of c (event c a ∷ es) ≡ a ∷ deeds_of c es
@@ -177,14 +178,60 @@ ends_closed c views Unopened w ds h u end = absurd (true≢false (sym end ∙ u.
 ends_closed c views Standing w ds h u end = absurd (true≢false (sym end ∙ u.0))
 ends_closed c views (Ended k) w ds h u end = h
 
+-- what the keeper opened stays so, where the place of a view has one that opened as much
+pub opened_set : (keeper c : ℕ) (views : List View) (at : ℕ) (v new : View) → get_elem? views at ≡ some v → (HasOpened c v.own → HasOpened c new.own) → HasOpenedAt keeper views c → HasOpenedAt keeper (set views at new) c
+opened_set keeper c views at v new e more h =
+    dite (ℕ_discrete keeper at)
+    (λ (same : keeper ≡ at).
+    let is : v ≡ h.0 = some-injective v h.0 (sym e ∙ subst (λ (k : ℕ). get_elem? views k ≡ some h.0) same h.1) in
+    (new, subst (λ (k : ℕ). get_elem? (set views at new) k ≡ some new) (sym same) (set_there views at new v e), more (subst (λ (u : View). HasOpened c u.own) (sym is) h.2)))
+    (λ (apart : keeper ≢ at). (h.0, set_else views at keeper new apart ∙ h.1, h.2))
+
+-- an event of another client shows nothing of this one
+saw_else : (c d : ℕ) (a : Deed) (es : List Event) → d ≢ c → saw_open (deeds_of c (event d a ∷ es)) ≡ true → saw_open (deeds_of c es) ≡ true
+saw_else c d a es apart h =
+    by_pass (opens_later c (event d a)) (subst (λ (b : Bool). saw_open (cond b (a ∷ deeds_of c es) (cond (opens_later c (event d a)) (Retire ∷ deeds_of c es) (deeds_of c es))) ≡ true) (ne_eqb d c apart) h)
+  where
+    by_pass : (p : Bool) → saw_open (cond p (Retire ∷ deeds_of c es) (deeds_of c es)) ≡ true → saw_open (deeds_of c es) ≡ true
+    by_pass true x = x
+    by_pass false x = x
+
+-- who sees a lease open sees one that the keeper opened, after a step too
+seen_step : (keeper : ℕ) (views : List View) (at : ℕ) (v : View) (d : ℕ) (a : Deed) → get_elem? views at ≡ some v
+    → ((c i : ℕ) (u : View) → get_elem? views i ≡ some u → HasSeenOpen c u → HasOpenedAt keeper views c)
+    → (saw_open (a ∷ deeds_of d v.own) ≡ true → (saw_open (deeds_of d v.own) ≡ true) ⊎ HasOpenedAt keeper views d)
+    → (c j : ℕ) (u : View) → get_elem? (set views at (with_event v (event d a))) j ≡ some u → HasSeenOpen c u → HasOpenedAt keeper (set views at (with_event v (event d a))) c
+seen_step keeper views at v d a e kept shown c =
+    set_each (λ j u. HasSeenOpen c u → HasOpenedAt keeper (set views at new) c) views at new
+    (λ j u _ at_j saw. stays (kept c j u at_j saw))
+    (λ saw. ⊎_elim (λ (x : saw_open (deeds_of c (event d a ∷ v.own)) ≡ true). own_saw x) (λ (x : saw_open (deeds_of c v.beside) ≡ true). stays (kept c at v e (inr x))) saw)
+  where
+    new : View
+    new = with_event v (event d a)
+
+    stays : HasOpenedAt keeper views c → HasOpenedAt keeper (set views at new) c
+    stays = opened_set keeper c views at v new e (λ h. (h.0, in_more (event c (Open h.0)) (event d a) v.own h.1))
+
+    by_same : d ≡ c → saw_open (deeds_of c (event d a ∷ v.own)) ≡ true → HasOpenedAt keeper views c
+    by_same same x =
+        let y : saw_open (deeds_of d (event d a ∷ v.own)) ≡ true = subst (λ (k : ℕ). saw_open (deeds_of k (event d a ∷ v.own)) ≡ true) (sym same) x in
+        let z : saw_open (a ∷ deeds_of d v.own) ≡ true = subst (λ (l : List Deed). saw_open l ≡ true) (of_same d a v.own) y in
+        subst (HasOpenedAt keeper views) same
+        (⊎_elim (λ (old : saw_open (deeds_of d v.own) ≡ true). kept d at v e (inl old)) (λ (has : HasOpenedAt keeper views d). has) (shown z))
+
+    own_saw : saw_open (deeds_of c (event d a ∷ v.own)) ≡ true → HasOpenedAt keeper (set views at new) c
+    own_saw x = stays (dite (ℕ_discrete d c) (λ (same : d ≡ c). by_same same x) (λ (apart : d ≢ c). kept c at v e (inl (saw_else c d a v.own apart x))))
+
 -- A step of the seat on the word of d's slot, which becomes n, keeps the rule.
 -- It has to say what the rule is for the slot's clients, and for the keeper.
 pub step_keeps : (table : State ℕ View) (kept : Kept table) (at : ℕ) (v : View) (d : ℕ) (a : Deed) (n : ℕ) → get_elem? table.views at ≡ some v
+    → (saw_open (a ∷ deeds_of d v.own) ≡ true → (saw_open (deeds_of d v.own) ≡ true) ⊎ HasOpenedAt kept.keeper table.views d)
     → RuleFor kept.keeper d (part_in (generation_of d) n) (set table.views at (with_event v (event d a)))
     → ((c : ℕ) → d ≢ c → slot_of d ≡ slot_of c → RuleFor kept.keeper c (part_in (generation_of c) n) (set table.views at (with_event v (event d a))))
     → ((j : ℕ) (u : View) → get_elem? (set table.views at (with_event v (event d a))) j ≡ some u → u.keeps ≡ true → IsWordOf n (count_opened (slot_of d) u.own) × AreInTurn u.own)
     → Kept record { words = set table.words (slot_of d) n; homes = table.homes; views = set table.views at (with_event v (event d a)) }
-step_keeps table kept at v d a n e one near turn = record {
+step_keeps table kept at v d a n e shown one near turn = record {
+  seen = seen_step kept.keeper table.views at v d a e kept.seen shown;
   width = length-set table.words (slot_of d) n ∙ kept.width;
   keeper = kept.keeper;
   holds = keeps_set table.views kept.keeper at v (with_event v (event d a)) e (λ k. k) kept.holds;
@@ -232,14 +279,16 @@ step_keeps table kept at v d a n e one near turn = record {
         (λ (apart : slot_of d ≢ s). subst (λ (w : ℕ). IsWordOf w (count_opened s u.own)) (sym (there s apart)) (far s apart j u at_j keeps))
 
 -- A step that opens nothing, after which the other generations of the slot read the word as before
-pub quiet_keeps : (table : State ℕ View) (kept : Kept table) (at : ℕ) (v : View) (d : ℕ) (a : Deed) (n : ℕ) → get_elem? table.views at ≡ some v → is_opening a ≡ false
+pub quiet_keeps : (table : State ℕ View) (kept : Kept table) (at : ℕ) (v : View) (d : ℕ) (a : Deed) (n : ℕ) → get_elem? table.views at ≡ some v
+    → (saw_open (a ∷ deeds_of d v.own) ≡ true → (saw_open (deeds_of d v.own) ≡ true) ⊎ HasOpenedAt kept.keeper table.views d)
+    → is_opening a ≡ false
     → (v.keeps ≡ true → is_ending a ≡ true → was_opened (phase_of (deeds_of d v.own)) ≡ true)
     → RuleFor kept.keeper d (part_in (generation_of d) n) (set table.views at (with_event v (event d a)))
     → ((p : ℕ) → p ≢ generation_of d → part_in p n ≡ part_in p (slice_index table.words (slot_of d)))
     → ((k : ℕ) → IsWordOf (slice_index table.words (slot_of d)) k → IsWordOf n k)
     → Kept record { words = set table.words (slot_of d) n; homes = table.homes; views = set table.views at (with_event v (event d a)) }
-quiet_keeps table kept at v d a n e quiet may_end one alike last =
-    step_keeps table kept at v d a n e one
+quiet_keeps table kept at v d a n e shown quiet may_end one alike last =
+    step_keeps table kept at v d a n e shown one
     (λ c apart slots.
     let p : generation_of c ≢ generation_of d = (λ is. apart (omega arith)) in
     subst (λ (w : ℕ). RuleFor kept.keeper c w (set table.views at (with_event v (event d a)))) (ap (λ (s : ℕ). part_in (generation_of c) (slice_index table.words s)) (sym slots) ∙ sym (alike (generation_of c) p))

@@ -1,6 +1,7 @@
 -- The rule of the table, in terms of single events.
 use Rattle.std.proofs.Common.{◌*◌, max, ◌≡◌, ◌≢◌, ◌⊎◌, ℕ, zero, suc, ◌+◌, ◌<◌, ◌≤◌, ◌^◌, ◌&&◌, ◌||◌, ◌==◌, not, cond, List, [], ◌∷◌, Bool, true, false, true≢false, Contains, refl, sym, ap, ◌∙◌, subst, inl, inr, ⊎_elim, eqb-true, slice_index, arith}
 use Rattle.std.proofs.lemmas.Bool.Decides.{nat_tests}
+use mathlib.Core.Option.{some-injective}
 use Rattle.atomic_table.specs.Table.{State}
 use Rattle.nfs_words.specs.declared.event.Event.{Event}
 use Rattle.nfs_words.specs.declared.event.Deed.{Deed}
@@ -9,13 +10,13 @@ use Rattle.nfs_words.specs.declared.rule.View.{View}
 use Rattle.nfs_owners.specs.declared.slots.TheConstants.{SLOTS}
 use Rattle.nfs_owners.specs.Slots.{slot_of, generation_of, is_earlier}
 use Rattle.nfs_words.specs.Words.{IsMoment, closed_part, part_in, word_with}
-use Rattle.nfs_words.specs.Deeds.{Phase, Unopened, Standing, Ended, event, deeds_of, own_deeds_of, opens_later, count_opened, greatest_part, least_closed, knows, saw_end, wrote, phase_of, is_standing, was_opened}
+use Rattle.nfs_words.specs.Deeds.{HasOpened, saw_open, Phase, Unopened, Standing, Ended, event, deeds_of, own_deeds_of, opens_later, count_opened, greatest_part, least_closed, knows, saw_end, wrote, phase_of, is_standing, was_opened}
 use Rattle.nfs_words.specs.Plays.{IsPartIn}
-use Rattle.nfs_words.specs.Rule.{FitsPhase, AreLawful, Stands, FitsKeeper, Kept}
-use Rattle.nfs_words.specs.Rules.{HasOpened, HasOpenedFrom, IsLast, IsSeated, RulesHold, WroteAt, slot_word, client_part}
+use Rattle.nfs_words.specs.Rule.{AreLawful, HasSeenOpen, FitsPhase, Stands, FitsKeeper, Kept}
+use Rattle.nfs_words.specs.Rules.{HasEvents, HasOpenedFrom, IsLast, IsSeated, RulesHold, WroteAt, slot_word, client_part}
 use Rattle.nfs_words.proofs.Parts.{read_some, closed_word}
 use Rattle.nfs_words.proofs.Turns.{opened_has, has_opened, count_has, alone_live, has_own}
-use Rattle.nfs_words.proofs.Histories.{answered_reach, looked_reach, opened_reach, none_late, none_after_end, looks_first, never_vacant_again}
+use Rattle.nfs_words.proofs.Histories.{renewed_saw, answered_reach, looked_reach, opened_reach, none_late, none_after_end, looks_first, never_vacant_again}
 
 -- the word in each phase
 word_in : (c : ℕ) (views : List View) (p : Phase) (w : ℕ) → Stands c views p w → IsPartIn p w
@@ -111,8 +112,20 @@ module _ (table : State ℕ View) (lawful : Kept table) where
   word : (c : ℕ) → IsPartIn (stage c) (client_part table c)
   word c = word_in c table.views (stage c) (client_part table c) (lawful.one c).stands
 
-  good : (c : ℕ) (v : View) → IsSeated table v → AreLawful v.lease (stage c) (client_part table c) (deeds_of c v.own)
-  good c v at = ((lawful.one c).each at.0 v at.1).own
+  good : (c : ℕ) (v : View) (es : List Event) → IsSeated table v → HasEvents v es → AreLawful v.lease (stage c) (client_part table c) (deeds_of c es)
+  good c v es at has =
+      let fit = (lawful.one c).each at.0 v at.1 in
+      let P : List Event → Type 0 = λ l. AreLawful v.lease (stage c) (client_part table c) (deeds_of c l) in
+      ⊎_elim (λ (is : v.own ≡ es). subst P is fit.own) (λ (is : v.beside ≡ es). subst P is fit.beside) has
+
+  -- whose lease was seen open
+  opened_of : (c : ℕ) (v : View) (es : List Event) → IsSeated table v → HasEvents v es → saw_open (deeds_of c es) ≡ true → HasOpened c lawful.holds.0.own
+  opened_of c v es at has saw =
+      let both : HasSeenOpen c v =
+      ⊎_elim (λ (is : v.own ≡ es). inl (subst (λ (l : List Event). saw_open (deeds_of c l) ≡ true) (sym is) saw))
+      (λ (is : v.beside ≡ es). inr (subst (λ (l : List Event). saw_open (deeds_of c l) ≡ true) (sym is) saw)) has in
+      let h = lawful.seen c at.0 v at.1 both in
+      subst (λ (u : View). HasOpened c u.own) (some-injective h.0 lawful.holds.0 (sym h.1 ∙ lawful.holds.1)) h.2
 
   turn : FitsKeeper table.words lawful.holds.0.own
   turn = lawful.turn lawful.keeper lawful.holds.0 lawful.holds.1 lawful.holds.2
@@ -249,32 +262,34 @@ rules table lawful = record {
   };
   greatest = record {
     written = λ c is. written_of c table (stage table lawful c) (lawful.one c).stands (ap is_standing (sym (phase_is table lawful c)) ∙ is);
-    no_less = λ c m v at is has.
-        let a = opened_reach v.own c m has in
-        let b = reach_of (stage table lawful c) (client_part table c) (deeds_of c v.own) (good table lawful c v at).fits (ap is_standing (sym (phase_is table lawful c)) ∙ is) in
+    no_less = λ c m v es at has is in_es.
+        let a = opened_reach es c m in_es in
+        let b = reach_of (stage table lawful c) (client_part table c) (deeds_of c es) (good table lawful c v es at has).fits (ap is_standing (sym (phase_is table lawful c)) ∙ is) in
         omega (arith, a, b);
-    no_less_seen = λ c w v at is has apart.
-        let a = looked_reach v.own c w apart has in
-        let b = reach_of (stage table lawful c) (client_part table c) (deeds_of c v.own) (good table lawful c v at).fits (ap is_standing (sym (phase_is table lawful c)) ∙ is) in
+    no_less_seen = λ c w v es at has is in_es apart.
+        let a = looked_reach es c w apart in_es in
+        let b = reach_of (stage table lawful c) (client_part table c) (deeds_of c es) (good table lawful c v es at has).fits (ap is_standing (sym (phase_is table lawful c)) ∙ is) in
         omega (arith, a, b);
-    greatest = λ c m from v at is has apart.
-        let a = answered_reach v.own c m from apart has in
-        let b = reach_of (stage table lawful c) (client_part table c) (deeds_of c v.own) (good table lawful c v at).fits (ap is_standing (sym (phase_is table lawful c)) ∙ is) in
+    greatest = λ c m from v es at has is in_es apart.
+        let a = answered_reach es c m from apart in_es in
+        let b = reach_of (stage table lawful c) (client_part table c) (deeds_of c es) (good table lawful c v es at has).fits (ap is_standing (sym (phase_is table lawful c)) ∙ is) in
         omega (arith, a, b);
   };
   known = record {
-    known = λ c v at h.
+    seen = opened_of table lawful;
+    renewed = λ c m from v es at has in_es. opened_of table lawful c v es at has (renewed_saw v.lease es c m from (good table lawful c v es at has).order in_es);
+    known = λ c v es at has h.
         opened_has lawful.holds.0.own (turn table lawful).in_turn c
-        (ap was_opened (phase_is table lawful c) ∙ known_of (stage table lawful c) (client_part table c) (deeds_of c v.own) (good table lawful c v at).fits h);
-    ended = λ c v at h. ended_of (stage table lawful c) (client_part table c) (deeds_of c v.own) (word table lawful c) (good table lawful c v at).fits h;
+        (ap was_opened (phase_is table lawful c) ∙ known_of (stage table lawful c) (client_part table c) (deeds_of c es) (good table lawful c v es at has).fits h);
+    ended = λ c v es at has h. ended_of (stage table lawful c) (client_part table c) (deeds_of c es) (word table lawful c) (good table lawful c v es at has).fits h;
   };
   none_late = record {
-    none_late = λ v u at_v at_u. none_late u.lease v.own u.own
-        (λ c. both_under (stage table lawful c) (client_part table c) (deeds_of c v.own) (deeds_of c u.own) (word table lawful c) (good table lawful c v at_v).fits (good table lawful c u at_u).fits)
-        (λ c. (good table lawful c u at_u).order);
-    none_after_end = λ v at. none_after_end v.lease v.own (λ c. (good table lawful c v at).order);
-    looks_first = λ v at. looks_first v.lease v.own (λ c. (good table lawful c v at).order);
-    never_vacant = λ v at. never_vacant_again v.lease v.own (λ c. (good table lawful c v at).order);
+    none_late = λ v u es fs at_v has_es at_u has_fs. none_late u.lease es fs
+        (λ c. both_under (stage table lawful c) (client_part table c) (deeds_of c es) (deeds_of c fs) (word table lawful c) (good table lawful c v es at_v has_es).fits (good table lawful c u fs at_u has_fs).fits)
+        (λ c. (good table lawful c u fs at_u has_fs).order);
+    none_after_end = λ v es at has. none_after_end v.lease es (λ c. (good table lawful c v es at has).order);
+    looks_first = λ v es at has. looks_first v.lease es (λ c. (good table lawful c v es at has).order);
+    never_vacant = λ v es at has. never_vacant_again v.lease es (λ c. (good table lawful c v es at has).order);
   };
   apart = record {
     alone = λ c has. let both = alone_of table lawful c has in ((λ is. true≢false (sym (opened_stage table lawful c (self_later table lawful c has)) ∙ (vacant_of (stage table lawful c) (client_part table c) (word table lawful c)).0 is)), both.0, both.1);

@@ -1,5 +1,5 @@
 -- A new table keeps the rule, and so do the cuts and joins of seats.
-use Rattle.std.proofs.Common.{◌≡◌, ◌≢◌, ℕ, zero, suc, ◌≤◌, List, [], ◌∷◌, ◌++◌, true, false, true≢false, length, set, replicate, refl, sym, ap, ◌∙◌, subst, ⊎_elim, arith, slice_index}
+use Rattle.std.proofs.Common.{◌≡◌, ◌≢◌, ℕ, zero, suc, ◌≤◌, List, [], ◌∷◌, ◌++◌, true, false, true≢false, length, set, replicate, refl, sym, ap, ◌∙◌, subst, inl, inr, ⊎_elim, arith, slice_index}
 use Rattle.std.proofs.lemmas.List.{length-replicate}
 use Rattle.std.proofs.lemmas.Bool.Decides.{nat_tests}
 use mathlib.Core.Option.{some, some-ne-none, some-injective}
@@ -13,10 +13,10 @@ use Rattle.nfs_words.specs.declared.event.Event.{Event}
 use Rattle.nfs_words.specs.declared.event.Deed.{Deed}
 use Rattle.nfs_words.specs.declared.event.Deed.TheVariants.{Look, Renew, Open, Close, Retire}
 use Rattle.nfs_words.specs.declared.rule.View.{View}
-use Rattle.nfs_words.specs.Deeds.{Phase, Unopened, Standing, Ended, deeds_of, least_closed, wrote}
+use Rattle.nfs_words.specs.Deeds.{HasOpened, saw_open, Phase, Unopened, Standing, Ended, deeds_of, least_closed, wrote}
 use Rattle.nfs_words.specs.Views.{keeper_view, worker_view, dealt, note_of, with_note}
-use Rattle.nfs_words.specs.Rule.{AreLawful, Stands, FitsView, RuleFor, FitsKeeper, Kept}
-use Rattle.nfs_words.proofs.Keeping.{set_each, stands_set, keeps_set}
+use Rattle.nfs_words.specs.Rule.{HasOpenedAt, HasSeenOpen, AreLawful, Stands, FitsView, RuleFor, FitsKeeper, Kept}
+use Rattle.nfs_words.proofs.Keeping.{opened_set, set_each, stands_set, keeps_set}
 
 all_vacant : (n c : ℕ) → slice_index (replicate n 0) c ≡ 0
 all_vacant zero c = refl
@@ -40,11 +40,18 @@ begins lease places words is vacant = record {
   keeper = 0;
   holds = (keeper_view lease, refl, refl);
   turn = λ at v e keeps. first_turn at v e;
+  seen = λ c at v e saw. first_seen at v e c saw;
   one = λ c. record { stage = Unopened; stands = ap (part_in (generation_of c)) (none (slot_of c)) ∙ vacant_read (generation_of c); each = first_fits lease c (part_at words c) };
 }
   where
     none : (s : ℕ) → slice_index words s ≡ 0
     none s = ap (λ (l : List ℕ). slice_index l s) vacant ∙ all_vacant places s
+
+    first_seen : (at : ℕ) (v : View) → get_elem? (keeper_view lease ∷ []) at ≡ some v → (c : ℕ) → HasSeenOpen c v → HasOpenedAt 0 (keeper_view lease ∷ []) c
+    first_seen zero v e c saw =
+        ⊎_elim (λ (x : false ≡ true). absurd (true≢false (sym x))) (λ (x : false ≡ true). absurd (true≢false (sym x)))
+        (subst (HasSeenOpen c) (sym (some-injective _ _ e)) saw)
+    first_seen (suc at) v e c saw = absurd (some-ne-none v (sym e))
 
     first_turn : (at : ℕ) (v : View) → get_elem? (keeper_view lease ∷ []) at ≡ some v → FitsKeeper words v.own
     first_turn zero v e = subst (λ (u : View). FitsKeeper words u.own) (some-injective _ _ e) record { words_are = λ s. record { none = λ _. none s; last = λ g is. absurd (omega arith) }; in_turn = tt }
@@ -71,7 +78,7 @@ stands_more c views new Standing w h = let some_one = h.2 in (h.0, h.1, (some_on
 stands_more c views new (Ended k) w h = h
 
 -- a new seat with no events of its own, and none beside or a copy of the other's
-module _ (id : ℕ) (v : View) (beside : List Event) (copy : (lease c : ℕ) (p : Phase) (w : ℕ) → AreLawful lease p w (deeds_of c v.own) → AreLawful lease p w (deeds_of c beside)) where
+module _ (id : ℕ) (v : View) (beside : List Event) (shown : (c : ℕ) → saw_open (deeds_of c beside) ≡ true → saw_open (deeds_of c v.own) ≡ true) (copy : (lease c : ℕ) (p : Phase) (w : ℕ) → AreLawful lease p w (deeds_of c v.own) → AreLawful lease p w (deeds_of c beside)) where
   abbrev newcomer : View
   newcomer = record { lease = v.lease; keeps = false; own = []; beside = beside }
 
@@ -100,14 +107,22 @@ module _ (id : ℕ) (v : View) (beside : List Event) (copy : (lease c : ℕ) (p 
             ⊎_elim (λ (there : get_elem? table.views j ≡ some u). kept.turn j u there keeps)
             (λ (is : newcomer ≡ u). absurd (true≢false (sym keeps ∙ sym (ap (λ (x : View). x.keeps) is))))
             (at_snoc table.views newcomer u j at_j);
+        seen = λ c j u at_j saw.
+            let h : HasOpenedAt kept.keeper table.views c =
+            ⊎_elim (λ (there : get_elem? table.views j ≡ some u). kept.seen c j u there saw)
+            (λ (is : newcomer ≡ u).
+            ⊎_elim (λ (x : false ≡ true). absurd (true≢false (sym x))) (λ (x : saw_open (deeds_of c beside) ≡ true). kept.seen c id v e (inl (shown c x)))
+            (subst (HasSeenOpen c) (sym is) saw))
+            (at_snoc table.views newcomer u j at_j) in
+            (h.0, at_longer table.views (newcomer ∷ []) kept.keeper h.0 h.1, h.2);
         one = λ c. one_more kept.keeper c (part_at table.words c) table.views e (kept.one c);
       }
 
 pub deals : (id : ℕ) (v : View) → Splits Kept id v v (dealt v)
-deals id v = cuts id v [] (λ lease c p w good. none_good lease lease p w (deeds_of c v.own) good)
+deals id v = cuts id v [] (λ c x. absurd (true≢false (sym x))) (λ lease c p w good. none_good lease lease p w (deeds_of c v.own) good)
 
 pub notes : (id : ℕ) (v : View) → Splits Kept id v v (note_of v)
-notes id v = cuts id v v.own (λ lease c p w good. good)
+notes id v = cuts id v v.own (λ c x. x) (λ lease c p w good. good)
 
 -- a note is put beside a seat's events, and is spent
 module _ (keeper c w : ℕ) (views : List View) (id : ℕ) (v : View) (other : ℕ) (note : View) (e : get_elem? views id ≡ some v) (apart : other ≢ id) (f : get_elem? views other ≡ some note)
@@ -147,5 +162,16 @@ joins id v other note idle empty lease table kept e apart there =
           (λ j u _ at_j.
           set_each (λ i t. t.keeps ≡ true → FitsKeeper table.words t.own) table.views id (with_note v note) (λ i t _ at_i. kept.turn i t at_i) (kept.turn id v e) j u at_j)
           (λ keeps. absurd (true≢false (sym keeps)));
+      seen = λ c.
+          let both = set table.views id (with_note v note) in
+          let P : ℕ → View → Type 0 = λ j u. HasSeenOpen c u → HasOpenedAt kept.keeper (set both other (worker_view 0)) c in
+          let stays : HasOpenedAt kept.keeper table.views c → HasOpenedAt kept.keeper (set both other (worker_view 0)) c = λ h.
+          opened_set kept.keeper c both other note (worker_view 0) there (subst (HasOpened c) empty)
+          (opened_set kept.keeper c table.views id v (with_note v note) e (λ x. x) h) in
+          set_each P both other (worker_view 0)
+          (λ j u _ at_j.
+          set_each P table.views id (with_note v note) (λ i t _ at_i saw. stays (kept.seen c i t at_i saw))
+          (λ saw. stays (⊎_elim (λ (x : saw_open (deeds_of c v.own) ≡ true). kept.seen c id v e (inl x)) (λ (x : saw_open (deeds_of c note.beside) ≡ true). kept.seen c other note f (inr x)) saw)) j u at_j)
+          (λ saw. ⊎_elim (λ (x : false ≡ true). absurd (true≢false (sym x))) (λ (x : false ≡ true). absurd (true≢false (sym x))) saw);
       one = λ c. put kept.keeper c (part_at table.words c) table.views id v other note e apart f empty lease (kept.one c);
     }

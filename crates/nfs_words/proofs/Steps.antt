@@ -1,5 +1,5 @@
 -- Each step on the table keeps the rule, and tells its seat what it says.
-use Rattle.std.proofs.Common.{◌≡◌, ◌≢◌, ℕ, zero, suc, ◌+◌, ◌*◌, ◌<◌, ◌≤◌, ◌^◌, ◌==◌, ◌&&◌, cond, max, List, [], ◌∷◌, Bool, true, false, true≢false, set, refl, sym, ap, ◌∙◌, subst, subst₂, inl, inr, arith, slice_index, eq-eqb, eqb-true, ltb-true}
+use Rattle.std.proofs.Common.{◌≡◌, ◌≢◌, ◌⊎◌, ℕ, zero, suc, ◌+◌, ◌*◌, ◌<◌, ◌≤◌, ◌^◌, ◌==◌, ◌&&◌, cond, max, List, [], ◌∷◌, Bool, true, false, true≢false, set, refl, sym, ap, ◌∙◌, subst, subst₂, inl, inr, arith, slice_index, eq-eqb, eqb-true, ltb-true}
 use Rattle.std.proofs.lemmas.Bool.Decides.{nat_tests}
 use mathlib.Core.Option.{some, none}
 use mathlib.Core.Logic.{dite}
@@ -16,9 +16,10 @@ use Rattle.nfs_words.specs.declared.rule.View.{View}
 use Rattle.nfs_words.specs.Words.{IsMoment, closed_part, part_in, part_at, word_with}
 use Rattle.nfs_words.specs.Deeds.{was_opened_by, is_open_by, Phase, Unopened, Standing, Ended, event, deeds_of, opens_later, is_opening, count_opened, resting_word_of, resting_word, AreInTurn, saw_open, wrote, phase_of, retired, was_opened, is_standing}
 use Rattle.nfs_words.specs.Views.{with_event}
-use Rattle.nfs_words.specs.Rule.{FitsPhase, AreLawful, Stands, RuleFor, IsWordOf, Kept}
+use Rattle.nfs_words.specs.Rule.{HasOpenedAt, FitsPhase, AreLawful, Stands, RuleFor, IsWordOf, Kept}
 use Rattle.nfs_words.specs.Plays.{IsTold, Looked, Raised, Opened, Tried, Retired, moment_in}
 use Rattle.nfs_words.proofs.Parts.{part_low, read_some, read_raise, read_raise_else, read_here, read_earlier, read_later, read_alike, read_below, last_raise, closed_word}
+use Rattle.nfs_words.proofs.Turns.{standing_opened}
 use Rattle.nfs_words.proofs.Keeping.{Wrote, of_same, of_passed, of_else, set_each, set_there, mine, other, wrote_set, step_keeps, quiet_keeps, told_step, word_in}
 use Rattle.nfs_leases.specs.BookEvent.{IsAloneIn}
 use Rattle.nfs_words.proofs.Deeds.{look_good, not_fresh, raise_under, raise_good, open_good, close_good, try_good, ends_under, retire_good, wrote_open, wrote_raise, wrote_more}
@@ -298,11 +299,34 @@ at_rest table kept at v e keeper c idle = by_count (count_opened s v.own) refl
         let here : part_in g w ≡ closed_part = sym (ap (λ (k : ℕ). part_in k (slice_index table.words (slot_of (g * 256 + s)))) generation ∙ ap (λ (k : ℕ). part_in g (slice_index table.words k)) slot) ∙ shut in
         closed_word g w (last.last g (omega (arith, is))) here
 
+-- a look shows a lease open only where the keeper opened it
+look_shown : {table : State ℕ View} (kept : Kept table) (at : ℕ) (v : View) (d : ℕ) → get_elem? table.views at ≡ some v
+    → saw_open (Look (part_at table.words d) ∷ deeds_of d v.own) ≡ true
+    → (saw_open (deeds_of d v.own) ≡ true) ⊎ HasOpenedAt kept.keeper table.views d
+look_shown {table} kept at v d e h = by_stage one.stage refl one.stands h
+  where
+    one : RuleFor kept.keeper d (part_at table.words d) table.views
+    one = kept.one d
+
+    part : ℕ
+    part = part_at table.words d
+
+    opened : one.stage ≡ Standing → HasOpenedAt kept.keeper table.views d
+    opened is =
+        let fit = one.each kept.keeper kept.holds.0 kept.holds.1 in
+        (kept.holds.0, kept.holds.1, standing_opened kept.holds.0.own d (ap is_standing ((fit.keeps kept.holds.2).1 ∙ is)))
+
+    by_stage : (p : Phase) → one.stage ≡ p → Stands d table.views p part → saw_open (Look part ∷ deeds_of d v.own) ≡ true
+        → (saw_open (deeds_of d v.own) ≡ true) ⊎ HasOpenedAt kept.keeper table.views d
+    by_stage Unopened is stands x = inl (subst (λ (n : ℕ). saw_open (Look n ∷ deeds_of d v.own) ≡ true) stands x)
+    by_stage Standing is stands x = inr (opened is)
+    by_stage (Ended k) is stands x = inl (subst (λ (n : ℕ). saw_open (Look n ∷ deeds_of d v.own) ≡ true) stands x)
+
 pub looks : (slots id : ℕ) (me : Me ℕ View) (d : ℕ) → Allows Kept slots id me (slot_of d) (λ n. n) (Looked d (step slots (slot_of d) 0 0 none) me)
 looks slots id me d table kept len at low =
     let w = slice_index table.words (slot_of d) in
     let one = look_one kept.keeper d (part_at table.words d) table.views id me.0 at (kept.one d) in
-    let new = quiet_keeps table kept id me.0 d (Look (part_at table.words d)) w at refl (λ k x. absurd (true≢false (sym x))) one (λ p apart. refl) (λ k h. h) in (
+    let new = quiet_keeps table kept id me.0 d (Look (part_at table.words d)) w at (look_shown kept id me.0 d at) refl (λ k x. absurd (true≢false (sym x))) one (λ p apart. refl) (λ k h. h) in (
       with_event me.0 (event d (Look (part_at table.words d))),
       keeps,
       tt,
@@ -327,7 +351,7 @@ raises slots id me d m k small is seen table kept len at low =
     let raised : part_in (generation_of d) (max n k) ≡ max w (m + 1) = ap (part_in (generation_of d)) more ∙ read_raise (generation_of d) n (m + 1) some_word part in
     let mine_new : RuleFor kept.keeper d (part_in (generation_of d) (max n k)) (set table.views id (with_event me.0 (event d (Renew (moment_in d k) w)))) =
     subst₂ (λ (x y : ℕ). RuleFor kept.keeper d x (set table.views id (with_event me.0 (event d (Renew y w))))) (sym raised) (sym back) (raise_one kept.keeper d w table.views id me.0 at m small seen one) in
-    let new = quiet_keeps table kept id me.0 d (Renew (moment_in d k) w) (max n k) at refl (λ k x. absurd (true≢false (sym x))) mine_new
+    let new = quiet_keeps table kept id me.0 d (Renew (moment_in d k) w) (max n k) at (λ x. inl x) refl (λ k x. absurd (true≢false (sym x))) mine_new
     (λ p apart. ap (part_in p) more ∙ read_raise_else (generation_of d) p n (m + 1) some_word part apart)
     (λ c h. subst (λ (x : ℕ). IsWordOf x c) (sym more) (last_raise (generation_of d) n (m + 1) c some_word part h)) in (
       with_event me.0 (event d (Renew (moment_in d k) w)),
@@ -426,7 +450,7 @@ opens slots id me d m from k small is keeper never idle resting table kept len a
         now_last = record { none = λ x. absurd (omega (arith, x)); last = λ p x. (omega (arith, x, is), omega (arith, x, is, part)) }
 
     new : Kept record { words = set table.words (slot_of d) k; homes = table.homes; views = views }
-    new = step_keeps table kept id me.0 d (Open (moment_in d k)) k at mine_new near turns
+    new = step_keeps table kept id me.0 d (Open (moment_in d k)) k at (λ x. inl x) mine_new near turns
 
 pub closes : (slots id : ℕ) (me : Me ℕ View) (d seen now k j : ℕ) → IsMoment seen → k ≡ word_with (generation_of d) (seen + 1) → j ≡ word_with (generation_of d) closed_part
     → me.0.keeps ≡ true → seen + me.0.lease < now
@@ -470,7 +494,7 @@ closes slots id me d seen now k j small is shut keeper due table kept len at low
 
     whole : (b : Bool) → (n == k) ≡ b → Kept record { words = set table.words (slot_of d) (either b j n); homes = table.homes; views = set table.views id (with_event me.0 (event d (Close (moment_in d k) now b))) }
     whole true hit =
-        quiet_keeps table kept id me.0 d (Close (moment_in d k) now true) j at refl (λ k_keeps x. ap was_opened (((one.each id me.0 at).keeps keeper).1 ∙ stage hit))
+        quiet_keeps table kept id me.0 d (Close (moment_in d k) now true) j at (λ x. inl x) refl (λ k_keeps x. ap was_opened (((one.each id me.0 at).keeps keeper).1 ∙ stage hit))
         (subst₂ (λ (x y : ℕ). RuleFor kept.keeper d x (set table.views id (with_event me.0 (event d (Close y now true))))) (sym (ap (part_in g) shut ∙ read_here g closed_part (omega arith))) (sym back)
         (close_one kept.keeper d (part_at table.words d) table.views id me.0 at seen now small due (here hit) keeper one (stage hit)))
         (λ p apart. ap (part_in p) shut ∙ read_alike g p closed_part (seen + 1) (omega arith) part apart ∙ ap (part_in p) (sym (found hit)))
@@ -482,7 +506,7 @@ closes slots id me d seen now k j small is shut keeper due table kept len at low
           last = λ p x. let l = h.last p x in (omega (arith, l.0, l.1, part, shut), omega (arith, l.0, l.1, part, shut));
         }
     whole false miss =
-        quiet_keeps table kept id me.0 d (Close (moment_in d k) now false) n at refl (λ k_keeps x. absurd (true≢false (sym x)))
+        quiet_keeps table kept id me.0 d (Close (moment_in d k) now false) n at (λ x. inl x) refl (λ k_keeps x. absurd (true≢false (sym x)))
         (subst (λ (y : ℕ). RuleFor kept.keeper d (part_at table.words d) (set table.views id (with_event me.0 (event d (Close y now false))))) (sym back)
         (try_one kept.keeper d (part_at table.words d) table.views id me.0 at seen now due one))
         (λ p apart. refl)
@@ -502,7 +526,7 @@ retires slots id me d k is keeper was table kept len at low =
     let raised : part_in (generation_of d) (max n k) ≡ closed_part = ap (part_in (generation_of d)) more ∙ read_raise (generation_of d) n closed_part some_word part ∙ omega arith in
     let mine_new : RuleFor kept.keeper d (part_in (generation_of d) (max n k)) (set table.views id (with_event me.0 (event d Retire))) =
     subst (λ (x : ℕ). RuleFor kept.keeper d x (set table.views id (with_event me.0 (event d Retire)))) (sym raised) (retire_one kept.keeper d w table.views id me.0 at keeper was one) in
-    let new = quiet_keeps table kept id me.0 d Retire (max n k) at refl (λ k x. was) mine_new
+    let new = quiet_keeps table kept id me.0 d Retire (max n k) at (λ x. inl x) refl (λ k x. was) mine_new
     (λ p apart. ap (part_in p) more ∙ read_raise_else (generation_of d) p n closed_part some_word part apart)
     (λ c h. subst (λ (x : ℕ). IsWordOf x c) (sym more) (last_raise (generation_of d) n closed_part c some_word part h)) in (
       with_event me.0 (event d Retire),

@@ -5,8 +5,8 @@ use Rattle.nfs_owners.specs.Slots.{slot_of, generation_of, is_earlier}
 use Rattle.nfs_words.specs.declared.event.Event.{Event}
 use Rattle.nfs_words.specs.declared.event.Deed.{Deed}
 use Rattle.nfs_words.specs.declared.event.Deed.TheVariants.{Look, Renew, Open, Close, Retire}
-use Rattle.nfs_words.specs.Deeds.{Phase, Unopened, Standing, Ended, event, deeds_of, own_deeds_of, opens_later, is_opening, is_ending, count_opened, AreInTurn, phase_of, retired, was_opened, is_standing}
-use Rattle.nfs_words.specs.Rules.{HasOpened, HasOpenedFrom}
+use Rattle.nfs_words.specs.Deeds.{HasOpened, Phase, Unopened, Standing, Ended, event, deeds_of, own_deeds_of, opens_later, is_opening, is_ending, count_opened, AreInTurn, phase_of, retired, was_opened, is_standing}
+use Rattle.nfs_words.specs.Rules.{HasOpenedFrom}
 
 pub in_more : (e x : Event) (es : List Event) → Contains es e → Contains (x ∷ es) e
 in_more e x es h = (suc h.0, omega (arith, h.1), h.2)
@@ -173,3 +173,25 @@ has_own (e ∷ es) c h = by_place (λ k. has_own es c k) (contains_cons e es (ev
         ⊎_elim (λ (is : e ≡ event c (Open h.0)). subst (λ (y : Event). was_opened (phase_of (own_deeds_of c (y ∷ es))) ≡ true) (sym is) here)
         (λ (rest : Contains es (event c (Open h.0))). by_test (e.client == c) e.deed (own_deeds_of c es) (ih (h.0, rest)))
         x
+
+-- a lease that is open has its opening
+pub standing_opened : (es : List Event) (c : ℕ) → is_standing (phase_of (deeds_of c es)) ≡ true → HasOpened c es
+standing_opened [] c h = absurd (true≢false (sym h))
+standing_opened (e ∷ es) c h = by_client (λ k. standing_opened es c k) (e.client == c) refl (opens_later c e) h
+  where
+    more : HasOpened c es → HasOpened c (e ∷ es)
+    more x = (x.0, in_more (event c (Open x.0)) e es x.1)
+
+    by_deed : (is_standing (phase_of (deeds_of c es)) ≡ true → HasOpened c es) → e.client ≡ c → (a : Deed) → e.deed ≡ a → is_standing (phase_of (a ∷ deeds_of c es)) ≡ true → HasOpened c (e ∷ es)
+    by_deed ih same (Look w) is k = more (ih k)
+    by_deed ih same (Renew m old) is k = more (ih k)
+    by_deed ih same (Open m) is k = (m, (zero, omega arith, ap (λ (n : ℕ). event n e.deed) same ∙ ap (event c) is))
+    by_deed ih same (Close seen now true) is k = absurd (true≢false (sym k))
+    by_deed ih same (Close seen now false) is k = more (ih k)
+    by_deed ih same Retire is k = absurd (true≢false (sym k ∙ not_live (phase_of (deeds_of c es))))
+
+    by_client : (is_standing (phase_of (deeds_of c es)) ≡ true → HasOpened c es) → (b : Bool) → (e.client == c) ≡ b → (p : Bool)
+        → is_standing (phase_of (cond b (e.deed ∷ deeds_of c es) (cond p (Retire ∷ deeds_of c es) (deeds_of c es)))) ≡ true → HasOpened c (e ∷ es)
+    by_client ih true same p k = by_deed ih (eqb-true e.client c same) e.deed refl k
+    by_client ih false other true k = absurd (true≢false (sym k ∙ not_live (phase_of (deeds_of c es))))
+    by_client ih false other false k = more (ih k)

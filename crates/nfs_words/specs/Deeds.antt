@@ -1,5 +1,5 @@
 -- What a list of a client's deeds tells. Each list begins with the newest.
-use Rattle.std.specs.Prelude.{◌≡◌, ℕ, zero, suc, ◌+◌, ◌==◌, nat_le, nat_lt, min, max, Bool, true, false, not, ◌&&◌, ◌||◌, IsFalse, IsTrue, if◌then◌else◌, List, [], ◌∷◌, ⊤}
+use Rattle.std.specs.Prelude.{◌≡◌, ℕ, zero, suc, ◌+◌, ◌==◌, nat_le, nat_lt, min, max, Bool, true, false, not, ◌&&◌, ◌||◌, IsFalse, IsTrue, if◌then◌else◌, List, [], ◌∷◌, Contains, ⊤}
 use Rattle.nfs_leases.specs.BookEvent.{IsAloneIn}
 use Rattle.nfs_owners.specs.Slots.{generation_of, is_earlier, slot_of}
 use Rattle.nfs_state.specs.Lease.{is_over}
@@ -185,6 +185,10 @@ is_open_by events client = is_standing (phase_of (deeds_of client events))
 
 abbrev pub was_opened_by : List Event → ℕ → Bool
 was_opened_by events client = was_opened (phase_of (deeds_of client events))
+
+-- by the events, the client's own lease was opened
+abbrev pub HasOpened : ℕ → List Event → Type 0
+HasOpened client events = (moment : ℕ) × Contains events (event client (Open moment))
 
 -- A lease is opened only where no lease of its slot is open, and neither it nor a later one of its slot was opened.
 abbrev pub MayOpen : Event → List Event → Type 0

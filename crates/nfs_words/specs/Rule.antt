@@ -1,10 +1,10 @@
 -- The rule of the table, which holds between any two steps of any seats.
-use Rattle.std.specs.Prelude.{◌≡◌, ℕ, ◌+◌, ◌<◌, ◌≤◌, true, IsFalse, IsTrue, List, length, slice_index}
+use Rattle.std.specs.Prelude.{◌≡◌, ◌⊎◌, ℕ, ◌+◌, ◌<◌, ◌≤◌, true, IsFalse, IsTrue, List, length, slice_index}
 use mathlib.Core.Option.{some}
 use lib.ListN.{get_elem?}
 use Rattle.atomic_table.specs.Table.{State}
 use Rattle.nfs_owners.specs.declared.slots.TheConstants.{SLOTS}
-use Rattle.nfs_words.specs.Deeds.{Phase, Unopened, Standing, Ended, AreInTurn, count_opened, deeds_of, greatest_part, in_order, knows, least_closed, phase_of, saw_end, wrote}
+use Rattle.nfs_words.specs.Deeds.{HasOpened, Phase, Unopened, Standing, Ended, AreInTurn, count_opened, deeds_of, greatest_part, in_order, knows, least_closed, phase_of, saw_end, saw_open, wrote}
 use Rattle.nfs_words.specs.Words.{closed_part, part_at, word_with}
 use Rattle.nfs_words.specs.declared.event.Deed.{Deed}
 use Rattle.nfs_words.specs.declared.event.Event.{Event}
@@ -53,6 +53,16 @@ pub record RuleFor (keeper client part : ℕ) (views : List View) : Type 0 where
 abbrev pub HasKeeper : List View → ℕ → Type 0
 HasKeeper views keeper = (view : View) × (get_elem? views keeper ≡ some view) × (view.keeps ≡ true)
 
+-- the keeper, whose seat is at this place, opened the client's lease
+abbrev pub HasOpenedAt : ℕ → List View → ℕ → Type 0
+HasOpenedAt keeper views client =
+    (view : View) × (get_elem? views keeper ≡ some view) × HasOpened client view.own
+
+-- the view has a look that showed the client's lease open
+abbrev pub HasSeenOpen : ℕ → View → Type 0
+HasSeenOpen client view =
+    IsTrue (saw_open (deeds_of client view.own)) ⊎ IsTrue (saw_open (deeds_of client view.beside))
+
 -- A slot's word is 0 where no lease of it was opened. Else it is of the last generation that was.
 pub record IsWordOf (word count : ℕ) : Type 0 where
   pub none : count ≡ 0 → word ≡ 0
@@ -64,7 +74,8 @@ pub record FitsKeeper (words : List ℕ) (own : List Event) : Type 0 where
   pub words_are : (slot : ℕ) → IsWordOf (slice_index words slot) (count_opened slot own)
   pub in_turn : AreInTurn own
 
--- There is one keeper, whose events are in turn and fit the words, and the rule holds for each client.
+-- There is one keeper, whose events are in turn and fit the words. The rule holds for each client, and who saw a lease open saw
+-- one that the keeper opened.
 pub record Kept (table : State ℕ View) : Type 0 where
   pub width : length table.words ≡ SLOTS
   pub keeper : ℕ
@@ -72,3 +83,5 @@ pub record Kept (table : State ℕ View) : Type 0 where
   pub turn : (at : ℕ) (view : View) → get_elem? table.views at ≡ some view → view.keeps ≡ true
       → FitsKeeper table.words view.own
   pub one : (client : ℕ) → RuleFor keeper client (part_at table.words client) table.views
+  pub seen : (client at : ℕ) (view : View) → get_elem? table.views at ≡ some view
+      → HasSeenOpen client view → HasOpenedAt keeper table.views client

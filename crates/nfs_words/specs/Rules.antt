@@ -5,7 +5,7 @@ use lib.ListN.{get_elem?}
 use Rattle.atomic_table.specs.Table.{State}
 use Rattle.nfs_owners.specs.Slots.{generation_of, is_earlier, slot_of}
 use Rattle.nfs_owners.specs.declared.slots.TheConstants.{SLOTS}
-use Rattle.nfs_words.specs.Deeds.{deeds_of, event, is_open_by, is_standing, knows, own_deeds_of, phase_of, saw_end, was_opened_by}
+use Rattle.nfs_words.specs.Deeds.{HasOpened, deeds_of, event, is_open_by, is_standing, knows, own_deeds_of, phase_of, saw_end, saw_open, was_opened_by}
 use Rattle.nfs_words.specs.Rule.{Kept}
 use Rattle.nfs_words.specs.SeatLaws.{LooksFirst, NeverVacantAgain, NoneAfterEnd, NoneLate}
 use Rattle.nfs_words.specs.Words.{IsMoment, closed_part, part_at, word_with}
@@ -26,17 +26,17 @@ client_part table client = part_at table.words client
 abbrev pub IsSeated : State ℕ View → View → Type 0
 IsSeated table view = (at : ℕ) × (get_elem? table.views at ≡ some view)
 
+-- the events are the seat's own, or those that a note put beside them
+abbrev pub HasEvents : View → List Event → Type 0
+HasEvents view events = (view.own ≡ events) ⊎ (view.beside ≡ events)
+
 -- the seat opened the client's lease at this moment, or renewed it then and was answered
 abbrev pub WroteAt : ℕ → ℕ → View → Type 0
 WroteAt client moment view =
     Contains view.own (event client (Open moment))
     ⊎ ((found : ℕ) × (found ≢ closed_part) × Contains view.own (event client (Renew moment found)))
 
--- by the events, the client's own lease was opened
-abbrev pub HasOpened : ℕ → List Event → Type 0
-HasOpened client events = (moment : ℕ) × Contains events (event client (Open moment))
-
--- it was, or that of a later generation of its slot
+-- by the events, the client's lease, or that of a later generation of its slot, was opened
 abbrev pub HasOpenedFrom : ℕ → List Event → Type 0
 HasOpenedFrom client events =
     (other : ℕ) × (slot_of other ≡ slot_of client) × (client ≤ other) × HasOpened other events
@@ -86,35 +86,49 @@ pub record PartsAreGreatest (table : State ℕ View) (own : List Event) : Type 0
   pub written : (client : ℕ) → IsTrue (is_open_by own client)
       → (moment : ℕ) × (client_part table client ≡ moment + 1)
       × ((view : View) × IsSeated table view × WroteAt client moment view)
-  pub no_less : (client moment : ℕ) (view : View)
-      → IsSeated table view → IsTrue (is_open_by own client)
-      → Contains view.own (event client (Open moment))
+  pub no_less : (client moment : ℕ) (view : View) (events : List Event)
+      → IsSeated table view → HasEvents view events → IsTrue (is_open_by own client)
+      → Contains events (event client (Open moment))
       → moment + 1 ≤ client_part table client
-  pub no_less_seen : (client seen : ℕ) (view : View)
-      → IsSeated table view → IsTrue (is_open_by own client)
-      → Contains view.own (event client (Look seen)) → seen ≢ closed_part
+  pub no_less_seen : (client seen : ℕ) (view : View) (events : List Event)
+      → IsSeated table view → HasEvents view events → IsTrue (is_open_by own client)
+      → Contains events (event client (Look seen)) → seen ≢ closed_part
       → seen ≤ client_part table client
-  pub greatest : (client moment found : ℕ) (view : View)
-      → IsSeated table view → IsTrue (is_open_by own client)
-      → Contains view.own (event client (Renew moment found)) → found ≢ closed_part
+  pub greatest : (client moment found : ℕ) (view : View) (events : List Event)
+      → IsSeated table view → HasEvents view events → IsTrue (is_open_by own client)
+      → Contains events (event client (Renew moment found)) → found ≢ closed_part
       → moment + 1 ≤ client_part table client
 
--- Nobody knows of what the keeper didn't do. A seat that knows of a lease knows of one that the keeper opened, or of which it
--- opened a later one of the slot. Where a seat saw or made its end, it reads as closed.
+-- Nobody knows of what the keeper didn't do. Who saw a lease open, or took the step of a renewal, did so of one that the keeper
+-- opened. Who knows of a lease knows of one that the keeper opened, or of which it opened a later one of the slot. Where its end
+-- was seen or made, it reads as closed.
 pub record KnownWasDone (table : State ℕ View) (own : List Event) : Type 0 where
-  pub known : (client : ℕ) (view : View) → IsSeated table view
-      → IsTrue (knows (deeds_of client view.own)) → HasOpenedFrom client own
-  pub ended : (client : ℕ) (view : View) → IsSeated table view
-      → IsTrue (saw_end (deeds_of client view.own)) → client_part table client ≡ closed_part
+  pub seen : (client : ℕ) (view : View) (events : List Event)
+      → IsSeated table view → HasEvents view events
+      → IsTrue (saw_open (deeds_of client events)) → HasOpened client own
+  pub renewed : (client moment found : ℕ) (view : View) (events : List Event)
+      → IsSeated table view → HasEvents view events
+      → Contains events (event client (Renew moment found)) → HasOpened client own
+  pub known : (client : ℕ) (view : View) (events : List Event)
+      → IsSeated table view → HasEvents view events
+      → IsTrue (knows (deeds_of client events)) → HasOpenedFrom client own
+  pub ended : (client : ℕ) (view : View) (events : List Event)
+      → IsSeated table view → HasEvents view events
+      → IsTrue (saw_end (deeds_of client events)) → client_part table client ≡ closed_part
 
 -- No renewal that any seat was answered comes after the moment that a closing saw. By each seat none is answered after an end,
 -- each comes after a look that showed the lease open, and no look shows a lease as vacant that was known.
 pub record NothingIsLate (table : State ℕ View) : Type 0 where
-  pub none_late : (one other : View) → IsSeated table one → IsSeated table other
-      → NoneLate other.lease one.own other.own
-  pub none_after_end : (view : View) → IsSeated table view → NoneAfterEnd view.own
-  pub looks_first : (view : View) → IsSeated table view → LooksFirst view.own
-  pub never_vacant : (view : View) → IsSeated table view → NeverVacantAgain view.own
+  pub none_late : (one other : View) (renewals closings : List Event)
+      → IsSeated table one → HasEvents one renewals
+      → IsSeated table other → HasEvents other closings
+      → NoneLate other.lease renewals closings
+  pub none_after_end : (view : View) (events : List Event)
+      → IsSeated table view → HasEvents view events → NoneAfterEnd events
+  pub looks_first : (view : View) (events : List Event)
+      → IsSeated table view → HasEvents view events → LooksFirst events
+  pub never_vacant : (view : View) (events : List Event)
+      → IsSeated table view → HasEvents view events → NeverVacantAgain events
 
 -- The generations of a slot are apart. What a client reads whose lease was opened goes by its own events alone. A renewal of an
 -- earlier generation than one that was opened leaves the word as it was, and finds its own lease closed. Of the leases of a slot

@@ -165,12 +165,7 @@ impl WordLeases {
     }
 
     // The raise of a renewal, after a look that showed the lease open.
-    fn raise<C: Asked>(
-        &self,
-        seat: &mut LeaseSeat,
-        client: u32,
-        moment: Moment,
-    ) -> Renewal
+    fn raise<C: Asked>(&self, seat: &mut LeaseSeat, client: u32, moment: Moment) -> Renewal
         requires named { client ≡ C.client }
         requires fits { FitsTable seat.old self.now }
         requires seen { IsTrue (saw_open (deeds_of client seat.old.view.own)) }
