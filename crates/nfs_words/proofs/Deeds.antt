@@ -9,7 +9,8 @@ use Rattle.nfs_words.specs.Rule.{FitsPhase, AreLawful}
 use Rattle.nfs_words.specs.Plays.{IsPartIn}
 
 -- a look at the word as it is
-pub look_good : (lease : ℕ) (p : Phase) (w : ℕ) (ds : List Deed) → IsPartIn p w → AreLawful lease p w ds → AreLawful lease p w (Look w ∷ ds)
+pub look_good : (lease : ℕ) (p : Phase) (w : ℕ) (ds : List Deed) → IsPartIn p w → AreLawful lease p w ds
+    → AreLawful lease p w (Look w ∷ ds)
 look_good lease Unopened w ds is good =
     let u = good.fits in
     let o = good.order in
@@ -43,7 +44,8 @@ raise_under Unopened w k ds u = u
 raise_under Standing w k ds u = (u.0, omega (arith, u.1), u.2)
 raise_under (Ended n) w k ds u = u
 
-pub raise_good : (lease : ℕ) (p : Phase) (w m : ℕ) (ds : List Deed) → IsPartIn p w → IsMoment m → saw_open ds ≡ true → AreLawful lease p w ds → AreLawful lease p (max w (m + 1)) (Renew m w ∷ ds)
+pub raise_good : (lease : ℕ) (p : Phase) (w m : ℕ) (ds : List Deed) → IsPartIn p w → IsMoment m
+    → saw_open ds ≡ true → AreLawful lease p w ds → AreLawful lease p (max w (m + 1)) (Renew m w ∷ ds)
 raise_good lease Unopened w m ds is low seen good = absurd (not_fresh w ds good.fits seen)
 raise_good lease Standing w m ds is low seen good =
     let u = good.fits in
@@ -56,28 +58,34 @@ raise_good lease (Ended k) w m ds is low seen good =
     let o = good.order in
     record { order = grind (arith, nat_tests); fits = (grind (arith, nat_tests, u.0), u.1) }
 
-pub open_good : (lease w m : ℕ) (ds : List Deed) → AreLawful lease Unopened w ds → AreLawful lease Standing (m + 1) (Open m ∷ ds)
+pub open_good : (lease w m : ℕ) (ds : List Deed) → AreLawful lease Unopened w ds
+    → AreLawful lease Standing (m + 1) (Open m ∷ ds)
 open_good lease w m ds good =
     let u = good.fits in
     let o = good.order in
     record { order = grind (arith, nat_tests, u.0); fits = (u.1, grind (arith, u.2), u.3) }
 
-pub close_good : (lease seen now : ℕ) (ds : List Deed) → IsMoment seen → seen + lease < now → AreLawful lease Standing (seen + 1) ds → AreLawful lease (Ended (seen + 1)) closed_part (Close seen now true ∷ ds)
+pub close_good : (lease seen now : ℕ) (ds : List Deed) → IsMoment seen → seen + lease < now
+    → AreLawful lease Standing (seen + 1) ds
+    → AreLawful lease (Ended (seen + 1)) closed_part (Close seen now true ∷ ds)
 close_good lease seen now ds low due good =
     let u = good.fits in
     let o = good.order in
     record { order = grind (arith, nat_tests, u.0, u.1); fits = (u.1, omega (arith, u.2)) }
 
-pub try_good : (lease : ℕ) (p : Phase) (w seen now : ℕ) (ds : List Deed) → seen + lease < now → AreLawful lease p w ds → AreLawful lease p w (Close seen now false ∷ ds)
+pub try_good : (lease : ℕ) (p : Phase) (w seen now : ℕ) (ds : List Deed) → seen + lease < now
+    → AreLawful lease p w ds → AreLawful lease p w (Close seen now false ∷ ds)
 try_good lease Unopened w seen now ds due good = let o = good.order in record { order = grind (arith, nat_tests); fits = good.fits }
 try_good lease Standing w seen now ds due good = let o = good.order in record { order = grind (arith, nat_tests); fits = good.fits }
 try_good lease (Ended k) w seen now ds due good = let o = good.order in record { order = grind (arith, nat_tests); fits = good.fits }
 
 -- an open lease that ends with the bound k, which its word doesn't pass
-pub ends_under : (w k : ℕ) (ds : List Deed) → w ≤ k → k ≤ closed_part → FitsPhase Standing w ds → FitsPhase (Ended k) closed_part ds
+pub ends_under : (w k : ℕ) (ds : List Deed) → w ≤ k → k ≤ closed_part → FitsPhase Standing w ds
+    → FitsPhase (Ended k) closed_part ds
 ends_under w k ds low top u = (omega (arith, u.1), omega (arith, u.2))
 
-pub retire_good : (lease : ℕ) (p : Phase) (w w' : ℕ) (ds : List Deed) → FitsPhase (retired p) w' ds → AreLawful lease p w ds → AreLawful lease (retired p) w' (Retire ∷ ds)
+pub retire_good : (lease : ℕ) (p : Phase) (w w' : ℕ) (ds : List Deed) → FitsPhase (retired p) w' ds
+    → AreLawful lease p w ds → AreLawful lease (retired p) w' (Retire ∷ ds)
 retire_good lease Unopened w w' ds u good = record { order = good.order; fits = u }
 retire_good lease Standing w w' ds u good = record { order = good.order; fits = u }
 retire_good lease (Ended k) w w' ds u good = record { order = good.order; fits = u }

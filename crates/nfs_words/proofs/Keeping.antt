@@ -24,13 +24,15 @@ pub of_same : (c : ℕ) (a : Deed) (es : List Event) → deeds_of c (event c a �
 of_same c a es = ap (λ (b : Bool). cond b (a ∷ deeds_of c es) (cond (opens_later c (event c a)) (Retire ∷ deeds_of c es) (deeds_of c es))) (eq-eqb c c refl)
 
 -- an event of another client, that opens no later one of the slot
-pub of_else : (c d : ℕ) (a : Deed) (es : List Event) → d ≢ c → opens_later c (event d a) ≡ false → deeds_of c (event d a ∷ es) ≡ deeds_of c es
+pub of_else : (c d : ℕ) (a : Deed) (es : List Event) → d ≢ c → opens_later c (event d a) ≡ false
+    → deeds_of c (event d a ∷ es) ≡ deeds_of c es
 of_else c d a es apart quiet =
     ap (λ (b : Bool). cond b (a ∷ deeds_of c es) (cond (opens_later c (event d a)) (Retire ∷ deeds_of c es) (deeds_of c es))) (ne_eqb d c apart)
     ∙ ap (λ (b : Bool). cond b (Retire ∷ deeds_of c es) (deeds_of c es)) quiet
 
 -- the opening of a later one
-pub of_passed : (c d m : ℕ) (es : List Event) → d ≢ c → is_earlier c d ≡ true → deeds_of c (event d (Open m) ∷ es) ≡ Retire ∷ deeds_of c es
+pub of_passed : (c d m : ℕ) (es : List Event) → d ≢ c → is_earlier c d ≡ true
+    → deeds_of c (event d (Open m) ∷ es) ≡ Retire ∷ deeds_of c es
 of_passed c d m es apart is =
     ap (λ (b : Bool). cond b (Open m ∷ deeds_of c es) (cond (is_earlier c d) (Retire ∷ deeds_of c es) (deeds_of c es))) (ne_eqb d c apart)
     ∙ ap (λ (b : Bool). cond b (Retire ∷ deeds_of c es) (deeds_of c es)) is
@@ -50,21 +52,25 @@ far_passes c d a apart = by_deed (is_opening a) far
     by_deed false is = refl
 
 -- a deed of the slot leaves the count of another one
-pub count_else : (s d : ℕ) (a : Deed) (es : List Event) → slot_of d ≢ s → count_opened s (event d a ∷ es) ≡ count_opened s es
+pub count_else : (s d : ℕ) (a : Deed) (es : List Event) → slot_of d ≢ s
+    → count_opened s (event d a ∷ es) ≡ count_opened s es
 count_else s d a es apart = by_deed (is_opening a) far
   where
     far : (slot_of d == s) ≡ false
     far = ne_eqb (slot_of d) s apart
 
-    by_deed : (b : Bool) → (slot_of d == s) ≡ false → cond (b && (slot_of d == s)) (generation_of d + 1) (count_opened s es) ≡ count_opened s es
+    by_deed : (b : Bool) → (slot_of d == s) ≡ false
+        → cond (b && (slot_of d == s)) (generation_of d + 1) (count_opened s es) ≡ count_opened s es
     by_deed true is = ap (λ (x : Bool). cond x (generation_of d + 1) (count_opened s es)) is
     by_deed false is = refl
 
 -- and one that is no opening, every count
-pub count_quiet : (s d : ℕ) (a : Deed) (es : List Event) → is_opening a ≡ false → count_opened s (event d a ∷ es) ≡ count_opened s es
+pub count_quiet : (s d : ℕ) (a : Deed) (es : List Event) → is_opening a ≡ false
+    → count_opened s (event d a ∷ es) ≡ count_opened s es
 count_quiet s d a es quiet = ap (λ (b : Bool). cond (b && (slot_of d == s)) (generation_of d + 1) (count_opened s es)) quiet
 
-pub set_there : {A : Type 0} (l : List A) (i : ℕ) (a b : A) → get_elem? l i ≡ some b → get_elem? (set l i a) i ≡ some a
+pub set_there : {A : Type 0} (l : List A) (i : ℕ) (a b : A) → get_elem? l i ≡ some b
+    → get_elem? (set l i a) i ≡ some a
 set_there [] i a b e = absurd (some-ne-none b (sym e))
 set_there (x ∷ xs) zero a b e = refl
 set_there (x ∷ xs) (suc i) a b e = set_there xs i a b e
@@ -83,7 +89,9 @@ abbrev pub Wrote : ℕ → ℕ → List View → Type 0
 Wrote c w views = (at : ℕ) × (v : View) × (get_elem? views at ≡ some v) × (wrote w (deeds_of c v.own) ≡ true)
 
 -- some view still has an open word after a seat's view got longer
-pub wrote_set : (c w : ℕ) (views : List View) (at : ℕ) (v new : View) → get_elem? views at ≡ some v → (wrote w (deeds_of c v.own) ≡ true → wrote w (deeds_of c new.own) ≡ true) → Wrote c w views → Wrote c w (set views at new)
+pub wrote_set : (c w : ℕ) (views : List View) (at : ℕ) (v new : View) → get_elem? views at ≡ some v
+    → (wrote w (deeds_of c v.own) ≡ true → wrote w (deeds_of c new.own) ≡ true) → Wrote c w views
+    → Wrote c w (set views at new)
 wrote_set c w views at v new e more h =
     dite (ℕ_discrete h.0 at)
     (λ (same : h.0 ≡ at).
@@ -92,7 +100,8 @@ wrote_set c w views at v new e more h =
     (λ (apart : h.0 ≢ at). (h.0, h.1, set_else views at h.0 new apart ∙ h.2, h.3))
 
 -- the keeper stays, where its own view is not put in the place of another that keeps nothing
-pub keeps_set : (views : List View) (keeper at : ℕ) (v new : View) → get_elem? views at ≡ some v → (v.keeps ≡ true → new.keeps ≡ true) → HasKeeper views keeper → HasKeeper (set views at new) keeper
+pub keeps_set : (views : List View) (keeper at : ℕ) (v new : View) → get_elem? views at ≡ some v
+    → (v.keeps ≡ true → new.keeps ≡ true) → HasKeeper views keeper → HasKeeper (set views at new) keeper
 keeps_set views keeper at v new e more h =
     dite (ℕ_discrete keeper at)
     (λ (same : keeper ≡ at).
@@ -100,13 +109,17 @@ keeps_set views keeper at v new e more h =
     (new, subst (λ (k : ℕ). get_elem? (set views at new) k ≡ some new) (sym same) (set_there views at new v e), more (subst (λ (u : View). u.keeps ≡ true) (sym is) h.2)))
     (λ (apart : keeper ≢ at). (h.0, set_else views at keeper new apart ∙ h.1, h.2))
 
-pub stands_set : (c : ℕ) (views : List View) (at : ℕ) (v new : View) → get_elem? views at ≡ some v → (p : Phase) (w : ℕ) → (wrote w (deeds_of c v.own) ≡ true → wrote w (deeds_of c new.own) ≡ true) → Stands c views p w → Stands c (set views at new) p w
+pub stands_set : (c : ℕ) (views : List View) (at : ℕ) (v new : View) → get_elem? views at ≡ some v
+    → (p : Phase) (w : ℕ) → (wrote w (deeds_of c v.own) ≡ true → wrote w (deeds_of c new.own) ≡ true)
+    → Stands c views p w → Stands c (set views at new) p w
 stands_set c views at v new e Unopened w more h = h
 stands_set c views at v new e Standing w more h = (h.0, h.1, wrote_set c w views at v new e more h.2)
 stands_set c views at v new e (Ended k) w more h = h
 
 -- the rule for a client whose deeds do not change
-pub other : (keeper c w : ℕ) (views : List View) (at : ℕ) (v : View) (e : Event) → get_elem? views at ≡ some v → deeds_of c (e ∷ v.own) ≡ deeds_of c v.own → RuleFor keeper c w views → RuleFor keeper c w (set views at (with_event v e))
+pub other : (keeper c w : ℕ) (views : List View) (at : ℕ) (v : View) (e : Event) → get_elem? views at ≡ some v
+    → deeds_of c (e ∷ v.own) ≡ deeds_of c v.own → RuleFor keeper c w views
+    → RuleFor keeper c w (set views at (with_event v e))
 other keeper c w views at v e there same one =
     let fit = one.each at v there in
     record {
@@ -121,12 +134,10 @@ other keeper c w views at v e there same one =
     }
 
 -- the rule for a client of which the event is a deed
-pub mine : (keeper d w w' : ℕ) (views : List View) (at : ℕ) (v : View) (ev : Event) (a : Deed) (same : deeds_of d (ev ∷ v.own) ≡ a ∷ deeds_of d v.own) (p : Phase) (one : RuleFor keeper d w views) → get_elem? views at ≡ some v
-    → ((ds : List Deed) → FitsPhase one.stage w ds → FitsPhase p w' ds)
-    → ((p ≡ one.stage) ⊎ (v.keeps ≡ true))
-    → (v.keeps ≡ true → phase_of (a ∷ deeds_of d v.own) ≡ p)
-    → AreLawful v.lease p w' (a ∷ deeds_of d v.own)
-    → Stands d (set views at (with_event v ev)) p w'
+pub mine : (keeper d w w' : ℕ) (views : List View) (at : ℕ) (v : View) (ev : Event) (a : Deed) (same : deeds_of d (ev ∷ v.own) ≡ a ∷ deeds_of d v.own) (p : Phase) (one : RuleFor keeper d w views)
+    → get_elem? views at ≡ some v → ((ds : List Deed) → FitsPhase one.stage w ds → FitsPhase p w' ds)
+    → ((p ≡ one.stage) ⊎ (v.keeps ≡ true)) → (v.keeps ≡ true → phase_of (a ∷ deeds_of d v.own) ≡ p)
+    → AreLawful v.lease p w' (a ∷ deeds_of d v.own) → Stands d (set views at (with_event v ev)) p w'
     → RuleFor keeper d w' (set views at (with_event v ev))
 mine keeper d w w' views at v ev a same p one e more who deed good stands =
     let fit = one.each at v e in
@@ -151,7 +162,8 @@ mine keeper d w w' views at v ev a same p one e more who deed good stands =
           };
     }
 
-agrees : (c : ℕ) (views : List View) (lease : ℕ) (p : Phase) (w : ℕ) (ds es : List Deed) → Stands c views p w → AreLawful lease p w ds → AreLawful lease p w es → Agrees lease ds es
+agrees : (c : ℕ) (views : List View) (lease : ℕ) (p : Phase) (w : ℕ) (ds es : List Deed) → Stands c views p w
+    → AreLawful lease p w ds → AreLawful lease p w es → Agrees lease ds es
 agrees c views lease Unopened w ds es h a b =
     let x = a.fits in let y = b.fits in
     record { order = a.order; order_beside = b.order; alone = omega (arith, x.2); there = omega (arith, x.2); back = omega (arith, y.2) }
@@ -162,7 +174,8 @@ agrees c views lease (Ended k) w ds es h a b =
     let x = a.fits in let y = b.fits in
     record { order = a.order; order_beside = b.order; alone = omega (arith, x.0, x.1); there = omega (arith, x.0, y.1); back = omega (arith, y.0, x.1) }
 
-pub sound_at : (table : State ℕ View) → Kept table → (at : ℕ) (v : View) → get_elem? table.views at ≡ some v → IsSound v
+pub sound_at : (table : State ℕ View) → Kept table → (at : ℕ) (v : View) → get_elem? table.views at ≡ some v
+    → IsSound v
 sound_at table kept at v e c =
     let one = kept.one c in
     let fit = one.each at v e in
@@ -173,13 +186,16 @@ word_in c views Unopened w h = h
 word_in c views Standing w h = (h.0, h.1)
 word_in c views (Ended k) w h = h
 
-ends_closed : (c : ℕ) (views : List View) (p : Phase) (w : ℕ) (ds : List Deed) → Stands c views p w → FitsPhase p w ds → saw_end ds ≡ true → w ≡ closed_part
+ends_closed : (c : ℕ) (views : List View) (p : Phase) (w : ℕ) (ds : List Deed) → Stands c views p w
+    → FitsPhase p w ds → saw_end ds ≡ true → w ≡ closed_part
 ends_closed c views Unopened w ds h u end = absurd (true≢false (sym end ∙ u.1))
 ends_closed c views Standing w ds h u end = absurd (true≢false (sym end ∙ u.0))
 ends_closed c views (Ended k) w ds h u end = h
 
 -- what the keeper opened stays so, where the place of a view has one that opened as much
-pub opened_set : (keeper c : ℕ) (views : List View) (at : ℕ) (v new : View) → get_elem? views at ≡ some v → (HasOpened c v.own → HasOpened c new.own) → HasOpenedAt keeper views c → HasOpenedAt keeper (set views at new) c
+pub opened_set : (keeper c : ℕ) (views : List View) (at : ℕ) (v new : View) → get_elem? views at ≡ some v
+    → (HasOpened c v.own → HasOpened c new.own) → HasOpenedAt keeper views c
+    → HasOpenedAt keeper (set views at new) c
 opened_set keeper c views at v new e more h =
     dite (ℕ_discrete keeper at)
     (λ (same : keeper ≡ at).
@@ -188,19 +204,23 @@ opened_set keeper c views at v new e more h =
     (λ (apart : keeper ≢ at). (h.0, set_else views at keeper new apart ∙ h.1, h.2))
 
 -- an event of another client shows nothing of this one
-saw_else : (c d : ℕ) (a : Deed) (es : List Event) → d ≢ c → saw_open (deeds_of c (event d a ∷ es)) ≡ true → saw_open (deeds_of c es) ≡ true
+saw_else : (c d : ℕ) (a : Deed) (es : List Event) → d ≢ c → saw_open (deeds_of c (event d a ∷ es)) ≡ true
+    → saw_open (deeds_of c es) ≡ true
 saw_else c d a es apart h =
     by_pass (opens_later c (event d a)) (subst (λ (b : Bool). saw_open (cond b (a ∷ deeds_of c es) (cond (opens_later c (event d a)) (Retire ∷ deeds_of c es) (deeds_of c es))) ≡ true) (ne_eqb d c apart) h)
   where
-    by_pass : (p : Bool) → saw_open (cond p (Retire ∷ deeds_of c es) (deeds_of c es)) ≡ true → saw_open (deeds_of c es) ≡ true
+    by_pass : (p : Bool) → saw_open (cond p (Retire ∷ deeds_of c es) (deeds_of c es)) ≡ true
+        → saw_open (deeds_of c es) ≡ true
     by_pass true x = x
     by_pass false x = x
 
 -- who sees a lease open sees one that the keeper opened, after a step too
-seen_step : (keeper : ℕ) (views : List View) (at : ℕ) (v : View) (d : ℕ) (a : Deed) → get_elem? views at ≡ some v
+seen_step : (keeper : ℕ) (views : List View) (at : ℕ) (v : View) (d : ℕ) (a : Deed)
+    → get_elem? views at ≡ some v
     → ((c i : ℕ) (u : View) → get_elem? views i ≡ some u → HasSeenOpen c u → HasOpenedAt keeper views c)
     → (saw_open (a ∷ deeds_of d v.own) ≡ true → (saw_open (deeds_of d v.own) ≡ true) ⊎ HasOpenedAt keeper views d)
-    → (c j : ℕ) (u : View) → get_elem? (set views at (with_event v (event d a))) j ≡ some u → HasSeenOpen c u → HasOpenedAt keeper (set views at (with_event v (event d a))) c
+    → (c j : ℕ) (u : View) → get_elem? (set views at (with_event v (event d a))) j ≡ some u → HasSeenOpen c u
+    → HasOpenedAt keeper (set views at (with_event v (event d a))) c
 seen_step keeper views at v d a e kept shown c =
     set_each (λ j u. HasSeenOpen c u → HasOpenedAt keeper (set views at new) c) views at new
     (λ j u _ at_j saw. stays (kept c j u at_j saw))
@@ -267,12 +287,14 @@ step_keeps table kept at v d a n e shown one near turn = record {
     there s apart = get_or-set_other table.words (slot_of d) s n 0 (λ h. apart (sym h))
 
     -- the counts of another slot are as they were
-    far : (s : ℕ) → slot_of d ≢ s → (j : ℕ) (u : View) → get_elem? views j ≡ some u → u.keeps ≡ true → IsWordOf (slice_index table.words s) (count_opened s u.own)
+    far : (s : ℕ) → slot_of d ≢ s → (j : ℕ) (u : View) → get_elem? views j ≡ some u → u.keeps ≡ true
+        → IsWordOf (slice_index table.words s) (count_opened s u.own)
     far s apart = set_each (λ j u. u.keeps ≡ true → IsWordOf (slice_index table.words s) (count_opened s u.own)) table.views at (with_event v (event d a))
         (λ j u _ at_j keeps. (kept.turn j u at_j keeps).words_are s)
         (λ keeps. subst (λ (k : ℕ). IsWordOf (slice_index table.words s) k) (sym (count_else s d a v.own apart)) ((kept.turn at v e keeps).words_are s))
 
-    by_slot : (j : ℕ) (u : View) → get_elem? views j ≡ some u → u.keeps ≡ true → (s : ℕ) → IsWordOf (slice_index words s) (count_opened s u.own)
+    by_slot : (j : ℕ) (u : View) → get_elem? views j ≡ some u → u.keeps ≡ true → (s : ℕ)
+        → IsWordOf (slice_index words s) (count_opened s u.own)
     by_slot j u at_j keeps s =
         dite (ℕ_discrete (slot_of d) s)
         (λ (is : slot_of d ≡ s). subst (λ (k : ℕ). IsWordOf (slice_index words k) (count_opened k u.own)) is (subst (λ (w : ℕ). IsWordOf w (count_opened (slot_of d) u.own)) (sym here) (turn j u at_j keeps).0))
@@ -302,7 +324,8 @@ quiet_keeps table kept at v d a n e shown quiet may_end one alike last =
     )))
 
 -- what a seat is told of a client
-pub told : (table : State ℕ View) (kept : Kept table) (at : ℕ) (v : View) → get_elem? table.views at ≡ some v → (c : ℕ) → IsTold c (part_at table.words c) v
+pub told : (table : State ℕ View) (kept : Kept table) (at : ℕ) (v : View) → get_elem? table.views at ≡ some v
+    → (c : ℕ) → IsTold c (part_at table.words c) v
 told table kept at v e c =
     let one = kept.one c in
     let fit = one.each at v e in record {

@@ -29,7 +29,8 @@ vacant_of Unopened w h = ((λ _. refl), (λ _. h))
 vacant_of Standing w h = ((λ is. let up = h.0 in absurd (omega (arith, up, is))), (λ is. absurd (true≢false is)))
 vacant_of (Ended k) w h = ((λ is. absurd (omega (arith, h, is))), (λ is. absurd (true≢false is)))
 
-shut_of : (p : Phase) (w : ℕ) → IsPartIn p w → (w ≡ closed_part → (was_opened p ≡ true) × (is_standing p ≡ false)) × (was_opened p ≡ true → is_standing p ≡ false → w ≡ closed_part)
+shut_of : (p : Phase) (w : ℕ) → IsPartIn p w
+    → (w ≡ closed_part → (was_opened p ≡ true) × (is_standing p ≡ false)) × (was_opened p ≡ true → is_standing p ≡ false → w ≡ closed_part)
 shut_of Unopened w h = ((λ is. absurd (omega (arith, h, is))), (λ is _. absurd (true≢false (sym is))))
 shut_of Standing w h = ((λ is. let low = h.1 in absurd (omega (arith, low, is))), (λ _ is. absurd (true≢false is)))
 shut_of (Ended k) w h = ((λ _. (refl, refl)), (λ _ _. h))
@@ -40,7 +41,8 @@ known_of Unopened w ds u h = absurd (true≢false (sym h ∙ u.0))
 known_of Standing w ds u h = refl
 known_of (Ended k) w ds u h = refl
 
-ended_of : (p : Phase) (w : ℕ) (ds : List Deed) → IsPartIn p w → FitsPhase p w ds → saw_end ds ≡ true → w ≡ closed_part
+ended_of : (p : Phase) (w : ℕ) (ds : List Deed) → IsPartIn p w → FitsPhase p w ds → saw_end ds ≡ true
+    → w ≡ closed_part
 ended_of Unopened w ds is u h = absurd (true≢false (sym h ∙ u.1))
 ended_of Standing w ds is u h = absurd (true≢false (sym h ∙ u.0))
 ended_of (Ended k) w ds is u h = is
@@ -51,7 +53,8 @@ reach_of Standing w ds u h = u.1
 reach_of (Ended k) w ds u h = absurd (true≢false (sym h))
 
 -- no answered renewal of the one is above a done closing of the other
-both_under : (p : Phase) (w : ℕ) (ds es : List Deed) → IsPartIn p w → FitsPhase p w ds → FitsPhase p w es → greatest_part ds ≤ least_closed es
+both_under : (p : Phase) (w : ℕ) (ds es : List Deed) → IsPartIn p w → FitsPhase p w ds → FitsPhase p w es
+    → greatest_part ds ≤ least_closed es
 both_under Unopened w ds es is a b = omega (arith, a.2)
 both_under Standing w ds es is a b = let low = is.1 in omega (arith, a.1, b.2, low)
 both_under (Ended k) w ds es is a b = omega (arith, a.0, b.1)
@@ -67,12 +70,14 @@ wrote_later : (c w : ℕ) (x : Event) (es : List Event) → Wrote c w es → Wro
 wrote_later c w x es h = (h.0, h.1, ⊎_elim (λ o. inl (in_more (event c (Open h.0)) x es o)) (λ r. inr (r.0, r.1, in_more (event c (Renew h.0 r.0)) x es r.2)) h.2)
 
 -- the newest event wrote it, or an older one did
-by_deed : (c w : ℕ) (client : ℕ) (d : Deed) (es : List Event) → client ≡ c → wrote w (d ∷ deeds_of c es) ≡ true → (wrote w (deeds_of c es) ≡ true → Wrote c w es) → Wrote c w (event client d ∷ es)
+by_deed : (c w : ℕ) (client : ℕ) (d : Deed) (es : List Event) → client ≡ c → wrote w (d ∷ deeds_of c es) ≡ true
+    → (wrote w (deeds_of c es) ≡ true → Wrote c w es) → Wrote c w (event client d ∷ es)
 by_deed c w client (Look n) es same h rest = wrote_later c w _ es (rest h)
 by_deed c w client (Renew m old) es same h rest =
     by_test (not (old == closed_part) && (m + 1 == w)) refl
   where
-    by_test : (b : Bool) → (not (old == closed_part) && (m + 1 == w)) ≡ b → Wrote c w (event client (Renew m old) ∷ es)
+    by_test : (b : Bool) → (not (old == closed_part) && (m + 1 == w)) ≡ b
+        → Wrote c w (event client (Renew m old) ∷ es)
     by_test true is = (m, grind (arith, nat_tests), inr (old, grind (arith, nat_tests), (zero, omega arith, ap (λ n. event n (Renew m old)) same)))
     by_test false is = wrote_later c w _ es (rest (subst (λ b. (b || wrote w (deeds_of c es)) ≡ true) is h))
 by_deed c w client (Open m) es same h rest =
@@ -89,12 +94,15 @@ wrote_has c w [] h = absurd (true≢false (sym h))
 wrote_has c w (e ∷ es) h =
     by_client (e.client == c) (opens_later c e) e (wrote_has c w es) refl h
   where
-    by_client : (b p : Bool) (x : Event) → (wrote w (deeds_of c es) ≡ true → Wrote c w es) → (x.client == c) ≡ b → wrote w (cond b (x.deed ∷ deeds_of c es) (cond p (Retire ∷ deeds_of c es) (deeds_of c es))) ≡ true → Wrote c w (x ∷ es)
+    by_client : (b p : Bool) (x : Event) → (wrote w (deeds_of c es) ≡ true → Wrote c w es) → (x.client == c) ≡ b
+        → wrote w (cond b (x.deed ∷ deeds_of c es) (cond p (Retire ∷ deeds_of c es) (deeds_of c es))) ≡ true
+        → Wrote c w (x ∷ es)
     by_client true p x rest is k = by_deed c w x.client x.deed es (eqb-true x.client c is) k rest
     by_client false true x rest is k = wrote_later c w x es (rest k)
     by_client false false x rest is k = wrote_later c w x es (rest k)
 
-written_of : (c : ℕ) (table : State ℕ View) (p : Phase) → Stands c table.views p (client_part table c) → is_standing p ≡ true
+written_of : (c : ℕ) (table : State ℕ View) (p : Phase) → Stands c table.views p (client_part table c)
+    → is_standing p ≡ true
     → (moment : ℕ) × (client_part table c ≡ moment + 1) × ((v : View) × IsSeated table v × WroteAt c moment v)
 written_of c table Unopened h is = absurd (true≢false (sym is))
 written_of c table Standing h is =
@@ -112,14 +120,16 @@ module _ (table : State ℕ View) (lawful : Kept table) where
   word : (c : ℕ) → IsPartIn (stage c) (client_part table c)
   word c = word_in c table.views (stage c) (client_part table c) (lawful.one c).stands
 
-  good : (c : ℕ) (v : View) (es : List Event) → IsSeated table v → HasEvents v es → AreLawful v.lease (stage c) (client_part table c) (deeds_of c es)
+  good : (c : ℕ) (v : View) (es : List Event) → IsSeated table v → HasEvents v es
+      → AreLawful v.lease (stage c) (client_part table c) (deeds_of c es)
   good c v es at has =
       let fit = (lawful.one c).each at.0 v at.1 in
       let P : List Event → Type 0 = λ l. AreLawful v.lease (stage c) (client_part table c) (deeds_of c l) in
       ⊎_elim (λ (is : v.own ≡ es). subst P is fit.own) (λ (is : v.beside ≡ es). subst P is fit.beside) has
 
   -- whose lease was seen open
-  opened_of : (c : ℕ) (v : View) (es : List Event) → IsSeated table v → HasEvents v es → saw_open (deeds_of c es) ≡ true → HasOpened c lawful.holds.0.own
+  opened_of : (c : ℕ) (v : View) (es : List Event) → IsSeated table v → HasEvents v es
+      → saw_open (deeds_of c es) ≡ true → HasOpened c lawful.holds.0.own
   opened_of c v es at has saw =
       let both : HasSeenOpen c v =
       ⊎_elim (λ (is : v.own ≡ es). inl (subst (λ (l : List Event). saw_open (deeds_of c l) ≡ true) (sym is) saw))
@@ -137,7 +147,8 @@ module _ (table : State ℕ View) (lawful : Kept table) where
   self_later c h = (c, refl, omega arith, h)
 
   -- live by its own events exactly where it is at all
-  alone_stage : (c : ℕ) → HasOpened c lawful.holds.0.own → is_standing (phase_of (own_deeds_of c lawful.holds.0.own)) ≡ is_standing (stage c)
+  alone_stage : (c : ℕ) → HasOpened c lawful.holds.0.own
+      → is_standing (phase_of (own_deeds_of c lawful.holds.0.own)) ≡ is_standing (stage c)
   alone_stage c h = alone_live lawful.holds.0.own turn.in_turn c (has_own lawful.holds.0.own c h) ∙ ap is_standing (phase_is c)
 
   -- the word of a client that was opened, or passed over, is of its generation or a later one
@@ -150,7 +161,8 @@ module _ (table : State ℕ View) (lawful : Kept table) where
       not_zero (Ended k) is o = let w : client_part table c ≡ closed_part = is in omega arith
 
   -- and of an earlier one than any that wasn't
-  last_is : (c : ℕ) → IsLast c lawful.holds.0.own → count_opened (slot_of c) lawful.holds.0.own ≡ generation_of c + 1
+  last_is : (c : ℕ) → IsLast c lawful.holds.0.own
+      → count_opened (slot_of c) lawful.holds.0.own ≡ generation_of c + 1
   last_is c h = by_count (count_opened (slot_of c) lawful.holds.0.own) refl
     where
       by_count : (n : ℕ) → count_opened (slot_of c) lawful.holds.0.own ≡ n → n ≡ generation_of c + 1
@@ -167,7 +179,8 @@ module _ (table : State ℕ View) (lawful : Kept table) where
           let here = (turn.words_are (slot_of c)).last g (omega (arith, is)) in
           omega (arith, most, some_word, here.0, here.1)
 
-  live_of : (p : Phase) (w : ℕ) → IsPartIn p w → was_opened p ≡ true → (w ≡ closed_part → is_standing p ≡ false) × (is_standing p ≡ false → w ≡ closed_part)
+  live_of : (p : Phase) (w : ℕ) → IsPartIn p w → was_opened p ≡ true
+      → (w ≡ closed_part → is_standing p ≡ false) × (is_standing p ≡ false → w ≡ closed_part)
   live_of Unopened w h o = absurd (true≢false (sym o))
   live_of Standing w h o = ((λ is. let low = h.1 in absurd (omega (arith, low, is))), (λ is. absurd (true≢false is)))
   live_of (Ended k) w h o = ((λ _. refl), (λ _. h))
@@ -206,20 +219,23 @@ module _ (table : State ℕ View) (lawful : Kept table) where
     (λ none. by_count none (count_opened s lawful.holds.0.own) refl),
   )
     where
-      by_count : ((c : ℕ) → slot_of c ≡ s → ¬ HasOpened c lawful.holds.0.own) → (n : ℕ) → count_opened s lawful.holds.0.own ≡ n → slice_index table.words s ≡ 0
+      by_count : ((c : ℕ) → slot_of c ≡ s → ¬ HasOpened c lawful.holds.0.own) → (n : ℕ)
+          → count_opened s lawful.holds.0.own ≡ n → slice_index table.words s ≡ 0
       by_count none zero is = (turn.words_are s).none is
       by_count none (suc g) is =
           let slot : slot_of (g * 256 + s) ≡ s = omega (arith, low) in
           absurd (none (g * 256 + s) slot (count_has s g lawful.holds.0.own low is))
 
-  vacant_is : (c : ℕ) → (client_part table c ≡ 0 → ¬ HasOpenedFrom c lawful.holds.0.own) × (¬ HasOpenedFrom c lawful.holds.0.own → client_part table c ≡ 0)
+  vacant_is : (c : ℕ)
+      → (client_part table c ≡ 0 → ¬ HasOpenedFrom c lawful.holds.0.own) × (¬ HasOpenedFrom c lawful.holds.0.own → client_part table c ≡ 0)
   vacant_is c =
       let both = vacant_of (stage c) (client_part table c) (word c) in (
         (λ is has. true≢false (sym (opened_stage c has) ∙ both.0 is)),
         (λ none. both.1 (by_test none (was_opened (phase_of (deeds_of c lawful.holds.0.own))) refl)),
       )
     where
-      by_test : ¬ HasOpenedFrom c lawful.holds.0.own → (b : Bool) → was_opened (phase_of (deeds_of c lawful.holds.0.own)) ≡ b → was_opened (stage c) ≡ false
+      by_test : ¬ HasOpenedFrom c lawful.holds.0.own → (b : Bool)
+          → was_opened (phase_of (deeds_of c lawful.holds.0.own)) ≡ b → was_opened (stage c) ≡ false
       by_test none true is = absurd (none (opened_has lawful.holds.0.own turn.in_turn c is))
       by_test none false is = ap was_opened (sym (phase_is c)) ∙ is
 
@@ -234,20 +250,25 @@ module _ (table : State ℕ View) (lawful : Kept table) where
       shut_above : (g p w : ℕ) → g < p → word_with p 0 < w → part_in g w ≡ closed_part
       shut_above g p w less high = grind (arith, nat_tests)
 
-  one_live_of : (c other : ℕ) → slot_of c ≡ slot_of other → is_standing (phase_of (deeds_of c lawful.holds.0.own)) ≡ true → is_standing (phase_of (deeds_of other lawful.holds.0.own)) ≡ true → c ≡ other
+  one_live_of : (c other : ℕ) → slot_of c ≡ slot_of other
+      → is_standing (phase_of (deeds_of c lawful.holds.0.own)) ≡ true
+      → is_standing (phase_of (deeds_of other lawful.holds.0.own)) ≡ true → c ≡ other
   one_live_of c other slots a b =
       let generation : generation_of c ≡ generation_of other = same_generation (generation_of c) (generation_of other) (slot_word table c) (open_word c a) (subst (λ (s : ℕ). (0 < part_in (generation_of other) (slice_index table.words s)) × (part_in (generation_of other) (slice_index table.words s) < closed_part)) (sym slots) (open_word other b)) in
       omega arith
     where
-      open_word : (k : ℕ) → is_standing (phase_of (deeds_of k lawful.holds.0.own)) ≡ true → (0 < part_in (generation_of k) (slot_word table k)) × (part_in (generation_of k) (slot_word table k) < closed_part)
+      open_word : (k : ℕ) → is_standing (phase_of (deeds_of k lawful.holds.0.own)) ≡ true
+          → (0 < part_in (generation_of k) (slot_word table k)) × (part_in (generation_of k) (slot_word table k) < closed_part)
       open_word k h = by_stage (stage k) (word k) (ap is_standing (sym (phase_is k)) ∙ h)
         where
-          by_stage : (p : Phase) → IsPartIn p (client_part table k) → is_standing p ≡ true → (0 < client_part table k) × (client_part table k < closed_part)
+          by_stage : (p : Phase) → IsPartIn p (client_part table k) → is_standing p ≡ true
+              → (0 < client_part table k) × (client_part table k < closed_part)
           by_stage Unopened is o = absurd (true≢false (sym o))
           by_stage Standing is o = is
           by_stage (Ended n) is o = absurd (true≢false (sym o))
 
-      same_generation : (g p w : ℕ) → (0 < part_in g w) × (part_in g w < closed_part) → (0 < part_in p w) × (part_in p w < closed_part) → g ≡ p
+      same_generation : (g p w : ℕ) → (0 < part_in g w) × (part_in g w < closed_part)
+          → (0 < part_in p w) × (part_in p w < closed_part) → g ≡ p
       same_generation g p w x y = grind (arith, nat_tests, x.0, x.1, y.0, y.1)
 
 pub rules : RulesHold

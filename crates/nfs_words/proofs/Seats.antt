@@ -30,11 +30,13 @@ vacant_read g = grind (arith, nat_tests)
 fresh_none : (lease w : ℕ) → AreLawful lease Unopened w []
 fresh_none lease w = record { order = refl; fits = (refl, refl, refl, refl) }
 
-first_fits : (lease c : ℕ) (w : ℕ) → (at : ℕ) (v : View) → get_elem? (keeper_view lease ∷ []) at ≡ some v → FitsView 0 c Unopened w at v
+first_fits : (lease c : ℕ) (w : ℕ) → (at : ℕ) (v : View) → get_elem? (keeper_view lease ∷ []) at ≡ some v
+    → FitsView 0 c Unopened w at v
 first_fits lease c w zero v e = subst (FitsView 0 c Unopened w 0) (some-injective _ _ e) record { keeps = λ k. (refl, refl); own = fresh_none lease w; beside = fresh_none lease w }
 first_fits lease c w (suc at) v e = absurd (some-ne-none v (sym e))
 
-pub begins : (lease places : ℕ) (words : List ℕ) → places ≡ SLOTS → words ≡ replicate places 0 → Kept (opening words [] (keeper_view lease))
+pub begins : (lease places : ℕ) (words : List ℕ) → places ≡ SLOTS → words ≡ replicate places 0
+    → Kept (opening words [] (keeper_view lease))
 begins lease places words is vacant = record {
   width = ap length vacant ∙ length-replicate places 0 ∙ is;
   keeper = 0;
@@ -47,7 +49,8 @@ begins lease places words is vacant = record {
     none : (s : ℕ) → slice_index words s ≡ 0
     none s = ap (λ (l : List ℕ). slice_index l s) vacant ∙ all_vacant places s
 
-    first_seen : (at : ℕ) (v : View) → get_elem? (keeper_view lease ∷ []) at ≡ some v → (c : ℕ) → HasSeenOpen c v → HasOpenedAt 0 (keeper_view lease ∷ []) c
+    first_seen : (at : ℕ) (v : View) → get_elem? (keeper_view lease ∷ []) at ≡ some v → (c : ℕ)
+        → HasSeenOpen c v → HasOpenedAt 0 (keeper_view lease ∷ []) c
     first_seen zero v e c saw =
         ⊎_elim (λ (x : false ≡ true). absurd (true≢false (sym x))) (λ (x : false ≡ true). absurd (true≢false (sym x)))
         (subst (HasSeenOpen c) (sym (some-injective _ _ e)) saw)
@@ -67,12 +70,14 @@ cap_top (Close seen now false ∷ ds) = cap_top ds
 cap_top (Retire ∷ ds) = cap_top ds
 
 -- no deeds fit any phase that some deeds fit
-none_good : (lease lease' : ℕ) (p : Phase) (w : ℕ) (ds : List Deed) → AreLawful lease' p w ds → AreLawful lease p w []
+none_good : (lease lease' : ℕ) (p : Phase) (w : ℕ) (ds : List Deed) → AreLawful lease' p w ds
+    → AreLawful lease p w []
 none_good lease lease' Unopened w ds good = fresh_none lease w
 none_good lease lease' Standing w ds good = record { order = refl; fits = (refl, omega arith, refl) }
 none_good lease lease' (Ended k) w ds good = let u = good.fits in record { order = refl; fits = (omega arith, omega (arith, u.1, cap_top ds)) }
 
-stands_more : (c : ℕ) (views : List View) (new : View) (p : Phase) (w : ℕ) → Stands c views p w → Stands c (views ++ new ∷ []) p w
+stands_more : (c : ℕ) (views : List View) (new : View) (p : Phase) (w : ℕ) → Stands c views p w
+    → Stands c (views ++ new ∷ []) p w
 stands_more c views new Unopened w h = h
 stands_more c views new Standing w h = let some_one = h.2 in (h.0, h.1, (some_one.0, some_one.1, at_longer views (new ∷ []) some_one.0 some_one.1 some_one.2, some_one.3))
 stands_more c views new (Ended k) w h = h
@@ -82,7 +87,8 @@ module _ (id : ℕ) (v : View) (beside : List Event) (shown : (c : ℕ) → saw_
   abbrev newcomer : View
   newcomer = record { lease = v.lease; keeps = false; own = []; beside = beside }
 
-  one_more : (keeper c w : ℕ) (views : List View) → get_elem? views id ≡ some v → RuleFor keeper c w views → RuleFor keeper c w (views ++ newcomer ∷ [])
+  one_more : (keeper c w : ℕ) (views : List View) → get_elem? views id ≡ some v → RuleFor keeper c w views
+      → RuleFor keeper c w (views ++ newcomer ∷ [])
   one_more keeper c w views e one = let fit = one.each id v e in record {
     stage = one.stage;
     stands = stands_more c views newcomer one.stage w one.stands;
@@ -152,7 +158,8 @@ module _ (keeper c w : ℕ) (views : List View) (id : ℕ) (v : View) (other : �
             record { keeps = λ k. absurd (true≢false (sym k)); own = none_good 0 v.lease one.stage w (deeds_of c v.own) fit.own; beside = none_good 0 v.lease one.stage w (deeds_of c v.own) fit.own };
       }
 
-pub joins : (id : ℕ) (v : View) (other : ℕ) (note : View) → note.keeps ≡ false → note.own ≡ [] → note.lease ≡ v.lease → Joins Kept id v other note (with_note v note) (worker_view 0)
+pub joins : (id : ℕ) (v : View) (other : ℕ) (note : View) → note.keeps ≡ false → note.own ≡ []
+    → note.lease ≡ v.lease → Joins Kept id v other note (with_note v note) (worker_view 0)
 joins id v other note idle empty lease table kept e apart there =
     let f : get_elem? table.views other ≡ some note = sym (set_else table.views id other (with_note v note) apart) ∙ there in record {
       width = kept.width;

@@ -50,7 +50,8 @@ module _ (keeper d w : ℕ) (views : List View) (at : ℕ) (v : View) (e : get_e
       (look_good v.lease one.stage w (deeds_of d v.own) (word_in d views one.stage w one.stands) fit.own)
       (same_stands (Look w) one.stage one.stands)
 
-  raise_stands : (m : ℕ) (p : Phase) → IsMoment m → FitsPhase p w (deeds_of d v.own) → saw_open (deeds_of d v.own) ≡ true → Stands d views p w → Stands d (after (Renew m w)) p (max w (m + 1))
+  raise_stands : (m : ℕ) (p : Phase) → IsMoment m → FitsPhase p w (deeds_of d v.own)
+      → saw_open (deeds_of d v.own) ≡ true → Stands d views p w → Stands d (after (Renew m w)) p (max w (m + 1))
   raise_stands m Unopened low under seen h = absurd (not_fresh w (deeds_of d v.own) under seen)
   raise_stands m Standing low under seen h =
       let top = h.1 in
@@ -63,7 +64,8 @@ module _ (keeper d w : ℕ) (views : List View) (at : ℕ) (v : View) (e : get_e
       )
   raise_stands m (Ended k) low under seen h = let is : w ≡ closed_part = h in omega arith
 
-  raise_one : (m : ℕ) → IsMoment m → saw_open (deeds_of d v.own) ≡ true → RuleFor keeper d w views → RuleFor keeper d (max w (m + 1)) (after (Renew m w))
+  raise_one : (m : ℕ) → IsMoment m → saw_open (deeds_of d v.own) ≡ true → RuleFor keeper d w views
+      → RuleFor keeper d (max w (m + 1)) (after (Renew m w))
   raise_one m low seen one =
       let fit = one.each at v e in
       mine keeper d w (max w (m + 1)) views at v (event d (Renew m w)) (Renew m w) (of_same d (Renew m w) v.own) one.stage one e (raise_under one.stage w (m + 1)) (inl refl) (λ k. (fit.keeps k).1)
@@ -81,7 +83,8 @@ module _ (keeper d w : ℕ) (views : List View) (at : ℕ) (v : View) (e : get_e
     under_at : (ds : List Deed) → FitsPhase one.stage w ds → FitsPhase p w ds
     under_at ds u = subst (λ (q : Phase). FitsPhase q w ds) is u
 
-  open_one : (m : ℕ) → IsMoment m → v.keeps ≡ true → (one : RuleFor keeper d w views) → one.stage ≡ Unopened → RuleFor keeper d (m + 1) (after (Open m))
+  open_one : (m : ℕ) → IsMoment m → v.keeps ≡ true → (one : RuleFor keeper d w views) → one.stage ≡ Unopened
+      → RuleFor keeper d (m + 1) (after (Open m))
   open_one m low me one is =
       mine keeper d w (m + 1) views at v (event d (Open m)) (Open m) (of_same d (Open m) v.own) Standing one e
       (λ ds u. let n = under_at me Unopened one is ds u in (n.1, omega (arith, n.2), n.3))
@@ -90,7 +93,9 @@ module _ (keeper d w : ℕ) (views : List View) (at : ℕ) (v : View) (e : get_e
       (open_good v.lease w m (deeds_of d v.own) (good_at me Unopened one is))
       (omega arith, omega arith, now_wrote (Open m) (m + 1) (wrote_open m (deeds_of d v.own)))
 
-  close_one : (seen now : ℕ) → IsMoment seen → seen + v.lease < now → w ≡ seen + 1 → v.keeps ≡ true → (one : RuleFor keeper d w views) → one.stage ≡ Standing → RuleFor keeper d closed_part (after (Close seen now true))
+  close_one : (seen now : ℕ) → IsMoment seen → seen + v.lease < now → w ≡ seen + 1 → v.keeps ≡ true
+      → (one : RuleFor keeper d w views) → one.stage ≡ Standing
+      → RuleFor keeper d closed_part (after (Close seen now true))
   close_one seen now low due same me one is =
       mine keeper d w closed_part views at v (event d (Close seen now true)) (Close seen now true) (of_same d (Close seen now true) v.own) (Ended (seen + 1)) one e
       (λ ds u. ends_under w (seen + 1) ds (omega arith) (omega arith) (under_at me Standing one is ds u))
@@ -99,14 +104,16 @@ module _ (keeper d w : ℕ) (views : List View) (at : ℕ) (v : View) (e : get_e
       (close_good v.lease seen now (deeds_of d v.own) low due (subst (λ (n : ℕ). AreLawful v.lease Standing n (deeds_of d v.own)) same (good_at me Standing one is)))
       refl
 
-  try_one : (seen now : ℕ) → seen + v.lease < now → RuleFor keeper d w views → RuleFor keeper d w (after (Close seen now false))
+  try_one : (seen now : ℕ) → seen + v.lease < now → RuleFor keeper d w views
+      → RuleFor keeper d w (after (Close seen now false))
   try_one seen now due one =
       let fit = one.each at v e in
       mine keeper d w w views at v (event d (Close seen now false)) (Close seen now false) (of_same d (Close seen now false) v.own) one.stage one e (λ ds u. u) (inl refl) (λ k. (fit.keeps k).1)
       (try_good v.lease one.stage w seen now (deeds_of d v.own) due fit.own)
       (same_stands (Close seen now false) one.stage one.stands)
 
-  retire_from : (p : Phase) (ds : List Deed) → was_opened p ≡ true → Stands d views p w → FitsPhase p w ds → FitsPhase (retired p) closed_part ds
+  retire_from : (p : Phase) (ds : List Deed) → was_opened p ≡ true → Stands d views p w → FitsPhase p w ds
+      → FitsPhase (retired p) closed_part ds
   retire_from Unopened ds o h u = absurd (true≢false (sym o))
   retire_from Standing ds o h u = let top = h.1 in ends_under w closed_part ds (omega arith) (omega arith) u
   retire_from (Ended k) ds o h u = u
@@ -116,7 +123,8 @@ module _ (keeper d w : ℕ) (views : List View) (at : ℕ) (v : View) (e : get_e
   retire_stands Standing = refl
   retire_stands (Ended k) = refl
 
-  retire_one : v.keeps ≡ true → was_opened_by v.own d ≡ true → RuleFor keeper d w views → RuleFor keeper d closed_part (after Retire)
+  retire_one : v.keeps ≡ true → was_opened_by v.own d ≡ true → RuleFor keeper d w views
+      → RuleFor keeper d closed_part (after Retire)
   retire_one me was one =
       let fit = one.each at v e in
       let o : was_opened one.stage ≡ true = sym (ap was_opened (fit.keeps me).1) ∙ was in
@@ -142,7 +150,8 @@ module _ (keeper d w : ℕ) (views : List View) (at : ℕ) (v : View) (e : get_e
   vacant_of p h is = subst (λ (q : Phase). Stands d views q w) is h
 
   -- the client is passed over: a later one of its slot is opened
-  pass_one : (other m : ℕ) → is_earlier d other ≡ true → v.keeps ≡ true → (one : RuleFor keeper d w views) → is_standing one.stage ≡ false
+  pass_one : (other m : ℕ) → is_earlier d other ≡ true → v.keeps ≡ true → (one : RuleFor keeper d w views)
+      → is_standing one.stage ≡ false
       → RuleFor keeper d closed_part (set views at (with_event v (event other (Open m))))
   pass_one other m is me one idle =
       let fit = one.each at v e in
@@ -157,12 +166,14 @@ module _ (keeper d w : ℕ) (views : List View) (at : ℕ) (v : View) (e : get_e
       apart : other ≢ d
       apart = grind (arith, nat_tests)
 
-      pass_from : (p : Phase) (ds : List Deed) → is_standing p ≡ false → FitsPhase p w ds → FitsPhase (retired p) closed_part ds
+      pass_from : (p : Phase) (ds : List Deed) → is_standing p ≡ false → FitsPhase p w ds
+          → FitsPhase (retired p) closed_part ds
       pass_from Unopened ds h u = (omega (arith, u.2), omega (arith, u.3))
       pass_from Standing ds h u = absurd (true≢false h)
       pass_from (Ended k) ds h u = u
 
-      passed : (p : Phase) → Stands d (set views at (with_event v (event other (Open m)))) (retired p) closed_part
+      passed : (p : Phase)
+          → Stands d (set views at (with_event v (event other (Open m)))) (retired p) closed_part
       passed Unopened = refl
       passed Standing = refl
       passed (Ended k) = refl
@@ -173,7 +184,8 @@ module _ (keeper d w : ℕ) (views : List View) (at : ℕ) (v : View) (e : get_e
   opened_word Standing o h = let up = h.0 in omega arith
   opened_word (Ended k) o h = let is : w ≡ closed_part = h in omega arith
 
-  seen_word : (p : Phase) → saw_open (deeds_of d v.own) ≡ true → FitsPhase p w (deeds_of d v.own) → Stands d views p w → w ≢ 0
+  seen_word : (p : Phase) → saw_open (deeds_of d v.own) ≡ true → FitsPhase p w (deeds_of d v.own)
+      → Stands d views p w → w ≢ 0
   seen_word Unopened seen u h = absurd (not_fresh w (deeds_of d v.own) u seen)
   seen_word Standing seen u h = opened_word Standing refl h
   seen_word (Ended k) seen u h = opened_word (Ended k) refl h
@@ -185,7 +197,8 @@ module _ (keeper d w : ℕ) (views : List View) (at : ℕ) (v : View) (e : get_e
   ended_word (Ended k) o l h = h
 
 -- What the keeper's events say of a slot: of the last client that was opened
-opened_after : (a : Deed) (ds : List Deed) → was_opened (phase_of (a ∷ ds)) ≡ false → was_opened (phase_of ds) ≡ false
+opened_after : (a : Deed) (ds : List Deed) → was_opened (phase_of (a ∷ ds)) ≡ false
+    → was_opened (phase_of ds) ≡ false
 opened_after (Look w) ds h = h
 opened_after (Renew m old) ds h = h
 opened_after (Open m) ds h = absurd (true≢false h)
@@ -207,16 +220,20 @@ retired_is ds = by_phase (phase_of ds)
     by_phase (Ended k) = refl
 
 -- Of a client that was never opened nor passed over, the slot's last generation is an earlier one
-count_fresh : (d : ℕ) (es : List Event) → was_opened (phase_of (deeds_of d es)) ≡ false → count_opened (slot_of d) es ≤ generation_of d
+count_fresh : (d : ℕ) (es : List Event) → was_opened (phase_of (deeds_of d es)) ≡ false
+    → count_opened (slot_of d) es ≤ generation_of d
 count_fresh d [] h = omega arith
 count_fresh d (e ∷ es) h = by_event (count_fresh d es) (e.client == d) refl (is_opening e.deed) refl (slot_of e.client == slot_of d) refl (is_earlier d e.client) refl h
   where
-    by_event : (was_opened (phase_of (deeds_of d es)) ≡ false → count_opened (slot_of d) es ≤ generation_of d) → (b : Bool) → (e.client == d) ≡ b → (o : Bool) → is_opening e.deed ≡ o → (s : Bool) → (slot_of e.client == slot_of d) ≡ s → (l : Bool) → is_earlier d e.client ≡ l
+    by_event : (was_opened (phase_of (deeds_of d es)) ≡ false → count_opened (slot_of d) es ≤ generation_of d)
+        → (b : Bool) → (e.client == d) ≡ b → (o : Bool) → is_opening e.deed ≡ o → (s : Bool)
+        → (slot_of e.client == slot_of d) ≡ s → (l : Bool) → is_earlier d e.client ≡ l
         → was_opened (phase_of (cond b (e.deed ∷ deeds_of d es) (cond (o && l) (Retire ∷ deeds_of d es) (deeds_of d es)))) ≡ false
         → cond (o && s) (generation_of e.client + 1) (count_opened (slot_of d) es) ≤ generation_of d
     by_event ih true is true opening s slot l after k = absurd (true≢false (opens_it e.deed opening k))
       where
-        opens_it : (a : Deed) → is_opening a ≡ true → was_opened (phase_of (a ∷ deeds_of d es)) ≡ false → true ≡ false
+        opens_it : (a : Deed) → is_opening a ≡ true → was_opened (phase_of (a ∷ deeds_of d es)) ≡ false
+            → true ≡ false
         opens_it (Look w) x y = sym x
         opens_it (Renew m old) x y = sym x
         opens_it (Open m) x y = y
@@ -230,14 +247,16 @@ count_fresh d (e ∷ es) h = by_event (count_fresh d es) (e.client == d) refl (i
     by_event ih false is false opening s slot l after k = ih k
 
 -- the last client of the slot that was opened
-last_opened : (s g : ℕ) (es : List Event) → s < 256 → count_opened s es ≡ suc g → was_opened (phase_of (deeds_of (g * 256 + s) es)) ≡ true
+last_opened : (s g : ℕ) (es : List Event) → s < 256 → count_opened s es ≡ suc g
+    → was_opened (phase_of (deeds_of (g * 256 + s) es)) ≡ true
 last_opened s g [] low h = absurd (omega (arith, h))
 last_opened s g (e ∷ es) low h = by_event (last_opened s g es low) (e.client == g * 256 + s) refl (is_opening e.deed) refl (slot_of e.client == s) refl h
   where
     c : ℕ
     c = g * 256 + s
 
-    by_event : (count_opened s es ≡ suc g → was_opened (phase_of (deeds_of c es)) ≡ true) → (b : Bool) → (e.client == c) ≡ b → (o : Bool) → is_opening e.deed ≡ o → (t : Bool) → (slot_of e.client == s) ≡ t
+    by_event : (count_opened s es ≡ suc g → was_opened (phase_of (deeds_of c es)) ≡ true) → (b : Bool)
+        → (e.client == c) ≡ b → (o : Bool) → is_opening e.deed ≡ o → (t : Bool) → (slot_of e.client == s) ≡ t
         → cond (o && t) (generation_of e.client + 1) (count_opened s es) ≡ suc g
         → was_opened (phase_of (cond b (e.deed ∷ deeds_of c es) (cond (opens_later c e) (Retire ∷ deeds_of c es) (deeds_of c es)))) ≡ true
     by_event ih true is true opening t slot k = opens_it e.deed opening
@@ -250,7 +269,8 @@ last_opened s g (e ∷ es) low h = by_event (last_opened s g es low) (e.client =
         opens_it Retire x = absurd (true≢false (sym x))
     by_event ih true is false opening t slot k = stays e.deed (ih k)
       where
-        stays : (a : Deed) → was_opened (phase_of (deeds_of c es)) ≡ true → was_opened (phase_of (a ∷ deeds_of c es)) ≡ true
+        stays : (a : Deed) → was_opened (phase_of (deeds_of c es)) ≡ true
+            → was_opened (phase_of (a ∷ deeds_of c es)) ≡ true
         stays (Look w) x = x
         stays (Renew m old) x = x
         stays (Open m) x = refl
@@ -262,17 +282,20 @@ last_opened s g (e ∷ es) low h = by_event (last_opened s g es low) (e.client =
         absurd (true≢false (sym (eq-eqb e.client c number) ∙ is))
     by_event ih false is true opening false slot k = by_pass (opens_later c e) (ih k)
       where
-        by_pass : (p : Bool) → was_opened (phase_of (deeds_of c es)) ≡ true → was_opened (phase_of (cond p (Retire ∷ deeds_of c es) (deeds_of c es))) ≡ true
+        by_pass : (p : Bool) → was_opened (phase_of (deeds_of c es)) ≡ true
+            → was_opened (phase_of (cond p (Retire ∷ deeds_of c es) (deeds_of c es))) ≡ true
         by_pass true x = retired_is (deeds_of c es)
         by_pass false x = x
     by_event ih false is false opening t slot k = by_pass (opens_later c e) (ih k)
       where
-        by_pass : (p : Bool) → was_opened (phase_of (deeds_of c es)) ≡ true → was_opened (phase_of (cond p (Retire ∷ deeds_of c es) (deeds_of c es))) ≡ true
+        by_pass : (p : Bool) → was_opened (phase_of (deeds_of c es)) ≡ true
+            → was_opened (phase_of (cond p (Retire ∷ deeds_of c es) (deeds_of c es))) ≡ true
         by_pass true x = retired_is (deeds_of c es)
         by_pass false x = x
 
 -- Where no lease of the slot is open, the keeper knows its word
-pub at_rest : (table : State ℕ View) → Kept table → (at : ℕ) (v : View) → get_elem? table.views at ≡ some v → v.keeps ≡ true → (c : ℕ) → IsAloneIn (is_open_by v.own) c
+pub at_rest : (table : State ℕ View) → Kept table → (at : ℕ) (v : View) → get_elem? table.views at ≡ some v
+    → v.keeps ≡ true → (c : ℕ) → IsAloneIn (is_open_by v.own) c
     → slice_index table.words (slot_of c) ≡ resting_word_of (slot_of c) v.own
 at_rest table kept at v e keeper c idle = by_count (count_opened s v.own) refl
   where
@@ -300,8 +323,8 @@ at_rest table kept at v e keeper c idle = by_count (count_opened s v.own) refl
         closed_word g w (last.last g (omega (arith, is))) here
 
 -- a look shows a lease open only where the keeper opened it
-look_shown : {table : State ℕ View} (kept : Kept table) (at : ℕ) (v : View) (d : ℕ) → get_elem? table.views at ≡ some v
-    → saw_open (Look (part_at table.words d) ∷ deeds_of d v.own) ≡ true
+look_shown : {table : State ℕ View} (kept : Kept table) (at : ℕ) (v : View) (d : ℕ)
+    → get_elem? table.views at ≡ some v → saw_open (Look (part_at table.words d) ∷ deeds_of d v.own) ≡ true
     → (saw_open (deeds_of d v.own) ≡ true) ⊎ HasOpenedAt kept.keeper table.views d
 look_shown {table} kept at v d e h = by_stage one.stage refl one.stands h
   where
@@ -316,13 +339,15 @@ look_shown {table} kept at v d e h = by_stage one.stage refl one.stands h
         let fit = one.each kept.keeper kept.holds.0 kept.holds.1 in
         (kept.holds.0, kept.holds.1, standing_opened kept.holds.0.own d (ap is_standing ((fit.keeps kept.holds.2).1 ∙ is)))
 
-    by_stage : (p : Phase) → one.stage ≡ p → Stands d table.views p part → saw_open (Look part ∷ deeds_of d v.own) ≡ true
+    by_stage : (p : Phase) → one.stage ≡ p → Stands d table.views p part
+        → saw_open (Look part ∷ deeds_of d v.own) ≡ true
         → (saw_open (deeds_of d v.own) ≡ true) ⊎ HasOpenedAt kept.keeper table.views d
     by_stage Unopened is stands x = inl (subst (λ (n : ℕ). saw_open (Look n ∷ deeds_of d v.own) ≡ true) stands x)
     by_stage Standing is stands x = inr (opened is)
     by_stage (Ended k) is stands x = inl (subst (λ (n : ℕ). saw_open (Look n ∷ deeds_of d v.own) ≡ true) stands x)
 
-pub looks : (slots id : ℕ) (me : Me ℕ View) (d : ℕ) → Allows Kept slots id me (slot_of d) (λ n. n) (Looked d (step slots (slot_of d) 0 0 none) me)
+pub looks : (slots id : ℕ) (me : Me ℕ View) (d : ℕ)
+    → Allows Kept slots id me (slot_of d) (λ n. n) (Looked d (step slots (slot_of d) 0 0 none) me)
 looks slots id me d table kept len at low =
     let w = slice_index table.words (slot_of d) in
     let one = look_one kept.keeper d (part_at table.words d) table.views id me.0 at (kept.one d) in
@@ -338,7 +363,8 @@ looks slots id me d table kept len at low =
       ),
     )
 
-pub raises : (slots id : ℕ) (me : Me ℕ View) (d m k : ℕ) → IsMoment m → k ≡ word_with (generation_of d) (m + 1) → saw_open (deeds_of d me.0.own) ≡ true
+pub raises : (slots id : ℕ) (me : Me ℕ View) (d m k : ℕ) → IsMoment m → k ≡ word_with (generation_of d) (m + 1)
+    → saw_open (deeds_of d me.0.own) ≡ true
     → Allows Kept slots id me (slot_of d) (λ n. max n k) (Raised d (step slots (slot_of d) k 0 none) me)
 raises slots id me d m k small is seen table kept len at low =
     let n = slice_index table.words (slot_of d) in
@@ -361,7 +387,8 @@ raises slots id me d m k small is seen table kept len at low =
       (refl, told_step table id me.0 (with_event me.0 (event d (Renew (moment_in d k) w))) d (max n k) at kept.width new),
     )
 
-pub opens : (slots id : ℕ) (me : Me ℕ View) (d m from k : ℕ) → IsMoment m → k ≡ word_with (generation_of d) (m + 1) → me.0.keeps ≡ true → was_opened_by me.0.own d ≡ false
+pub opens : (slots id : ℕ) (me : Me ℕ View) (d m from k : ℕ) → IsMoment m
+    → k ≡ word_with (generation_of d) (m + 1) → me.0.keeps ≡ true → was_opened_by me.0.own d ≡ false
     → IsAloneIn (is_open_by me.0.own) d → from ≡ resting_word_of (slot_of d) me.0.own
     → Allows Kept slots id me (slot_of d) (λ n. either (n == from) k n) (Opened d (step slots (slot_of d) from k none) me)
 opens slots id me d m from k small is keeper never idle resting table kept len at low = (
@@ -415,14 +442,16 @@ opens slots id me d m from k small is keeper never idle resting table kept len a
         subst₂ (λ (x y : ℕ). RuleFor kept.keeper d x (set table.views id (with_event me.0 (event d (Open y))))) (sym (ap (part_in g) is ∙ read_here g (m + 1) part)) (sym back)
         (open_one kept.keeper d (part_at table.words d) table.views id me.0 at m small keeper one stage)
 
-    earlier : (c : ℕ) → slot_of d ≡ slot_of c → d ≢ c → is_earlier c d ≡ true → RuleFor kept.keeper c (part_in (generation_of c) k) views
+    earlier : (c : ℕ) → slot_of d ≡ slot_of c → d ≢ c → is_earlier c d ≡ true
+        → RuleFor kept.keeper c (part_in (generation_of c) k) views
     earlier c slots apart after =
         let less : generation_of c < g = grind (arith, nat_tests) in
         let same = (((kept.one c).each id me.0 at).keeps keeper).1 in
         subst (λ (x : ℕ). RuleFor kept.keeper c x views) (sym (ap (part_in (generation_of c)) is ∙ read_earlier g (generation_of c) (m + 1) less))
         (pass_one kept.keeper c (part_at table.words c) table.views id me.0 at d (moment_in d k) after keeper (kept.one c) (sym (ap is_standing same) ∙ idle c (sym slots)))
 
-    following : (c : ℕ) → slot_of d ≡ slot_of c → d ≢ c → is_earlier c d ≡ false → RuleFor kept.keeper c (part_in (generation_of c) k) views
+    following : (c : ℕ) → slot_of d ≡ slot_of c → d ≢ c → is_earlier c d ≡ false
+        → RuleFor kept.keeper c (part_in (generation_of c) k) views
     following c slots apart before =
         let more : g < generation_of c = grind (arith, nat_tests) in
         let low_word : n < word_with (generation_of c) 0 = omega (arith, below, more) in
@@ -438,7 +467,8 @@ opens slots id me d m from k small is keeper never idle resting table kept len a
         by_later true h = earlier c slots apart h
         by_later false h = following c slots apart h
 
-    turns : (j : ℕ) (u : View) → get_elem? views j ≡ some u → u.keeps ≡ true → IsWordOf k (count_opened (slot_of d) u.own) × AreInTurn u.own
+    turns : (j : ℕ) (u : View) → get_elem? views j ≡ some u → u.keeps ≡ true
+        → IsWordOf k (count_opened (slot_of d) u.own) × AreInTurn u.own
     turns = set_each (λ j u. u.keeps ≡ true → IsWordOf k (count_opened (slot_of d) u.own) × AreInTurn u.own) table.views id (with_event me.0 (event d (Open (moment_in d k))))
         (λ j u apart at_j keeps_too. absurd (apart (((one.each j u at_j).keeps keeps_too).0 ∙ sym ((one.each id me.0 at).keeps keeper).0)))
         (λ k_keeps. (subst (λ (x : ℕ). IsWordOf k x) (sym now_count) now_last, ((λ opening. (idle, never)), (λ x. absurd (true≢false (sym x))), (kept.turn id me.0 at keeper).in_turn)))
@@ -452,7 +482,8 @@ opens slots id me d m from k small is keeper never idle resting table kept len a
     new : Kept record { words = set table.words (slot_of d) k; homes = table.homes; views = views }
     new = step_keeps table kept id me.0 d (Open (moment_in d k)) k at (λ x. inl x) mine_new near turns
 
-pub closes : (slots id : ℕ) (me : Me ℕ View) (d seen now k j : ℕ) → IsMoment seen → k ≡ word_with (generation_of d) (seen + 1) → j ≡ word_with (generation_of d) closed_part
+pub closes : (slots id : ℕ) (me : Me ℕ View) (d seen now k j : ℕ) → IsMoment seen
+    → k ≡ word_with (generation_of d) (seen + 1) → j ≡ word_with (generation_of d) closed_part
     → me.0.keeps ≡ true → seen + me.0.lease < now
     → Allows Kept slots id me (slot_of d) (λ n. either (n == k) j n) (Tried d (step slots (slot_of d) k j (some now)) me)
 closes slots id me d seen now k j small is shut keeper due table kept len at low =
@@ -512,7 +543,8 @@ closes slots id me d seen now k j small is shut keeper due table kept len at low
         (λ p apart. refl)
         (λ c h. h)
 
-pub retires : (slots id : ℕ) (me : Me ℕ View) (d k : ℕ) → k ≡ word_with (generation_of d) closed_part → me.0.keeps ≡ true → was_opened_by me.0.own d ≡ true
+pub retires : (slots id : ℕ) (me : Me ℕ View) (d k : ℕ) → k ≡ word_with (generation_of d) closed_part
+    → me.0.keeps ≡ true → was_opened_by me.0.own d ≡ true
     → Allows Kept slots id me (slot_of d) (λ n. max n k) (Retired d (step slots (slot_of d) k 0 none) me)
 retires slots id me d k is keeper was table kept len at low =
     let n = slice_index table.words (slot_of d) in
@@ -542,28 +574,30 @@ pub looks_named : (slots id : ℕ) (me : Me ℕ View) (d name slot : ℕ) → d 
 looks_named slots id me d name slot named at =
     subst₂ (λ (c s : ℕ). Allows Kept slots id me s (λ n. n) (Looked c (step slots s 0 0 none) me)) named (sym at) (looks slots id me d)
 
-pub raises_named : (slots id : ℕ) (me : Me ℕ View) (d name slot m k : ℕ) → d ≡ name → slot ≡ slot_of d → IsMoment m → k ≡ word_with (generation_of d) (m + 1)
-    → saw_open (deeds_of d me.0.own) ≡ true
+pub raises_named : (slots id : ℕ) (me : Me ℕ View) (d name slot m k : ℕ) → d ≡ name → slot ≡ slot_of d
+    → IsMoment m → k ≡ word_with (generation_of d) (m + 1) → saw_open (deeds_of d me.0.own) ≡ true
     → Allows Kept slots id me slot (λ n. max n k) (Raised name (step slots slot k 0 none) me)
 raises_named slots id me d name slot m k named at small is seen =
     subst₂ (λ (c s : ℕ). Allows Kept slots id me s (λ n. max n k) (Raised c (step slots s k 0 none) me)) named (sym at) (raises slots id me d m k small is seen)
 
-pub opens_named : (slots id : ℕ) (me : Me ℕ View) (d name slot m from k : ℕ) → d ≡ name → slot ≡ slot_of d → IsMoment m → k ≡ word_with (generation_of d) (m + 1)
-    → me.0.keeps ≡ true → was_opened_by me.0.own d ≡ false
-    → IsAloneIn (is_open_by me.0.own) d → from ≡ resting_word_of (slot_of d) me.0.own
+pub opens_named : (slots id : ℕ) (me : Me ℕ View) (d name slot m from k : ℕ) → d ≡ name → slot ≡ slot_of d
+    → IsMoment m → k ≡ word_with (generation_of d) (m + 1) → me.0.keeps ≡ true
+    → was_opened_by me.0.own d ≡ false → IsAloneIn (is_open_by me.0.own) d
+    → from ≡ resting_word_of (slot_of d) me.0.own
     → Allows Kept slots id me slot (λ n. either (n == from) k n) (Opened name (step slots slot from k none) me)
 opens_named slots id me d name slot m from k named at small is keeper never idle resting =
     subst₂ (λ (c s : ℕ). Allows Kept slots id me s (λ n. either (n == from) k n) (Opened c (step slots s from k none) me)) named (sym at) (opens slots id me d m from k small is keeper never idle resting)
 
-pub closes_named : (slots id : ℕ) (me : Me ℕ View) (d name slot seen now k j : ℕ) → d ≡ name → slot ≡ slot_of d → IsMoment seen → k ≡ word_with (generation_of d) (seen + 1)
-    → j ≡ word_with (generation_of d) closed_part → me.0.keeps ≡ true → is_over seen me.0.lease now ≡ true
+pub closes_named : (slots id : ℕ) (me : Me ℕ View) (d name slot seen now k j : ℕ) → d ≡ name → slot ≡ slot_of d
+    → IsMoment seen → k ≡ word_with (generation_of d) (seen + 1) → j ≡ word_with (generation_of d) closed_part
+    → me.0.keeps ≡ true → is_over seen me.0.lease now ≡ true
     → Allows Kept slots id me slot (λ n. either (n == k) j n) (Tried name (step slots slot k j (some now)) me)
 closes_named slots id me d name slot seen now k j named at small is shut keeper due =
     subst₂ (λ (c s : ℕ). Allows Kept slots id me s (λ n. either (n == k) j n) (Tried c (step slots s k j (some now)) me)) named (sym at)
     (closes slots id me d seen now k j small is shut keeper (ltb-true (seen + me.0.lease) now due))
 
-pub retires_named : (slots id : ℕ) (me : Me ℕ View) (d name slot k : ℕ) → d ≡ name → slot ≡ slot_of d → k ≡ word_with (generation_of d) closed_part
-    → me.0.keeps ≡ true → was_opened_by me.0.own d ≡ true
+pub retires_named : (slots id : ℕ) (me : Me ℕ View) (d name slot k : ℕ) → d ≡ name → slot ≡ slot_of d
+    → k ≡ word_with (generation_of d) closed_part → me.0.keeps ≡ true → was_opened_by me.0.own d ≡ true
     → Allows Kept slots id me slot (λ n. max n k) (Retired name (step slots slot k 0 none) me)
 retires_named slots id me d name slot k named at is keeper was =
     subst₂ (λ (c s : ℕ). Allows Kept slots id me s (λ n. max n k) (Retired c (step slots s k 0 none) me)) named (sym at) (retires slots id me d k is keeper was)

@@ -43,14 +43,16 @@ later_is : (c d : ℕ) → is_earlier c d ≡ true → (slot_of d ≡ slot_of c)
 later_is c d h = (grind (arith, nat_tests), grind (arith, nat_tests))
 
 -- Who was opened or passed over: it, or a later one of its slot, has an opening
-pub opened_has : (es : List Event) → AreInTurn es → (c : ℕ) → was_opened (phase_of (deeds_of c es)) ≡ true → HasOpenedFrom c es
+pub opened_has : (es : List Event) → AreInTurn es → (c : ℕ) → was_opened (phase_of (deeds_of c es)) ≡ true
+    → HasOpenedFrom c es
 opened_has [] turn c h = absurd (true≢false (sym h))
 opened_has (e ∷ es) turn c h = by_client (λ k. opened_has es turn.2 c k) (e.client == c) refl (opens_later c e) refl h
   where
     newest : is_opening e.deed ≡ true → slot_of e.client ≡ slot_of c → c ≤ e.client → HasOpenedFrom c (e ∷ es)
     newest opening slot up = let o = opening_has e opening in (e.client, slot, up, (o.0, (zero, omega arith, o.1)))
 
-    by_deed : (was_opened (phase_of (deeds_of c es)) ≡ true → HasOpenedFrom c es) → e.client ≡ c → (a : Deed) → e.deed ≡ a → was_opened (phase_of (a ∷ deeds_of c es)) ≡ true → HasOpenedFrom c (e ∷ es)
+    by_deed : (was_opened (phase_of (deeds_of c es)) ≡ true → HasOpenedFrom c es) → e.client ≡ c → (a : Deed)
+        → e.deed ≡ a → was_opened (phase_of (a ∷ deeds_of c es)) ≡ true → HasOpenedFrom c (e ∷ es)
     by_deed ih same (Look w) is k = later_more c e es (ih k)
     by_deed ih same (Renew m old) is k = later_more c e es (ih k)
     by_deed ih same (Open m) is k = newest (ap is_opening is) (ap slot_of same) (omega (arith, same))
@@ -58,12 +60,15 @@ opened_has (e ∷ es) turn c h = by_client (λ k. opened_has es turn.2 c k) (e.c
     by_deed ih same (Close seen now false) is k = later_more c e es (ih k)
     by_deed ih same Retire is k = later_more c e es (ih (subst (λ (n : ℕ). was_opened (phase_of (deeds_of n es)) ≡ true) same (turn.1 (ap is_ending is))))
 
-    by_client : (was_opened (phase_of (deeds_of c es)) ≡ true → HasOpenedFrom c es) → (b : Bool) → (e.client == c) ≡ b → (p : Bool) → opens_later c e ≡ p
-        → was_opened (phase_of (cond b (e.deed ∷ deeds_of c es) (cond p (Retire ∷ deeds_of c es) (deeds_of c es)))) ≡ true → HasOpenedFrom c (e ∷ es)
+    by_client : (was_opened (phase_of (deeds_of c es)) ≡ true → HasOpenedFrom c es) → (b : Bool)
+        → (e.client == c) ≡ b → (p : Bool) → opens_later c e ≡ p
+        → was_opened (phase_of (cond b (e.deed ∷ deeds_of c es) (cond p (Retire ∷ deeds_of c es) (deeds_of c es)))) ≡ true
+        → HasOpenedFrom c (e ∷ es)
     by_client ih true same p is k = by_deed ih (eqb-true e.client c same) e.deed refl k
     by_client ih false other true is k = by_pass (is_opening e.deed) refl (is_earlier c e.client) refl is
       where
-        by_pass : (o : Bool) → is_opening e.deed ≡ o → (l : Bool) → is_earlier c e.client ≡ l → (o && l) ≡ true → HasOpenedFrom c (e ∷ es)
+        by_pass : (o : Bool) → is_opening e.deed ≡ o → (l : Bool) → is_earlier c e.client ≡ l → (o && l) ≡ true
+            → HasOpenedFrom c (e ∷ es)
         by_pass true opening true after x = let l = later_is c e.client after in newest opening l.0 l.1
         by_pass true opening false after x = absurd (true≢false (sym x))
         by_pass false opening l after x = absurd (true≢false (sym x))
@@ -74,7 +79,8 @@ pub has_opened : (es : List Event) (c : ℕ) → HasOpenedFrom c es → was_open
 has_opened [] c h = absurd (omega (arith, h.3.1.1))
 has_opened (e ∷ es) c h = by_place (λ k. has_opened es c k) (contains_cons e es (event h.0 (Open h.3.0)) h.3.1)
   where
-    stays : (a : Deed) (ds : List Deed) → was_opened (phase_of ds) ≡ true → was_opened (phase_of (a ∷ ds)) ≡ true
+    stays : (a : Deed) (ds : List Deed) → was_opened (phase_of ds) ≡ true
+        → was_opened (phase_of (a ∷ ds)) ≡ true
     stays (Look w) ds x = x
     stays (Renew m old) ds x = x
     stays (Open m) ds x = refl
@@ -82,20 +88,25 @@ has_opened (e ∷ es) c h = by_place (λ k. has_opened es c k) (contains_cons e 
     stays (Close seen now false) ds x = x
     stays Retire ds x = all_retired (phase_of ds)
 
-    by_tests : (b p : Bool) (a : Deed) (ds : List Deed) → was_opened (phase_of ds) ≡ true → was_opened (phase_of (cond b (a ∷ ds) (cond p (Retire ∷ ds) ds))) ≡ true
+    by_tests : (b p : Bool) (a : Deed) (ds : List Deed) → was_opened (phase_of ds) ≡ true
+        → was_opened (phase_of (cond b (a ∷ ds) (cond p (Retire ∷ ds) ds))) ≡ true
     by_tests true p a ds x = stays a ds x
     by_tests false true a ds x = all_retired (phase_of ds)
     by_tests false false a ds x = x
 
-    here : (d m : ℕ) → slot_of d ≡ slot_of c → c ≤ d → was_opened (phase_of (deeds_of c (event d (Open m) ∷ es))) ≡ true
+    here : (d m : ℕ) → slot_of d ≡ slot_of c → c ≤ d
+        → was_opened (phase_of (deeds_of c (event d (Open m) ∷ es))) ≡ true
     here d m slot up = by_same (d == c) refl (is_earlier c d) refl
       where
-        by_same : (b : Bool) → (d == c) ≡ b → (l : Bool) → is_earlier c d ≡ l → was_opened (phase_of (cond b (Open m ∷ deeds_of c es) (cond l (Retire ∷ deeds_of c es) (deeds_of c es)))) ≡ true
+        by_same : (b : Bool) → (d == c) ≡ b → (l : Bool) → is_earlier c d ≡ l
+            → was_opened (phase_of (cond b (Open m ∷ deeds_of c es) (cond l (Retire ∷ deeds_of c es) (deeds_of c es)))) ≡ true
         by_same true x l y = refl
         by_same false x true y = all_retired (phase_of (deeds_of c es))
         by_same false x false y = absurd (grind (arith, nat_tests))
 
-    by_place : (HasOpenedFrom c es → was_opened (phase_of (deeds_of c es)) ≡ true) → (e ≡ event h.0 (Open h.3.0)) ⊎ Contains es (event h.0 (Open h.3.0)) → was_opened (phase_of (deeds_of c (e ∷ es))) ≡ true
+    by_place : (HasOpenedFrom c es → was_opened (phase_of (deeds_of c es)) ≡ true)
+        → (e ≡ event h.0 (Open h.3.0)) ⊎ Contains es (event h.0 (Open h.3.0))
+        → was_opened (phase_of (deeds_of c (e ∷ es))) ≡ true
     by_place ih x =
         ⊎_elim
         (λ (is : e ≡ event h.0 (Open h.3.0)). subst (λ (y : Event). was_opened (phase_of (deeds_of c (y ∷ es))) ≡ true) (sym is) (here h.0 h.3.0 h.1 h.2))
@@ -110,8 +121,10 @@ count_has s n (e ∷ es) low h = by_event (λ k. count_has s n es low k) (is_ope
     more : HasOpened (n * 256 + s) es → HasOpened (n * 256 + s) (e ∷ es)
     more x = (x.0, in_more (event (n * 256 + s) (Open x.0)) e es x.1)
 
-    by_event : (count_opened s es ≡ suc n → HasOpened (n * 256 + s) es) → (o : Bool) → is_opening e.deed ≡ o → (t : Bool) → (slot_of e.client == s) ≡ t
-        → cond (o && t) (generation_of e.client + 1) (count_opened s es) ≡ suc n → HasOpened (n * 256 + s) (e ∷ es)
+    by_event : (count_opened s es ≡ suc n → HasOpened (n * 256 + s) es) → (o : Bool) → is_opening e.deed ≡ o
+        → (t : Bool) → (slot_of e.client == s) ≡ t
+        → cond (o && t) (generation_of e.client + 1) (count_opened s es) ≡ suc n
+        → HasOpened (n * 256 + s) (e ∷ es)
     by_event ih true opening true slot k =
         let o = opening_has e opening in
         let is : e.client ≡ n * 256 + s = grind (arith, nat_tests) in
@@ -120,12 +133,14 @@ count_has s n (e ∷ es) low h = by_event (λ k. count_has s n es low k) (is_ope
     by_event ih false opening t slot k = more (ih k)
 
 -- A client that was opened itself is live by its own events alone exactly where it is by all of the slot's
-pub alone_live : (es : List Event) → AreInTurn es → (c : ℕ) → was_opened (phase_of (own_deeds_of c es)) ≡ true → is_standing (phase_of (own_deeds_of c es)) ≡ is_standing (phase_of (deeds_of c es))
+pub alone_live : (es : List Event) → AreInTurn es → (c : ℕ) → was_opened (phase_of (own_deeds_of c es)) ≡ true
+    → is_standing (phase_of (own_deeds_of c es)) ≡ is_standing (phase_of (deeds_of c es))
 alone_live [] turn c h = refl
 alone_live (e ∷ es) turn c h = by_client (λ k. alone_live es turn.2 c k) (e.client == c) refl (opens_later c e) refl h
   where
-    by_deed : (was_opened (phase_of (own_deeds_of c es)) ≡ true → is_standing (phase_of (own_deeds_of c es)) ≡ is_standing (phase_of (deeds_of c es))) → (a : Deed)
-        → was_opened (phase_of (a ∷ own_deeds_of c es)) ≡ true → is_standing (phase_of (a ∷ own_deeds_of c es)) ≡ is_standing (phase_of (a ∷ deeds_of c es))
+    by_deed : (was_opened (phase_of (own_deeds_of c es)) ≡ true → is_standing (phase_of (own_deeds_of c es)) ≡ is_standing (phase_of (deeds_of c es)))
+        → (a : Deed) → was_opened (phase_of (a ∷ own_deeds_of c es)) ≡ true
+        → is_standing (phase_of (a ∷ own_deeds_of c es)) ≡ is_standing (phase_of (a ∷ deeds_of c es))
     by_deed ih (Look w) k = ih k
     by_deed ih (Renew m old) k = ih k
     by_deed ih (Open m) k = refl
@@ -136,12 +151,14 @@ alone_live (e ∷ es) turn c h = by_client (λ k. alone_live es turn.2 c k) (e.c
     idle : opens_later c e ≡ true → is_standing (phase_of (deeds_of c es)) ≡ false
     idle is = by_pass (is_opening e.deed) refl (is_earlier c e.client) refl is
       where
-        by_pass : (o : Bool) → is_opening e.deed ≡ o → (l : Bool) → is_earlier c e.client ≡ l → (o && l) ≡ true → is_standing (phase_of (deeds_of c es)) ≡ false
+        by_pass : (o : Bool) → is_opening e.deed ≡ o → (l : Bool) → is_earlier c e.client ≡ l → (o && l) ≡ true
+            → is_standing (phase_of (deeds_of c es)) ≡ false
         by_pass true opening true after x = let l = later_is c e.client after in (turn.0 opening).0 c (sym l.0)
         by_pass true opening false after x = absurd (true≢false (sym x))
         by_pass false opening l after x = absurd (true≢false (sym x))
 
-    by_client : (was_opened (phase_of (own_deeds_of c es)) ≡ true → is_standing (phase_of (own_deeds_of c es)) ≡ is_standing (phase_of (deeds_of c es))) → (b : Bool) → (e.client == c) ≡ b → (p : Bool) → opens_later c e ≡ p
+    by_client : (was_opened (phase_of (own_deeds_of c es)) ≡ true → is_standing (phase_of (own_deeds_of c es)) ≡ is_standing (phase_of (deeds_of c es)))
+        → (b : Bool) → (e.client == c) ≡ b → (p : Bool) → opens_later c e ≡ p
         → was_opened (phase_of (cond b (e.deed ∷ own_deeds_of c es) (own_deeds_of c es))) ≡ true
         → is_standing (phase_of (cond b (e.deed ∷ own_deeds_of c es) (own_deeds_of c es))) ≡ is_standing (phase_of (cond b (e.deed ∷ deeds_of c es) (cond p (Retire ∷ deeds_of c es) (deeds_of c es))))
     by_client ih true same p is k = by_deed ih e.deed k
@@ -153,7 +170,8 @@ pub has_own : (es : List Event) (c : ℕ) → HasOpened c es → was_opened (pha
 has_own [] c h = absurd (omega (arith, h.1.1))
 has_own (e ∷ es) c h = by_place (λ k. has_own es c k) (contains_cons e es (event c (Open h.0)) h.1)
   where
-    stays : (a : Deed) (ds : List Deed) → was_opened (phase_of ds) ≡ true → was_opened (phase_of (a ∷ ds)) ≡ true
+    stays : (a : Deed) (ds : List Deed) → was_opened (phase_of ds) ≡ true
+        → was_opened (phase_of (a ∷ ds)) ≡ true
     stays (Look w) ds x = x
     stays (Renew m old) ds x = x
     stays (Open m) ds x = refl
@@ -161,14 +179,17 @@ has_own (e ∷ es) c h = by_place (λ k. has_own es c k) (contains_cons e es (ev
     stays (Close seen now false) ds x = x
     stays Retire ds x = all_retired (phase_of ds)
 
-    by_test : (b : Bool) (a : Deed) (ds : List Deed) → was_opened (phase_of ds) ≡ true → was_opened (phase_of (cond b (a ∷ ds) ds)) ≡ true
+    by_test : (b : Bool) (a : Deed) (ds : List Deed) → was_opened (phase_of ds) ≡ true
+        → was_opened (phase_of (cond b (a ∷ ds) ds)) ≡ true
     by_test true a ds x = stays a ds x
     by_test false a ds x = x
 
     here : was_opened (phase_of (own_deeds_of c (event c (Open h.0) ∷ es))) ≡ true
     here = ap (λ (b : Bool). was_opened (phase_of (cond b (Open h.0 ∷ own_deeds_of c es) (own_deeds_of c es)))) (eq-eqb c c refl)
 
-    by_place : (HasOpened c es → was_opened (phase_of (own_deeds_of c es)) ≡ true) → (e ≡ event c (Open h.0)) ⊎ Contains es (event c (Open h.0)) → was_opened (phase_of (own_deeds_of c (e ∷ es))) ≡ true
+    by_place : (HasOpened c es → was_opened (phase_of (own_deeds_of c es)) ≡ true)
+        → (e ≡ event c (Open h.0)) ⊎ Contains es (event c (Open h.0))
+        → was_opened (phase_of (own_deeds_of c (e ∷ es))) ≡ true
     by_place ih x =
         ⊎_elim (λ (is : e ≡ event c (Open h.0)). subst (λ (y : Event). was_opened (phase_of (own_deeds_of c (y ∷ es))) ≡ true) (sym is) here)
         (λ (rest : Contains es (event c (Open h.0))). by_test (e.client == c) e.deed (own_deeds_of c es) (ih (h.0, rest)))
@@ -182,7 +203,8 @@ standing_opened (e ∷ es) c h = by_client (λ k. standing_opened es c k) (e.cli
     more : HasOpened c es → HasOpened c (e ∷ es)
     more x = (x.0, in_more (event c (Open x.0)) e es x.1)
 
-    by_deed : (is_standing (phase_of (deeds_of c es)) ≡ true → HasOpened c es) → e.client ≡ c → (a : Deed) → e.deed ≡ a → is_standing (phase_of (a ∷ deeds_of c es)) ≡ true → HasOpened c (e ∷ es)
+    by_deed : (is_standing (phase_of (deeds_of c es)) ≡ true → HasOpened c es) → e.client ≡ c → (a : Deed)
+        → e.deed ≡ a → is_standing (phase_of (a ∷ deeds_of c es)) ≡ true → HasOpened c (e ∷ es)
     by_deed ih same (Look w) is k = more (ih k)
     by_deed ih same (Renew m old) is k = more (ih k)
     by_deed ih same (Open m) is k = (m, (zero, omega arith, ap (λ (n : ℕ). event n e.deed) same ∙ ap (event c) is))
@@ -190,8 +212,10 @@ standing_opened (e ∷ es) c h = by_client (λ k. standing_opened es c k) (e.cli
     by_deed ih same (Close seen now false) is k = more (ih k)
     by_deed ih same Retire is k = absurd (true≢false (sym k ∙ not_live (phase_of (deeds_of c es))))
 
-    by_client : (is_standing (phase_of (deeds_of c es)) ≡ true → HasOpened c es) → (b : Bool) → (e.client == c) ≡ b → (p : Bool)
-        → is_standing (phase_of (cond b (e.deed ∷ deeds_of c es) (cond p (Retire ∷ deeds_of c es) (deeds_of c es)))) ≡ true → HasOpened c (e ∷ es)
+    by_client : (is_standing (phase_of (deeds_of c es)) ≡ true → HasOpened c es) → (b : Bool)
+        → (e.client == c) ≡ b → (p : Bool)
+        → is_standing (phase_of (cond b (e.deed ∷ deeds_of c es) (cond p (Retire ∷ deeds_of c es) (deeds_of c es)))) ≡ true
+        → HasOpened c (e ∷ es)
     by_client ih true same p k = by_deed ih (eqb-true e.client c same) e.deed refl k
     by_client ih false other true k = absurd (true≢false (sym k ∙ not_live (phase_of (deeds_of c es))))
     by_client ih false other false k = more (ih k)

@@ -64,8 +64,8 @@ part_of lease_state.Closed = closed_part
 abbrev pub Shows : Sitting → ℕ → LeaseState → Sitting → Type 0
 Shows old client answer new = new ≡ with_events old (event client (Look (part_of answer)) ∷ [])
 
--- A renewal adds its look, and behind one that showed the lease open its raise, with the part that was found. It is answered as
--- renewed where that wasn't the closed one, and as unknown where the look showed the lease vacant.
+-- A renewal adds its look, and behind one that showed the lease open its raise, with the part that was found. It is
+-- answered as renewed where that wasn't the closed one, and as unknown where the look showed the lease vacant.
 abbrev pub Renews : Sitting → ℕ → ℕ → Renewal → Sitting → Type 0
 Renews old client moment renewal.Renewed new =
     (seen found : ℕ) × IsMoment seen × (found ≢ closed_part) × (seen < found)
@@ -88,8 +88,9 @@ Raises old client moment renewal.Closed new =
     new ≡ with_events old (event client (Renew moment closed_part) ∷ [])
 Raises old client moment renewal.Unknown new = ⊥
 
--- To confer adds one look to each of two seats, the second's first. Between the two looks it puts a copy of the second seat's
--- events beside the first's. The first seat's look shows the lease closed where the second's events have an end of it.
+-- To confer adds one look to each of two seats, the second's first. Between the two looks it puts a copy of the second
+-- seat's events beside the first's. The first seat's look shows the lease closed where the second's events have an end
+-- of it.
 abbrev pub Confers : ℕ → Sitting → Sitting → Sitting → Sitting → Type 0
 Confers client first second new_first new_second =
     (later earlier : ℕ)

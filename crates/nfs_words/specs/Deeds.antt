@@ -46,8 +46,8 @@ own_deeds_of client (event ∷ events) =
     if event.client == client then event.deed ∷ own_deeds_of client events
     else own_deeds_of client events
 
--- The greatest part that the lease is known to have had while it was open: a moment and 1 of an opening or of an answered
--- renewal, or what a look showed; 0 where nothing is known.
+-- The greatest part that the lease is known to have had while it was open: a moment and 1 of an opening or of an
+-- answered renewal, or what a look showed; 0 where nothing is known.
 abbrev pub greatest_part : List Deed → ℕ
 greatest_part [] = 0
 greatest_part (Look part ∷ deeds) =
@@ -109,10 +109,10 @@ wrote part (Retire ∷ deeds) = wrote part deeds
 abbrev pub may_find : ℕ → List Deed → Bool
 may_find part deeds = not (saw_end deeds) && nat_le (greatest_part deeds) part
 
--- A deed may follow the earlier ones of its seat. A look shows a lease as vacant only where nothing was known of it, and as
--- open only where it may be found so. A renewal comes after a look that showed the lease open, and finds it open only where it
--- may. An opening comes where nothing was known of the lease. A closing comes when the lease is over, and is done only where
--- the lease may be found as it was seen.
+-- A deed may follow the earlier ones of its seat. A look shows a lease as vacant only where nothing was known of it,
+-- and as open only where it may be found so. A renewal comes after a look that showed the lease open, and finds it open
+-- only where it may. An opening comes where nothing was known of the lease. A closing comes when the lease is over, and
+-- is done only where the lease may be found as it was seen.
 abbrev pub may_follow : ℕ → Deed → List Deed → Bool
 may_follow lease (Look part) deeds =
     if part == 0 then not (knows deeds)
@@ -129,8 +129,8 @@ abbrev pub in_order : ℕ → List Deed → Bool
 in_order lease [] = true
 in_order lease (deed ∷ deeds) = may_follow lease deed deeds && in_order lease deeds
 
--- Where a lease stands by the deeds of its keeper: it was never opened, it is open, or it has ended, after which no answered
--- renewal is known whose part is above this bound.
+-- Where a lease stands by the deeds of its keeper: it was never opened, it is open, or it has ended, after which no
+-- answered renewal is known whose part is above this bound.
 pub data Phase : Type 0 where
   Unopened : Phase
   Standing : Phase

@@ -12,8 +12,8 @@ use Rattle.nfs_words.specs.declared.event.Deed.{Deed}
 use Rattle.nfs_words.specs.declared.event.Deed.TheVariants.{Look, Renew, Open, Close, Retire}
 use Rattle.nfs_words.specs.declared.rule.View.{View}
 
--- Two lists of deeds of one client are each in order, and what the one knows of the lease while it was open fits each closing
--- of both.
+-- Two lists of deeds of one client are each in order, and what the one knows of the lease while it was open fits each
+-- closing of both.
 pub record Agrees (lease : ℕ) (own beside : List Deed) : Type 0 where
   pub order : IsTrue (in_order lease own)
   pub order_beside : IsTrue (in_order lease beside)
@@ -23,7 +23,8 @@ pub record Agrees (lease : ℕ) (own beside : List Deed) : Type 0 where
 
 -- what the rule says of one view by itself
 abbrev pub IsSound : View → Type 0
-IsSound view = (client : ℕ) → Agrees view.lease (deeds_of client view.own) (deeds_of client view.beside)
+IsSound view =
+    (client : ℕ) → Agrees view.lease (deeds_of client view.own) (deeds_of client view.beside)
 
 -- what part a lease has in each phase
 abbrev pub IsPartIn : Phase → ℕ → Type 0
@@ -31,8 +32,8 @@ IsPartIn Unopened part = part ≡ 0
 IsPartIn Standing part = (0 < part) × (part < closed_part)
 IsPartIn (Ended bound) part = part ≡ closed_part
 
--- What a seat with this view is told of a client who reads this part: the part is that of a phase, for the keeper of the one
--- that its own deeds make; and it is the closed one where the view has an end of the lease.
+-- What a seat with this view is told of a client who reads this part: the part is that of a phase, for the keeper of
+-- the one that its own deeds make; and it is the closed one where the view has an end of the lease.
 pub record IsTold (client part : ℕ) (view : View) : Type 0 where
   pub stage : Phase
   pub part_is : IsPartIn stage part

@@ -10,9 +10,9 @@ use Rattle.nfs_words.specs.declared.event.Deed.{Deed}
 use Rattle.nfs_words.specs.declared.event.Event.{Event}
 use Rattle.nfs_words.specs.declared.rule.View.{View}
 
--- What a lease's phase and part say of any seat's deeds of its client. Of a lease that was never opened nobody knows. Of one
--- that is open nobody saw an end, and nobody knows of a greater part. Of one that ended nobody knows of an open part above the
--- bound, and no closing saw a lesser one.
+-- What a lease's phase and part say of any seat's deeds of its client. Of a lease that was never opened nobody knows.
+-- Of one that is open nobody saw an end, and nobody knows of a greater part. Of one that ended nobody knows of an open
+-- part above the bound, and no closing saw a lesser one.
 abbrev pub FitsPhase : Phase → ℕ → List Deed → Type 0
 FitsPhase Unopened part deeds =
     IsFalse (knows deeds) × IsFalse (saw_end deeds)
@@ -35,8 +35,8 @@ Stands client views Standing part =
     × IsTrue (wrote part (deeds_of client view.own)))
 Stands client views (Ended bound) part = part ≡ closed_part
 
--- The view of the seat at this place fits the client's phase and part: only the keeper's is a keeper's, and its deeds make the
--- phase.
+-- The view of the seat at this place fits the client's phase and part: only the keeper's is a keeper's, and its deeds
+-- make the phase.
 pub record FitsView (keeper client : ℕ) (phase : Phase) (part at : ℕ) (view : View) : Type 0 where
   pub keeps : view.keeps ≡ true → (at ≡ keeper) × (phase_of (deeds_of client view.own) ≡ phase)
   pub own : AreLawful view.lease phase part (deeds_of client view.own)
@@ -74,8 +74,8 @@ pub record FitsKeeper (words : List ℕ) (own : List Event) : Type 0 where
   pub words_are : (slot : ℕ) → IsWordOf (slice_index words slot) (count_opened slot own)
   pub in_turn : AreInTurn own
 
--- There is one keeper, whose events are in turn and fit the words. The rule holds for each client, and who saw a lease open saw
--- one that the keeper opened.
+-- There is one keeper, whose events are in turn and fit the words. The rule holds for each client, and who saw a lease
+-- open saw one that the keeper opened.
 pub record Kept (table : State ℕ View) : Type 0 where
   pub width : length table.words ≡ SLOTS
   pub keeper : ℕ

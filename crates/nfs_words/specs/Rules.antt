@@ -1,4 +1,5 @@
--- What holds at any time of the words and of all seats, between any two steps of any of them, in terms of single events.
+-- What holds at any time of the words and of all seats, between any two steps of any of them, in terms of single
+-- events.
 use Rattle.std.specs.Prelude.{◌≡◌, ◌≢◌, ◌⊎◌, ℕ, ◌+◌, ◌<◌, ◌≤◌, max, true, IsFalse, IsTrue, List, Contains, slice_index}
 use mathlib.Core.Option.{some}
 use lib.ListN.{get_elem?}
@@ -51,8 +52,8 @@ IsLast client events =
 abbrev pub HasEndedAlone : ℕ → List Event → Type 0
 HasEndedAlone client events = IsFalse (is_standing (phase_of (own_deeds_of client events)))
 
--- The words follow the keeper. A word is 0 exactly where no generation of its slot was opened. Else it is of the last one
--- opened, and closed exactly where that one was closed or retired.
+-- The words follow the keeper. A word is 0 exactly where no generation of its slot was opened. Else it is of the last
+-- one opened, and closed exactly where that one was closed or retired.
 pub record WordsFollow (table : State ℕ View) (own : List Event) : Type 0 where
   pub no_word : (slot : ℕ) → slot < SLOTS
       → (slice_index table.words slot ≡ 0
@@ -67,9 +68,9 @@ pub record WordsFollow (table : State ℕ View) (own : List Event) : Type 0 wher
       × (HasEndedAlone client own
       → slot_word table client ≡ word_with (generation_of client) closed_part)
 
--- And so does what each client reads: that its lease is vacant exactly where neither it nor a later one of its slot was opened,
--- and closed exactly where one of them was and its own isn't open. So a renewal is answered, which is where its raise finds
--- another part than the closed one, only while the keeper hasn't ended the lease.
+-- And so does what each client reads: that its lease is vacant exactly where neither it nor a later one of its slot was
+-- opened, and closed exactly where one of them was and its own isn't open. So a renewal is answered, which is where its
+-- raise finds another part than the closed one, only while the keeper hasn't ended the lease.
 pub record PartsFollow (table : State ℕ View) (own : List Event) : Type 0 where
   pub vacant : (client : ℕ)
       → (client_part table client ≡ 0 → ¬ HasOpenedFrom client own)
@@ -80,8 +81,8 @@ pub record PartsFollow (table : State ℕ View) (own : List Event) : Type 0 wher
       × (IsTrue (was_opened_by own client) → IsFalse (is_open_by own client)
       → client_part table client ≡ closed_part)
 
--- The part of an open lease is a moment and 1, at which some seat opened the lease, or renewed it and was answered. It is no less
--- than that of any opening, answered renewal or look of any seat.
+-- The part of an open lease is a moment and 1, at which some seat opened the lease, or renewed it and was answered. It
+-- is no less than that of any opening, answered renewal or look of any seat.
 pub record PartsAreGreatest (table : State ℕ View) (own : List Event) : Type 0 where
   pub written : (client : ℕ) → IsTrue (is_open_by own client)
       → (moment : ℕ) × (client_part table client ≡ moment + 1)
@@ -99,9 +100,9 @@ pub record PartsAreGreatest (table : State ℕ View) (own : List Event) : Type 0
       → Contains events (event client (Renew moment found)) → found ≢ closed_part
       → moment + 1 ≤ client_part table client
 
--- Nobody knows of what the keeper didn't do. Who saw a lease open, or took the step of a renewal, did so of one that the keeper
--- opened. Who knows of a lease knows of one that the keeper opened, or of which it opened a later one of the slot. Where its end
--- was seen or made, it reads as closed.
+-- Nobody knows of what the keeper didn't do. Who saw a lease open, or took the step of a renewal, did so of one that
+-- the keeper opened. Who knows of a lease knows of one that the keeper opened, or of which it opened a later one of the
+-- slot. Where its end was seen or made, it reads as closed.
 pub record KnownWasDone (table : State ℕ View) (own : List Event) : Type 0 where
   pub seen : (client : ℕ) (view : View) (events : List Event)
       → IsSeated table view → HasEvents view events
@@ -116,8 +117,8 @@ pub record KnownWasDone (table : State ℕ View) (own : List Event) : Type 0 whe
       → IsSeated table view → HasEvents view events
       → IsTrue (saw_end (deeds_of client events)) → client_part table client ≡ closed_part
 
--- No renewal that any seat was answered comes after the moment that a closing saw. By each seat none is answered after an end,
--- each comes after a look that showed the lease open, and no look shows a lease as vacant that was known.
+-- No renewal that any seat was answered comes after the moment that a closing saw. By each seat none is answered after
+-- an end, each comes after a look that showed the lease open, and no look shows a lease as vacant that was known.
 pub record NothingIsLate (table : State ℕ View) : Type 0 where
   pub none_late : (one other : View) (renewals closings : List Event)
       → IsSeated table one → HasEvents one renewals
@@ -130,9 +131,9 @@ pub record NothingIsLate (table : State ℕ View) : Type 0 where
   pub never_vacant : (view : View) (events : List Event)
       → IsSeated table view → HasEvents view events → NeverVacantAgain events
 
--- The generations of a slot are apart. What a client reads whose lease was opened goes by its own events alone. A renewal of an
--- earlier generation than one that was opened leaves the word as it was, and finds its own lease closed. Of the leases of a slot
--- one at most is open.
+-- The generations of a slot are apart. What a client reads whose lease was opened goes by its own events alone. A
+-- renewal of an earlier generation than one that was opened leaves the word as it was, and finds its own lease closed.
+-- Of the leases of a slot one at most is open.
 pub record GenerationsAreApart (table : State ℕ View) (own : List Event) : Type 0 where
   pub alone : (client : ℕ) → HasOpened client own
       → (client_part table client ≢ 0)
@@ -175,8 +176,8 @@ KeeperHas client table deeds =
     (keeper : View) × IsSeated table keeper × (keeper.keeps ≡ true)
     × HasOpened client keeper.own × (own_deeds_of client keeper.own ≡ deeds)
 
--- What is found of a lease that was opened goes by the client's own events alone, whatever became of all others: where these
--- are the same at two tables, so is what the client reads.
+-- What is found of a lease that was opened goes by the client's own events alone, whatever became of all others: where
+-- these are the same at two tables, so is what the client reads.
 abbrev pub AnswersAlone : Type 0
 AnswersAlone =
     (one other : State ℕ View) → Kept one → Kept other

@@ -6,8 +6,8 @@ use Rattle.nfs_words.specs.Words.{closed_part}
 use Rattle.nfs_words.specs.declared.event.Deed.TheVariants.{Look, Renew, Close}
 use Rattle.nfs_words.specs.declared.event.Event.{Event}
 
--- No answered renewal that the one list has comes after the moment that a closing of the other saw, where the closing was done:
--- by then the lease was over since.
+-- No answered renewal that the one list has comes after the moment that a closing of the other saw, where the closing
+-- was done: by then the lease was over since.
 pub record NoneLate (lease : ℕ) (renewals closings : List Event) : Type 0 where
   pub moments : (client moment found seen now : ℕ)
       → Contains renewals (event client (Renew moment found)) → found ≢ closed_part

@@ -1,6 +1,6 @@
--- The words of the table, one for each slot of clients' numbers. A word has a generation of its slot and a part: it is the
--- generation times 2^40, and the part. The part is a moment and 1 where the lease of that generation is open, and 2^40 - 1
--- where it was closed or retired. A word is 0 where no lease of its slot was opened.
+-- The words of the table, one for each slot of clients' numbers. A word has a generation of its slot and a part: it is
+-- the generation times 2^40, and the part. The part is a moment and 1 where the lease of that generation is open, and
+-- 2^40 - 1 where it was closed or retired. A word is 0 where no lease of its slot was opened.
 use Rattle.std.specs.Prelude.{ℕ, ◌+◌, ◌-◌, ◌*◌, ◌^◌, ◌<◌, if◌then◌else◌, nat_lt, List, slice_index}
 use Rattle.nfs_owners.specs.Slots.{generation_of, slot_of}
 
@@ -16,8 +16,8 @@ closed_part = 1099511627775
 abbrev pub word_with : ℕ → ℕ → ℕ
 word_with generation part = generation * 1099511627776 + part
 
--- What a generation reads in a word: of an earlier generation's word that it is vacant, of a later one's that it is closed, and
--- of its own the part.
+-- What a generation reads in a word: of an earlier generation's word that it is vacant, of a later one's that it is
+-- closed, and of its own the part.
 abbrev pub part_in : ℕ → ℕ → ℕ
 part_in generation word =
     if nat_lt word (word_with generation 0) then 0

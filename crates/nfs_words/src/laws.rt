@@ -1,6 +1,7 @@
 ghost use Rattle.nfs_words.specs.Rules.{AnswersAlone, RulesHold};
 
-/// The law that the table's rule, which holds between any two steps, says of the words and of all seats what `Rules` has.
+/// The law that the table's rule, which holds between any two steps, says of the words and of all seats what `Rules`
+/// has.
 pub fn rules_hold()
     ensures { RulesHold }
 {}

@@ -4,8 +4,8 @@ use crate::rule::View;
 use atomic_table::Seat;
 use std::marker::Model;
 
-/// A seat at the table of lease words, by which whoever has it makes its calls on them. It takes no bytes. Contracts see
-/// the table that it is of, and its view, with the events that it added.
+/// A seat at the table of lease words, by which whoever has it makes its calls on them. It takes no bytes. Contracts
+/// see the table that it is of, and its view, with the events that it added.
 #[derive(Drop)]
 pub struct LeaseSeat {
     pub(crate) token: Seat<u64, View>,

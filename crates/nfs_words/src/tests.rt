@@ -5,8 +5,8 @@ use nfs_leases::{Closing, LeaseState, Renewal};
 use nfs_state::Moment;
 use std::test::Fail;
 
-// Client 1 is opened at 100 and ends, and client 257 is opened at 300 in its slot. A worker who saw client 1 open before
-// it ended renews it afterwards, and is told so; the word stays.
+// Client 1 is opened at 100 and ends, and client 257 is opened at 300 in its slot. A worker who saw client 1 open
+// before it ended renews it afterwards, and is told so; the word stays.
 #[test]
 fn slot_is_given_again(rt: HostRuntime) -> Result<(), Fail> {
     let (words, mut seats, mut keeper) = WordLeases::new(rt.alloc(), 90, 1)?;

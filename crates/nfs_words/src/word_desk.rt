@@ -9,8 +9,8 @@ use std::alloc::Global;
 use std::marker::Model;
 use std::sync::Arc;
 
-/// A book of leases: the words, with the seat of their keeper. Others renew in it by seats of their own, without a lock.
-/// Contracts see the keeper's seat.
+/// A book of leases: the words, with the seat of their keeper. Others renew in it by seats of their own, without a
+/// lock. Contracts see the keeper's seat.
 #[derive(Drop)]
 pub struct WordDesk {
     words: Arc<WordLeases, Global>,

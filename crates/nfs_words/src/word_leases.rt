@@ -22,8 +22,8 @@ use std::alloc::{AllocError, Global};
 use std::marker::{Brand, Model};
 
 /// The leases of clients as words, one for each slot of clients' numbers. Any thread that has a seat looks and renews,
-/// and one of them, the keeper, opens, closes and retires. No call waits, and none but `new` takes memory. Contracts see
-/// the table of the words, and how long a lease lasts.
+/// and one of them, the keeper, opens, closes and retires. No call waits, and none but `new` takes memory. Contracts
+/// see the table of the words, and how long a lease lasts.
 #[derive(Drop)]
 pub struct WordLeases {
     pub(crate) table: Table<u64, View, u64, LeaseRule, Global>,
@@ -42,8 +42,8 @@ impl Model for WordLeases {
 }
 
 impl WordLeases {
-    /// Words of which no lease was opened, with a seat for each of so many workers, and the keeper's seat; `lease` is in
-    /// seconds. It fails where memory is refused.
+    /// Words of which no lease was opened, with a seat for each of so many workers, and the keeper's seat; `lease` is
+    /// in seconds. It fails where memory is refused.
     pub fn new(
         alloc: Global,
         lease: u32,
