@@ -99,7 +99,7 @@ shut_by_own : (table : State ℕ View) (lawful : Kept table) (c : ℕ) (deeds : 
     → is_standing (phase_of deeds) ≡ false → client_part table c ≡ closed_part
 shut_by_own table lawful c deeds h idle =
     let same : h.0 ≡ (rules table lawful).keeper = keeper_is table lawful h.0 h.1 h.2 in
-    ((rules table lawful).apart.alone c (subst (λ (v : View). HasOpened c v.own) same h.3)).2
+    ((rules table lawful).apart.alone c (subst (λ (v : View). HasOpened c v.own) same h.3)).1.1
     (ap (λ (v : View). is_standing (phase_of (own_deeds_of c v.own))) (sym same) ∙ ap (λ (ds : List Deed). is_standing (phase_of ds)) h.4 ∙ idle)
 
 pub answers : AnswersAlone

@@ -1,5 +1,5 @@
 -- The rule of the table, in terms of single events.
-use Rattle.std.proofs.Common.{◌*◌, max, ◌≡◌, ◌≢◌, ◌⊎◌, ℕ, zero, suc, ◌+◌, ◌<◌, ◌≤◌, ◌^◌, ◌&&◌, ◌||◌, ◌==◌, not, cond, List, [], ◌∷◌, Bool, true, false, true≢false, Contains, refl, sym, ap, ◌∙◌, subst, inl, inr, ⊎_elim, eqb-true, slice_index, arith}
+use Rattle.std.proofs.Common.{◌*◌, max, ◌≡◌, ◌≢◌, ◌⊎◌, ◌↔◌, ℕ, zero, suc, ◌+◌, ◌<◌, ◌≤◌, ◌^◌, ◌&&◌, ◌||◌, ◌==◌, not, cond, List, [], ◌∷◌, Bool, true, false, true≢false, Contains, refl, sym, ap, ◌∙◌, subst, inl, inr, ⊎_elim, eqb-true, slice_index, arith}
 use Rattle.std.proofs.lemmas.Bool.Decides.{nat_tests}
 use mathlib.Core.Option.{some-injective}
 use Rattle.atomic_table.specs.Table.{State}
@@ -13,7 +13,7 @@ use Rattle.nfs_words.specs.Words.{IsMoment, closed_part, part_in, word_with}
 use Rattle.nfs_words.specs.Deeds.{HasOpened, saw_open, Phase, Unopened, Standing, Ended, event, deeds_of, own_deeds_of, opens_later, count_opened, greatest_part, least_closed, knows, saw_end, wrote, phase_of, is_standing, was_opened}
 use Rattle.nfs_words.specs.Plays.{IsPartIn}
 use Rattle.nfs_words.specs.Rule.{AreLawful, HasSeenOpen, FitsPhase, Stands, FitsKeeper, Kept}
-use Rattle.nfs_words.specs.Rules.{HasEvents, HasOpenedFrom, IsLast, IsSeated, RulesHold, WroteAt, slot_word, client_part}
+use Rattle.nfs_words.specs.Rules.{HasEndedAlone, HasEvents, HasOpenedFrom, IsLast, IsSeated, RulesHold, WroteAt, slot_word, client_part}
 use Rattle.nfs_words.proofs.Parts.{read_some, closed_word}
 use Rattle.nfs_words.proofs.Turns.{opened_has, has_opened, count_has, alone_live, has_own}
 use Rattle.nfs_words.proofs.Histories.{renewed_saw, answered_reach, looked_reach, opened_reach, none_late, none_after_end, looks_first, never_vacant_again}
@@ -30,10 +30,10 @@ vacant_of Standing w h = ((λ is. let up = h.0 in absurd (omega (arith, up, is))
 vacant_of (Ended k) w h = ((λ is. absurd (omega (arith, h, is))), (λ is. absurd (true≢false is)))
 
 shut_of : (p : Phase) (w : ℕ) → IsPartIn p w
-    → (w ≡ closed_part → (was_opened p ≡ true) × (is_standing p ≡ false)) × (was_opened p ≡ true → is_standing p ≡ false → w ≡ closed_part)
-shut_of Unopened w h = ((λ is. absurd (omega (arith, h, is))), (λ is _. absurd (true≢false (sym is))))
-shut_of Standing w h = ((λ is. let low = h.1 in absurd (omega (arith, low, is))), (λ _ is. absurd (true≢false is)))
-shut_of (Ended k) w h = ((λ _. (refl, refl)), (λ _ _. h))
+    → (w ≡ closed_part) ↔ ((was_opened p ≡ true) × (is_standing p ≡ false))
+shut_of Unopened w h = ((λ is. absurd (omega (arith, h, is))), (λ x. absurd (true≢false (sym x.0))))
+shut_of Standing w h = ((λ is. let low = h.1 in absurd (omega (arith, low, is))), (λ x. absurd (true≢false x.1)))
+shut_of (Ended k) w h = ((λ _. (refl, refl)), (λ _. h))
 
 -- who knows, and who saw the end
 known_of : (p : Phase) (w : ℕ) (ds : List Deed) → FitsPhase p w ds → knows ds ≡ true → was_opened p ≡ true
@@ -194,15 +194,16 @@ module _ (table : State ℕ View) (lawful : Kept table) where
 
   last_word_of : (c : ℕ) → IsLast c lawful.holds.0.own
       → (word_with (generation_of c) 0 < slot_word table c) × (slot_word table c ≤ word_with (generation_of c) closed_part)
-      × (slot_word table c ≡ word_with (generation_of c) closed_part → is_standing (phase_of (own_deeds_of c lawful.holds.0.own)) ≡ false)
-      × (is_standing (phase_of (own_deeds_of c lawful.holds.0.own)) ≡ false → slot_word table c ≡ word_with (generation_of c) closed_part)
+      × ((slot_word table c ≡ word_with (generation_of c) closed_part) ↔ HasEndedAlone c lawful.holds.0.own)
   last_word_of c h =
       let here = (turn.words_are (slot_of c)).last (generation_of c) (last_is c h) in
       let alone = alone_of c h.0 in (
         omega (arith, here.0),
         omega (arith, here.1),
-        (λ is. alone.0 (ap (part_in (generation_of c)) is ∙ read_closed (generation_of c))),
-        (λ is. closed_word (generation_of c) (slot_word table c) here (alone.1 is)),
+        (
+          (λ is. alone.0 (ap (part_in (generation_of c)) is ∙ read_closed (generation_of c))),
+          (λ is. closed_word (generation_of c) (slot_word table c) here (alone.1 is)),
+        ),
       )
     where
       read_closed : (g : ℕ) → part_in g (word_with g closed_part) ≡ closed_part
@@ -279,7 +280,7 @@ rules table lawful = record {
   words = record { no_word = no_word_of table lawful; last_word = last_word_of table lawful };
   parts = record {
     vacant = vacant_is table lawful;
-    shut = λ c. subst (λ (p : Phase). (client_part table c ≡ closed_part → (was_opened p ≡ true) × (is_standing p ≡ false)) × (was_opened p ≡ true → is_standing p ≡ false → client_part table c ≡ closed_part)) (sym (phase_is table lawful c)) (shut_of (stage table lawful c) (client_part table c) (word table lawful c));
+    shut = λ c. subst (λ (p : Phase). (client_part table c ≡ closed_part) ↔ ((was_opened p ≡ true) × (is_standing p ≡ false))) (sym (phase_is table lawful c)) (shut_of (stage table lawful c) (client_part table c) (word table lawful c));
   };
   greatest = record {
     written = λ c is. written_of c table (stage table lawful c) (lawful.one c).stands (ap is_standing (sym (phase_is table lawful c)) ∙ is);
@@ -313,7 +314,7 @@ rules table lawful = record {
     never_vacant = λ v es at has. never_vacant_again v.lease es (λ c. (good table lawful c v es at has).order);
   };
   apart = record {
-    alone = λ c has. let both = alone_of table lawful c has in ((λ is. true≢false (sym (opened_stage table lawful c (self_later table lawful c has)) ∙ (vacant_of (stage table lawful c) (client_part table c) (word table lawful c)).0 is)), both.0, both.1);
+    alone = λ c has. let both = alone_of table lawful c has in ((λ is. true≢false (sym (opened_stage table lawful c (self_later table lawful c has)) ∙ (vacant_of (stage table lawful c) (client_part table c) (word table lawful c)).0 is)), both);
     late = late_of table lawful;
     one_open = one_live_of table lawful;
   };
