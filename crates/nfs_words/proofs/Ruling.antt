@@ -1,5 +1,5 @@
 -- The rule of the table, in terms of single events.
-use Rattle.std.proofs.Common.{◌*◌, max, ◌≡◌, ◌≢◌, ◌⊎◌, ◌↔◌, ℕ, zero, suc, ◌+◌, ◌<◌, ◌≤◌, ◌^◌, ◌&&◌, ◌||◌, ◌==◌, not, cond, List, [], ◌∷◌, Bool, true, false, true≢false, Contains, refl, sym, ap, ◌∙◌, subst, inl, inr, ⊎_elim, eqb-true, slice_index, arith}
+use Rattle.std.proofs.Common.{◌*◌, max, ◌≡◌, ◌≢◌, ◌⊎◌, ◌↔◌, ℕ, zero, suc, ◌+◌, ◌<◌, ◌≤◌, ◌&&◌, ◌||◌, ◌==◌, not, cond, List, [], ◌∷◌, Bool, true, false, true≢false, Contains, refl, sym, ap, ◌∙◌, subst, inl, inr, ⊎_elim, eqb-true, slice_index, arith}
 use Rattle.std.proofs.lemmas.Bool.Decides.{nat_tests}
 use mathlib.Core.Option.{some-injective}
 use Rattle.atomic_table.specs.Table.{State}

@@ -1,5 +1,5 @@
 -- Each step on the table keeps the rule, and tells its seat what it says.
-use Rattle.std.proofs.Common.{◌≡◌, ◌≢◌, ◌⊎◌, ℕ, zero, suc, ◌+◌, ◌*◌, ◌<◌, ◌≤◌, ◌^◌, ◌==◌, ◌&&◌, cond, max, List, [], ◌∷◌, Bool, true, false, true≢false, set, refl, sym, ap, ◌∙◌, subst, subst₂, inl, inr, arith, slice_index, eq-eqb, eqb-true, ltb-true}
+use Rattle.std.proofs.Common.{◌≡◌, ◌≢◌, ◌⊎◌, ℕ, zero, suc, ◌+◌, ◌*◌, ◌<◌, ◌≤◌, ◌==◌, ◌&&◌, cond, max, List, [], ◌∷◌, Bool, true, false, true≢false, set, refl, sym, ap, ◌∙◌, subst, subst₂, inl, inr, arith, slice_index, eq-eqb, eqb-true, ltb-true}
 use Rattle.std.proofs.lemmas.Bool.Decides.{nat_tests}
 use mathlib.Core.Option.{some, none}
 use mathlib.Core.Logic.{dite}

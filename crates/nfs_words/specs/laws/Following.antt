@@ -1,5 +1,5 @@
 -- What the calls on a book over words mean for its leases.
-use Rattle.std.specs.Prelude.{◌≡◌, ℕ, ◌<◌, ◌&&◌, ◌||◌, ◌==◌, not, cond, Bool, true, false, List, [], ◌∷◌, refl, ◌+◌, ◌^◌}
+use Rattle.std.specs.Prelude.{◌≡◌, ℕ, ◌&&◌, ◌||◌, ◌==◌, not, cond, Bool, true, false, List, [], ◌∷◌, refl, ◌+◌}
 use Rattle.std.proofs.Common.{arith, ap, sym, ◌∙◌, ⊎_elim, subst, eqb-true, true≢false}
 use Rattle.std.proofs.lemmas.Bool.Decides.{nat_tests}
 use Rattle.nfs_owners.specs.Slots.{slot_of, is_earlier}
