@@ -20,16 +20,16 @@ use Rattle.nfs_words.specs.Views.{with_event}
 use Rattle.nfs_words.specs.Rule.{HasOpenedAt, HasSeenOpen, FitsPhase, AreLawful, Stands, FitsView, RuleFor, HasKeeper, IsWordOf, Kept}
 use Rattle.nfs_words.specs.Plays.{Agrees, IsSound, IsPartIn, IsTold}
 
-pub of_same : (client : ℕ) (a : Deed) (events : List Event)
-    → deeds_of client (event client a ∷ events) ≡ a ∷ deeds_of client events
-of_same client a events = ap (λ (b : Bool). cond b (a ∷ deeds_of client events) (cond (opens_later client (event client a)) (Retire ∷ deeds_of client events) (deeds_of client events))) (eq-eqb client client refl)
+pub of_same : (client : ℕ) (deed : Deed) (events : List Event)
+    → deeds_of client (event client deed ∷ events) ≡ deed ∷ deeds_of client events
+of_same client deed events = ap (λ (b : Bool). cond b (deed ∷ deeds_of client events) (cond (opens_later client (event client deed)) (Retire ∷ deeds_of client events) (deeds_of client events))) (eq-eqb client client refl)
 
 -- an event of another client, that opens no later one of the slot
-pub of_else : (client asked : ℕ) (a : Deed) (events : List Event) → asked ≢ client
-    → opens_later client (event asked a) ≡ false
-    → deeds_of client (event asked a ∷ events) ≡ deeds_of client events
-of_else client asked a events apart quiet =
-    ap (λ (b : Bool). cond b (a ∷ deeds_of client events) (cond (opens_later client (event asked a)) (Retire ∷ deeds_of client events) (deeds_of client events))) (ne_eqb asked client apart)
+pub of_else : (client asked : ℕ) (deed : Deed) (events : List Event) → asked ≢ client
+    → opens_later client (event asked deed) ≡ false
+    → deeds_of client (event asked deed ∷ events) ≡ deeds_of client events
+of_else client asked deed events apart quiet =
+    ap (λ (b : Bool). cond b (deed ∷ deeds_of client events) (cond (opens_later client (event asked deed)) (Retire ∷ deeds_of client events) (deeds_of client events))) (ne_eqb asked client apart)
     ∙ ap (λ (b : Bool). cond b (Retire ∷ deeds_of client events) (deeds_of client events)) quiet
 
 -- the opening of a later one
@@ -40,14 +40,14 @@ of_passed client asked moment events apart is =
     ap (λ (b : Bool). cond b (Open moment ∷ deeds_of client events) (cond (is_earlier client asked) (Retire ∷ deeds_of client events) (deeds_of client events))) (ne_eqb asked client apart)
     ∙ ap (λ (b : Bool). cond b (Retire ∷ deeds_of client events) (deeds_of client events)) is
 
-pub quiet_passes : (client asked : ℕ) (a : Deed) → is_opening a ≡ false
-    → opens_later client (event asked a) ≡ false
-quiet_passes client asked a quiet = ap (λ (b : Bool). b && is_earlier client asked) quiet
+pub quiet_passes : (client asked : ℕ) (deed : Deed) → is_opening deed ≡ false
+    → opens_later client (event asked deed) ≡ false
+quiet_passes client asked deed quiet = ap (λ (b : Bool). b && is_earlier client asked) quiet
 
 -- an event of another slot
-pub far_passes : (client asked : ℕ) (a : Deed) → slot_of asked ≢ slot_of client
-    → opens_later client (event asked a) ≡ false
-far_passes client asked a apart = by_deed (is_opening a) far
+pub far_passes : (client asked : ℕ) (deed : Deed) → slot_of asked ≢ slot_of client
+    → opens_later client (event asked deed) ≡ false
+far_passes client asked deed apart = by_deed (is_opening deed) far
   where
     far : is_earlier client asked ≡ false
     far = grind (arith, nat_tests)
@@ -57,9 +57,9 @@ far_passes client asked a apart = by_deed (is_opening a) far
     by_deed false is = refl
 
 -- a deed of the slot leaves the count of another one
-pub count_else : (s asked : ℕ) (a : Deed) (events : List Event) → slot_of asked ≢ s
-    → count_opened s (event asked a ∷ events) ≡ count_opened s events
-count_else s asked a events apart = by_deed (is_opening a) far
+pub count_else : (s asked : ℕ) (deed : Deed) (events : List Event) → slot_of asked ≢ s
+    → count_opened s (event asked deed ∷ events) ≡ count_opened s events
+count_else s asked deed events apart = by_deed (is_opening deed) far
   where
     far : (slot_of asked == s) ≡ false
     far = ne_eqb (slot_of asked) s apart
@@ -70,9 +70,9 @@ count_else s asked a events apart = by_deed (is_opening a) far
     by_deed false is = refl
 
 -- and one that is no opening, every count
-pub count_quiet : (s asked : ℕ) (a : Deed) (events : List Event) → is_opening a ≡ false
-    → count_opened s (event asked a ∷ events) ≡ count_opened s events
-count_quiet s asked a events quiet = ap (λ (b : Bool). cond (b && (slot_of asked == s)) (generation_of asked + 1) (count_opened s events)) quiet
+pub count_quiet : (s asked : ℕ) (deed : Deed) (events : List Event) → is_opening deed ≡ false
+    → count_opened s (event asked deed ∷ events) ≡ count_opened s events
+count_quiet s asked deed events quiet = ap (λ (b : Bool). cond (b && (slot_of asked == s)) (generation_of asked + 1) (count_opened s events)) quiet
 
 pub set_there : {A : Type 0} (l : List A) (i : ℕ) (a b : A) → get_elem? l i ≡ some b
     → get_elem? (set l i a) i ≡ some a
@@ -115,9 +115,9 @@ keeps_set views keeper at view new e more h =
     (λ (apart : keeper ≢ at). (h.0, set_else views at keeper new apart ∙ h.1, h.2))
 
 pub stands_set : (client : ℕ) (views : List View) (at : ℕ) (view new : View) → get_elem? views at ≡ some view
-    → (p : Phase) (w : ℕ)
+    → (phase : Phase) (w : ℕ)
     → (wrote w (deeds_of client view.own) ≡ true → wrote w (deeds_of client new.own) ≡ true)
-    → Stands client views p w → Stands client (set views at new) p w
+    → Stands client views phase w → Stands client (set views at new) phase w
 stands_set client views at view new e Unopened w more h = h
 stands_set client views at view new e Standing w more h = (h.0, h.1, wrote_set client w views at view new e more h.2)
 stands_set client views at view new e (Ended k) w more h = h
@@ -140,24 +140,25 @@ other keeper client w views at view e there same one =
     }
 
 -- the rule for a client of which the event is a deed
-pub mine : (keeper asked w w' : ℕ) (views : List View) (at : ℕ) (view : View) (ev : Event) (a : Deed) (same : deeds_of asked (ev ∷ view.own) ≡ a ∷ deeds_of asked view.own) (p : Phase) (one : RuleFor keeper asked w views)
+pub mine : (keeper asked w w' : ℕ) (views : List View) (at : ℕ) (view : View) (ev : Event) (a : Deed) (same : deeds_of asked (ev ∷ view.own) ≡ a ∷ deeds_of asked view.own) (phase : Phase) (one : RuleFor keeper asked w views)
     → get_elem? views at ≡ some view
-    → ((deeds : List Deed) → FitsPhase one.stage w deeds → FitsPhase p w' deeds)
-    → ((p ≡ one.stage) ⊎ (view.keeps ≡ true)) → (view.keeps ≡ true → phase_of (a ∷ deeds_of asked view.own) ≡ p)
-    → AreLawful view.lease p w' (a ∷ deeds_of asked view.own)
-    → Stands asked (set views at (with_event view ev)) p w'
+    → ((deeds : List Deed) → FitsPhase one.stage w deeds → FitsPhase phase w' deeds)
+    → ((phase ≡ one.stage) ⊎ (view.keeps ≡ true))
+    → (view.keeps ≡ true → phase_of (a ∷ deeds_of asked view.own) ≡ phase)
+    → AreLawful view.lease phase w' (a ∷ deeds_of asked view.own)
+    → Stands asked (set views at (with_event view ev)) phase w'
     → RuleFor keeper asked w' (set views at (with_event view ev))
-mine keeper asked w w' views at view ev a same p one e more who deed good stands =
+mine keeper asked w w' views at view ev a same phase one e more who deed good stands =
     let fit = one.each at view e in
     record {
-      stage = p;
+      stage = phase;
       stands = stands;
-      each = set_each (FitsView keeper asked p w') views at (with_event view ev)
+      each = set_each (FitsView keeper asked phase w') views at (with_event view ev)
           (λ j u apart at_j.
           let f = one.each j u at_j in
           record {
             keeps = λ k.
-                ⊎_elim (λ (is : p ≡ one.stage). ((f.keeps k).0, (f.keeps k).1 ∙ sym is))
+                ⊎_elim (λ (is : phase ≡ one.stage). ((f.keeps k).0, (f.keeps k).1 ∙ sym is))
                 (λ (me : view.keeps ≡ true). absurd (apart ((f.keeps k).0 ∙ sym (fit.keeps me).0)))
                 who;
             own = record { order = f.own.order; fits = more (deeds_of asked u.own) f.own.fits };
@@ -165,13 +166,13 @@ mine keeper asked w w' views at view ev a same p one e more who deed good stands
           })
           record {
             keeps = λ k. ((fit.keeps k).0, ap phase_of same ∙ deed k);
-            own = subst (AreLawful view.lease p w') (sym same) good;
+            own = subst (AreLawful view.lease phase w') (sym same) good;
             beside = record { order = fit.beside.order; fits = more (deeds_of asked view.beside) fit.beside.fits };
           };
     }
 
-agrees : (client : ℕ) (views : List View) (lease : ℕ) (p : Phase) (w : ℕ) (deeds events : List Deed)
-    → Stands client views p w → AreLawful lease p w deeds → AreLawful lease p w events
+agrees : (client : ℕ) (views : List View) (lease : ℕ) (phase : Phase) (w : ℕ) (deeds events : List Deed)
+    → Stands client views phase w → AreLawful lease phase w deeds → AreLawful lease phase w events
     → Agrees lease deeds events
 agrees client views lease Unopened w deeds events h a b =
     let x = a.fits in let y = b.fits in
@@ -190,13 +191,14 @@ sound_at table kept at view e client =
     let fit = one.each at view e in
     agrees client table.views view.lease one.stage (part_at table.words client) (deeds_of client view.own) (deeds_of client view.beside) one.stands fit.own fit.beside
 
-pub word_in : (client : ℕ) (views : List View) (p : Phase) (w : ℕ) → Stands client views p w → IsPartIn p w
+pub word_in : (client : ℕ) (views : List View) (phase : Phase) (w : ℕ) → Stands client views phase w
+    → IsPartIn phase w
 word_in client views Unopened w h = h
 word_in client views Standing w h = (h.0, h.1)
 word_in client views (Ended k) w h = h
 
-ends_closed : (client : ℕ) (views : List View) (p : Phase) (w : ℕ) (deeds : List Deed) → Stands client views p w
-    → FitsPhase p w deeds → saw_end deeds ≡ true → w ≡ closed_part
+ends_closed : (client : ℕ) (views : List View) (phase : Phase) (w : ℕ) (deeds : List Deed)
+    → Stands client views phase w → FitsPhase phase w deeds → saw_end deeds ≡ true → w ≡ closed_part
 ends_closed client views Unopened w deeds h u end = absurd (true≢false (sym end ∙ u.1))
 ends_closed client views Standing w deeds h u end = absurd (true≢false (sym end ∙ u.0))
 ends_closed client views (Ended k) w deeds h u end = h
@@ -213,10 +215,10 @@ opened_set keeper client views at view new e more h =
     (λ (apart : keeper ≢ at). (h.0, set_else views at keeper new apart ∙ h.1, h.2))
 
 -- an event of another client shows nothing of this one
-saw_else : (client asked : ℕ) (a : Deed) (events : List Event) → asked ≢ client
-    → saw_open (deeds_of client (event asked a ∷ events)) ≡ true → saw_open (deeds_of client events) ≡ true
-saw_else client asked a events apart h =
-    by_pass (opens_later client (event asked a)) (subst (λ (b : Bool). saw_open (cond b (a ∷ deeds_of client events) (cond (opens_later client (event asked a)) (Retire ∷ deeds_of client events) (deeds_of client events))) ≡ true) (ne_eqb asked client apart) h)
+saw_else : (client asked : ℕ) (deed : Deed) (events : List Event) → asked ≢ client
+    → saw_open (deeds_of client (event asked deed ∷ events)) ≡ true → saw_open (deeds_of client events) ≡ true
+saw_else client asked deed events apart h =
+    by_pass (opens_later client (event asked deed)) (subst (λ (b : Bool). saw_open (cond b (deed ∷ deeds_of client events) (cond (opens_later client (event asked deed)) (Retire ∷ deeds_of client events) (deeds_of client events))) ≡ true) (ne_eqb asked client apart) h)
   where
     by_pass : (p : Bool) → saw_open (cond p (Retire ∷ deeds_of client events) (deeds_of client events)) ≡ true
         → saw_open (deeds_of client events) ≡ true
@@ -224,48 +226,48 @@ saw_else client asked a events apart h =
     by_pass false x = x
 
 -- who sees a lease open sees one that the keeper opened, after a step too
-seen_step : (keeper : ℕ) (views : List View) (at : ℕ) (view : View) (asked : ℕ) (a : Deed)
+seen_step : (keeper : ℕ) (views : List View) (at : ℕ) (view : View) (asked : ℕ) (deed : Deed)
     → get_elem? views at ≡ some view
     → ((client i : ℕ) (u : View) → get_elem? views i ≡ some u → HasSeenOpen client u → HasOpenedAt keeper views client)
-    → (saw_open (a ∷ deeds_of asked view.own) ≡ true → (saw_open (deeds_of asked view.own) ≡ true) ⊎ HasOpenedAt keeper views asked)
-    → (client j : ℕ) (u : View) → get_elem? (set views at (with_event view (event asked a))) j ≡ some u
-    → HasSeenOpen client u → HasOpenedAt keeper (set views at (with_event view (event asked a))) client
-seen_step keeper views at view asked a e kept shown client =
+    → (saw_open (deed ∷ deeds_of asked view.own) ≡ true → (saw_open (deeds_of asked view.own) ≡ true) ⊎ HasOpenedAt keeper views asked)
+    → (client j : ℕ) (u : View) → get_elem? (set views at (with_event view (event asked deed))) j ≡ some u
+    → HasSeenOpen client u → HasOpenedAt keeper (set views at (with_event view (event asked deed))) client
+seen_step keeper views at view asked deed e kept shown client =
     set_each (λ j u. HasSeenOpen client u → HasOpenedAt keeper (set views at new) client) views at new
     (λ j u _ at_j saw. stays (kept client j u at_j saw))
-    (λ saw. ⊎_elim (λ (x : saw_open (deeds_of client (event asked a ∷ view.own)) ≡ true). own_saw x) (λ (x : saw_open (deeds_of client view.beside) ≡ true). stays (kept client at view e (inr x))) saw)
+    (λ saw. ⊎_elim (λ (x : saw_open (deeds_of client (event asked deed ∷ view.own)) ≡ true). own_saw x) (λ (x : saw_open (deeds_of client view.beside) ≡ true). stays (kept client at view e (inr x))) saw)
   where
     new : View
-    new = with_event view (event asked a)
+    new = with_event view (event asked deed)
 
     stays : HasOpenedAt keeper views client → HasOpenedAt keeper (set views at new) client
-    stays = opened_set keeper client views at view new e (λ h. (h.0, in_more (event client (Open h.0)) (event asked a) view.own h.1))
+    stays = opened_set keeper client views at view new e (λ h. (h.0, in_more (event client (Open h.0)) (event asked deed) view.own h.1))
 
-    by_same : asked ≡ client → saw_open (deeds_of client (event asked a ∷ view.own)) ≡ true
+    by_same : asked ≡ client → saw_open (deeds_of client (event asked deed ∷ view.own)) ≡ true
         → HasOpenedAt keeper views client
     by_same same x =
-        let y : saw_open (deeds_of asked (event asked a ∷ view.own)) ≡ true = subst (λ (k : ℕ). saw_open (deeds_of k (event asked a ∷ view.own)) ≡ true) (sym same) x in
-        let z : saw_open (a ∷ deeds_of asked view.own) ≡ true = subst (λ (l : List Deed). saw_open l ≡ true) (of_same asked a view.own) y in
+        let y : saw_open (deeds_of asked (event asked deed ∷ view.own)) ≡ true = subst (λ (k : ℕ). saw_open (deeds_of k (event asked deed ∷ view.own)) ≡ true) (sym same) x in
+        let z : saw_open (deed ∷ deeds_of asked view.own) ≡ true = subst (λ (l : List Deed). saw_open l ≡ true) (of_same asked deed view.own) y in
         subst (HasOpenedAt keeper views) same
         (⊎_elim (λ (old : saw_open (deeds_of asked view.own) ≡ true). kept asked at view e (inl old)) (λ (has : HasOpenedAt keeper views asked). has) (shown z))
 
-    own_saw : saw_open (deeds_of client (event asked a ∷ view.own)) ≡ true
+    own_saw : saw_open (deeds_of client (event asked deed ∷ view.own)) ≡ true
         → HasOpenedAt keeper (set views at new) client
-    own_saw x = stays (dite (ℕ_discrete asked client) (λ (same : asked ≡ client). by_same same x) (λ (apart : asked ≢ client). kept client at view e (inl (saw_else client asked a view.own apart x))))
+    own_saw x = stays (dite (ℕ_discrete asked client) (λ (same : asked ≡ client). by_same same x) (λ (apart : asked ≢ client). kept client at view e (inl (saw_else client asked deed view.own apart x))))
 
 -- A step of the seat on the word of the asked client's slot, which becomes n, keeps the rule.
 -- It has to say what the rule is for the slot's clients, and for the keeper.
-pub step_keeps : (table : State ℕ View) (kept : Kept table) (at : ℕ) (view : View) (asked : ℕ) (a : Deed) (n : ℕ) → get_elem? table.views at ≡ some view
-    → (saw_open (a ∷ deeds_of asked view.own) ≡ true → (saw_open (deeds_of asked view.own) ≡ true) ⊎ HasOpenedAt kept.keeper table.views asked)
-    → RuleFor kept.keeper asked (part_in (generation_of asked) n) (set table.views at (with_event view (event asked a)))
-    → ((client : ℕ) → asked ≢ client → slot_of asked ≡ slot_of client → RuleFor kept.keeper client (part_in (generation_of client) n) (set table.views at (with_event view (event asked a))))
-    → ((j : ℕ) (u : View) → get_elem? (set table.views at (with_event view (event asked a))) j ≡ some u → u.keeps ≡ true → IsWordOf n (count_opened (slot_of asked) u.own) × AreInTurn u.own)
-    → Kept record { words = set table.words (slot_of asked) n; homes = table.homes; views = set table.views at (with_event view (event asked a)) }
-step_keeps table kept at view asked a n e shown one near turn = record {
-  seen = seen_step kept.keeper table.views at view asked a e kept.seen shown;
+pub step_keeps : (table : State ℕ View) (kept : Kept table) (at : ℕ) (view : View) (asked : ℕ) (deed : Deed) (n : ℕ) → get_elem? table.views at ≡ some view
+    → (saw_open (deed ∷ deeds_of asked view.own) ≡ true → (saw_open (deeds_of asked view.own) ≡ true) ⊎ HasOpenedAt kept.keeper table.views asked)
+    → RuleFor kept.keeper asked (part_in (generation_of asked) n) (set table.views at (with_event view (event asked deed)))
+    → ((client : ℕ) → asked ≢ client → slot_of asked ≡ slot_of client → RuleFor kept.keeper client (part_in (generation_of client) n) (set table.views at (with_event view (event asked deed))))
+    → ((j : ℕ) (u : View) → get_elem? (set table.views at (with_event view (event asked deed))) j ≡ some u → u.keeps ≡ true → IsWordOf n (count_opened (slot_of asked) u.own) × AreInTurn u.own)
+    → Kept record { words = set table.words (slot_of asked) n; homes = table.homes; views = set table.views at (with_event view (event asked deed)) }
+step_keeps table kept at view asked deed n e shown one near turn = record {
+  seen = seen_step kept.keeper table.views at view asked deed e kept.seen shown;
   width = length-set table.words (slot_of asked) n ∙ kept.width;
   keeper = kept.keeper;
-  holds = keeps_set table.views kept.keeper at view (with_event view (event asked a)) e (λ k. k) kept.holds;
+  holds = keeps_set table.views kept.keeper at view (with_event view (event asked deed)) e (λ k. k) kept.holds;
   turn = λ j u at_j keeps. record {
     words_are = λ s. by_slot j u at_j keeps s;
     in_turn = (turn j u at_j keeps).1;
@@ -279,11 +281,11 @@ step_keeps table kept at view asked a n e shown one near turn = record {
       (λ (apart : asked ≢ client). near client apart is)))
       (λ (apart : slot_of asked ≢ slot_of client).
       subst (λ (w : ℕ). RuleFor kept.keeper client (part_in (generation_of client) w) views) (sym (there (slot_of client) apart))
-      (other kept.keeper client (part_at table.words client) table.views at view (event asked a) e (of_else client asked a view.own (λ is. apart (ap slot_of is)) (far_passes client asked a apart)) (kept.one client)));
+      (other kept.keeper client (part_at table.words client) table.views at view (event asked deed) e (of_else client asked deed view.own (λ is. apart (ap slot_of is)) (far_passes client asked deed apart)) (kept.one client)));
 }
   where
     views : List View
-    views = set table.views at (with_event view (event asked a))
+    views = set table.views at (with_event view (event asked deed))
 
     words : List ℕ
     words = set table.words (slot_of asked) n
@@ -300,9 +302,9 @@ step_keeps table kept at view asked a n e shown one near turn = record {
     -- the counts of another slot are as they were
     far : (s : ℕ) → slot_of asked ≢ s → (j : ℕ) (u : View) → get_elem? views j ≡ some u → u.keeps ≡ true
         → IsWordOf (slice_index table.words s) (count_opened s u.own)
-    far s apart = set_each (λ j u. u.keeps ≡ true → IsWordOf (slice_index table.words s) (count_opened s u.own)) table.views at (with_event view (event asked a))
+    far s apart = set_each (λ j u. u.keeps ≡ true → IsWordOf (slice_index table.words s) (count_opened s u.own)) table.views at (with_event view (event asked deed))
         (λ j u _ at_j keeps. (kept.turn j u at_j keeps).words_are s)
-        (λ keeps. subst (λ (k : ℕ). IsWordOf (slice_index table.words s) k) (sym (count_else s asked a view.own apart)) ((kept.turn at view e keeps).words_are s))
+        (λ keeps. subst (λ (k : ℕ). IsWordOf (slice_index table.words s) k) (sym (count_else s asked deed view.own apart)) ((kept.turn at view e keeps).words_are s))
 
     by_slot : (j : ℕ) (u : View) → get_elem? views j ≡ some u → u.keeps ≡ true → (s : ℕ)
         → IsWordOf (slice_index words s) (count_opened s u.own)
@@ -312,25 +314,25 @@ step_keeps table kept at view asked a n e shown one near turn = record {
         (λ (apart : slot_of asked ≢ s). subst (λ (w : ℕ). IsWordOf w (count_opened s u.own)) (sym (there s apart)) (far s apart j u at_j keeps))
 
 -- A step that opens nothing, after which the other generations of the slot read the word as before
-pub quiet_keeps : (table : State ℕ View) (kept : Kept table) (at : ℕ) (view : View) (asked : ℕ) (a : Deed) (n : ℕ) → get_elem? table.views at ≡ some view
-    → (saw_open (a ∷ deeds_of asked view.own) ≡ true → (saw_open (deeds_of asked view.own) ≡ true) ⊎ HasOpenedAt kept.keeper table.views asked)
-    → is_opening a ≡ false
-    → (view.keeps ≡ true → is_ending a ≡ true → was_opened (phase_of (deeds_of asked view.own)) ≡ true)
-    → RuleFor kept.keeper asked (part_in (generation_of asked) n) (set table.views at (with_event view (event asked a)))
+pub quiet_keeps : (table : State ℕ View) (kept : Kept table) (at : ℕ) (view : View) (asked : ℕ) (deed : Deed) (n : ℕ) → get_elem? table.views at ≡ some view
+    → (saw_open (deed ∷ deeds_of asked view.own) ≡ true → (saw_open (deeds_of asked view.own) ≡ true) ⊎ HasOpenedAt kept.keeper table.views asked)
+    → is_opening deed ≡ false
+    → (view.keeps ≡ true → is_ending deed ≡ true → was_opened (phase_of (deeds_of asked view.own)) ≡ true)
+    → RuleFor kept.keeper asked (part_in (generation_of asked) n) (set table.views at (with_event view (event asked deed)))
     → ((p : ℕ) → p ≢ generation_of asked → part_in p n ≡ part_in p (slice_index table.words (slot_of asked)))
     → ((k : ℕ) → IsWordOf (slice_index table.words (slot_of asked)) k → IsWordOf n k)
-    → Kept record { words = set table.words (slot_of asked) n; homes = table.homes; views = set table.views at (with_event view (event asked a)) }
-quiet_keeps table kept at view asked a n e shown quiet may_end one alike last =
-    step_keeps table kept at view asked a n e shown one
+    → Kept record { words = set table.words (slot_of asked) n; homes = table.homes; views = set table.views at (with_event view (event asked deed)) }
+quiet_keeps table kept at view asked deed n e shown quiet may_end one alike last =
+    step_keeps table kept at view asked deed n e shown one
     (λ client apart slots.
     let p : generation_of client ≢ generation_of asked = (λ is. apart (omega arith)) in
-    subst (λ (w : ℕ). RuleFor kept.keeper client w (set table.views at (with_event view (event asked a)))) (ap (λ (s : ℕ). part_in (generation_of client) (slice_index table.words s)) (sym slots) ∙ sym (alike (generation_of client) p))
-    (other kept.keeper client (part_at table.words client) table.views at view (event asked a) e (of_else client asked a view.own apart (quiet_passes client asked a quiet)) (kept.one client)))
-    (set_each (λ j u. u.keeps ≡ true → IsWordOf n (count_opened (slot_of asked) u.own) × AreInTurn u.own) table.views at (with_event view (event asked a))
+    subst (λ (w : ℕ). RuleFor kept.keeper client w (set table.views at (with_event view (event asked deed)))) (ap (λ (s : ℕ). part_in (generation_of client) (slice_index table.words s)) (sym slots) ∙ sym (alike (generation_of client) p))
+    (other kept.keeper client (part_at table.words client) table.views at view (event asked deed) e (of_else client asked deed view.own apart (quiet_passes client asked deed quiet)) (kept.one client)))
+    (set_each (λ j u. u.keeps ≡ true → IsWordOf n (count_opened (slot_of asked) u.own) × AreInTurn u.own) table.views at (with_event view (event asked deed))
     (λ j u _ at_j keeps. let t = kept.turn j u at_j keeps in (last (count_opened (slot_of asked) u.own) (t.words_are (slot_of asked)), t.in_turn))
     (λ keeps.
     let t = kept.turn at view e keeps in (
-      last (count_opened (slot_of asked) (event asked a ∷ view.own)) (subst (λ (k : ℕ). IsWordOf (slice_index table.words (slot_of asked)) k) (sym (count_quiet (slot_of asked) asked a view.own quiet)) (t.words_are (slot_of asked))),
+      last (count_opened (slot_of asked) (event asked deed ∷ view.own)) (subst (λ (k : ℕ). IsWordOf (slice_index table.words (slot_of asked)) k) (sym (count_quiet (slot_of asked) asked deed view.own quiet)) (t.words_are (slot_of asked))),
       ((λ opening. absurd (true≢false (sym opening ∙ quiet))), may_end keeps, t.in_turn),
     )))
 

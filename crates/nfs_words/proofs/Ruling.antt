@@ -19,12 +19,14 @@ use Rattle.nfs_words.proofs.Turns.{opened_has, has_opened, count_has, alone_live
 use Rattle.nfs_words.proofs.Histories.{renewed_saw, answered_reach, looked_reach, opened_reach, none_late, none_after_end, looks_first, never_vacant_again}
 
 -- the word in each phase
-word_in : (client : ℕ) (views : List View) (p : Phase) (w : ℕ) → Stands client views p w → IsPartIn p w
+word_in : (client : ℕ) (views : List View) (phase : Phase) (w : ℕ) → Stands client views phase w
+    → IsPartIn phase w
 word_in client views Unopened w h = h
 word_in client views Standing w h = (h.0, h.1)
 word_in client views (Ended k) w h = h
 
-vacant_of : (p : Phase) (w : ℕ) → IsPartIn p w → (w ≡ 0 → was_opened p ≡ false) × (was_opened p ≡ false → w ≡ 0)
+vacant_of : (phase : Phase) (w : ℕ) → IsPartIn phase w
+    → (w ≡ 0 → was_opened phase ≡ false) × (was_opened phase ≡ false → w ≡ 0)
 vacant_of Unopened w h = ((λ _. refl), (λ _. h))
 vacant_of Standing w h = ((λ is. let up = h.0 in absurd (omega (arith, up, is))), (λ is. absurd (true≢false is)))
 vacant_of (Ended k) w h = ((λ is. absurd (omega (arith, h, is))), (λ is. absurd (true≢false is)))
@@ -36,14 +38,14 @@ shut_of Standing w h = ((λ is. let low = h.1 in absurd (omega (arith, low, is))
 shut_of (Ended k) w h = ((λ _. (refl, refl)), (λ _. h))
 
 -- who knows, and who saw the end
-known_of : (p : Phase) (w : ℕ) (deeds : List Deed) → FitsPhase p w deeds → knows deeds ≡ true
-    → was_opened p ≡ true
+known_of : (phase : Phase) (w : ℕ) (deeds : List Deed) → FitsPhase phase w deeds → knows deeds ≡ true
+    → was_opened phase ≡ true
 known_of Unopened w deeds u h = absurd (true≢false (sym h ∙ u.0))
 known_of Standing w deeds u h = refl
 known_of (Ended k) w deeds u h = refl
 
-ended_of : (p : Phase) (w : ℕ) (deeds : List Deed) → IsPartIn p w → FitsPhase p w deeds → saw_end deeds ≡ true
-    → w ≡ closed_part
+ended_of : (phase : Phase) (w : ℕ) (deeds : List Deed) → IsPartIn phase w → FitsPhase phase w deeds
+    → saw_end deeds ≡ true → w ≡ closed_part
 ended_of Unopened w deeds is u h = absurd (true≢false (sym h ∙ u.1))
 ended_of Standing w deeds is u h = absurd (true≢false (sym h ∙ u.0))
 ended_of (Ended k) w deeds is u h = is
@@ -55,8 +57,8 @@ reach_of Standing w deeds u h = u.1
 reach_of (Ended k) w deeds u h = absurd (true≢false (sym h))
 
 -- no answered renewal of the one is above a done closing of the other
-both_under : (p : Phase) (w : ℕ) (deeds events : List Deed) → IsPartIn p w → FitsPhase p w deeds
-    → FitsPhase p w events → greatest_part deeds ≤ least_closed events
+both_under : (phase : Phase) (w : ℕ) (deeds events : List Deed) → IsPartIn phase w → FitsPhase phase w deeds
+    → FitsPhase phase w events → greatest_part deeds ≤ least_closed events
 both_under Unopened w deeds events is a b = omega (arith, a.2)
 both_under Standing w deeds events is a b = let low = is.1 in omega (arith, a.1, b.2, low)
 both_under (Ended k) w deeds events is a b = omega (arith, a.0, b.1)

@@ -71,20 +71,20 @@ cap_top (Close seen now false ∷ deeds) = cap_top deeds
 cap_top (Retire ∷ deeds) = cap_top deeds
 
 -- no deeds fit any phase that some deeds fit
-none_good : (lease lease' : ℕ) (p : Phase) (w : ℕ) (deeds : List Deed) → AreLawful lease' p w deeds
-    → AreLawful lease p w []
+none_good : (lease lease' : ℕ) (phase : Phase) (w : ℕ) (deeds : List Deed) → AreLawful lease' phase w deeds
+    → AreLawful lease phase w []
 none_good lease lease' Unopened w deeds good = fresh_none lease w
 none_good lease lease' Standing w deeds good = record { order = refl; fits = (refl, omega arith, refl) }
 none_good lease lease' (Ended k) w deeds good = let u = good.fits in record { order = refl; fits = (omega arith, omega (arith, u.1, cap_top deeds)) }
 
-stands_more : (client : ℕ) (views : List View) (new : View) (p : Phase) (w : ℕ) → Stands client views p w
-    → Stands client (views ++ new ∷ []) p w
+stands_more : (client : ℕ) (views : List View) (new : View) (phase : Phase) (w : ℕ)
+    → Stands client views phase w → Stands client (views ++ new ∷ []) phase w
 stands_more client views new Unopened w h = h
 stands_more client views new Standing w h = let some_one = h.2 in (h.0, h.1, (some_one.0, some_one.1, at_longer views (new ∷ []) some_one.0 some_one.1 some_one.2, some_one.3))
 stands_more client views new (Ended k) w h = h
 
 -- a new seat with no events of its own, and none beside or a copy of the other's
-module _ (id : ℕ) (view : View) (beside : List Event) (shown : (client : ℕ) → saw_open (deeds_of client beside) ≡ true → saw_open (deeds_of client view.own) ≡ true) (copy : (lease client : ℕ) (p : Phase) (w : ℕ) → AreLawful lease p w (deeds_of client view.own) → AreLawful lease p w (deeds_of client beside)) where
+module _ (id : ℕ) (view : View) (beside : List Event) (shown : (client : ℕ) → saw_open (deeds_of client beside) ≡ true → saw_open (deeds_of client view.own) ≡ true) (copy : (lease client : ℕ) (phase : Phase) (w : ℕ) → AreLawful lease phase w (deeds_of client view.own) → AreLawful lease phase w (deeds_of client beside)) where
   abbrev newcomer : View
   newcomer = record { lease = view.lease; keeps = false; own = []; beside = beside }
 

@@ -27,21 +27,22 @@ use Rattle.nfs_words.proofs.Deeds.{look_good, not_fresh, raise_under, raise_good
 module _ (keeper asked w : ℕ) (views : List View) (at : ℕ) (view : View) (e : get_elem? views at ≡ some view) where
   -- the views after the seat has one more deed of the client
   abbrev after : Deed → List View
-  after a = set views at (with_event view (event asked a))
+  after deed = set views at (with_event view (event asked deed))
 
   -- a word that was written stays so
-  still : (a : Deed) (n : ℕ) → Wrote asked n views → Wrote asked n (after a)
-  still a n h = wrote_set asked n views at view (with_event view (event asked a)) e (λ x. subst (λ (l : List Deed). wrote n l ≡ true) (sym (of_same asked a view.own)) (wrote_more n a (deeds_of asked view.own) x)) h
+  still : (deed : Deed) (n : ℕ) → Wrote asked n views → Wrote asked n (after deed)
+  still deed n h = wrote_set asked n views at view (with_event view (event asked deed)) e (λ x. subst (λ (l : List Deed). wrote n l ≡ true) (sym (of_same asked deed view.own)) (wrote_more n deed (deeds_of asked view.own) x)) h
 
   -- the seat itself writes a word
-  now_wrote : (a : Deed) (n : ℕ) → wrote n (a ∷ deeds_of asked view.own) ≡ true → Wrote asked n (after a)
-  now_wrote a n h = (at, with_event view (event asked a), set_there views at (with_event view (event asked a)) view e, subst (λ (l : List Deed). wrote n l ≡ true) (sym (of_same asked a view.own)) h)
+  now_wrote : (deed : Deed) (n : ℕ) → wrote n (deed ∷ deeds_of asked view.own) ≡ true
+      → Wrote asked n (after deed)
+  now_wrote deed n h = (at, with_event view (event asked deed), set_there views at (with_event view (event asked deed)) view e, subst (λ (l : List Deed). wrote n l ≡ true) (sym (of_same asked deed view.own)) h)
 
   -- the word stands as it was
-  same_stands : (a : Deed) (p : Phase) → Stands asked views p w → Stands asked (after a) p w
-  same_stands a Unopened h = h
-  same_stands a Standing h = (h.0, h.1, still a w h.2)
-  same_stands a (Ended k) h = h
+  same_stands : (deed : Deed) (p : Phase) → Stands asked views p w → Stands asked (after deed) p w
+  same_stands deed Unopened h = h
+  same_stands deed Standing h = (h.0, h.1, still deed w h.2)
+  same_stands deed (Ended k) h = h
 
   look_one : RuleFor keeper asked w views → RuleFor keeper asked w (after (Look w))
   look_one one =
@@ -199,7 +200,7 @@ module _ (keeper asked w : ℕ) (views : List View) (at : ℕ) (view : View) (e 
   ended_word (Ended k) o l h = h
 
 -- What the keeper's events say of a slot: of the last client that was opened
-opened_after : (a : Deed) (deeds : List Deed) → was_opened (phase_of (a ∷ deeds)) ≡ false
+opened_after : (deed : Deed) (deeds : List Deed) → was_opened (phase_of (deed ∷ deeds)) ≡ false
     → was_opened (phase_of deeds) ≡ false
 opened_after (Look w) deeds h = h
 opened_after (Renew moment old) deeds h = h
@@ -208,7 +209,7 @@ opened_after (Close seen now true) deeds h = absurd (true≢false h)
 opened_after (Close seen now false) deeds h = h
 opened_after Retire deeds h = absurd (true≢false (sym (retired_opened (phase_of deeds)) ∙ h))
   where
-    retired_opened : (p : Phase) → was_opened (retired p) ≡ true
+    retired_opened : (phase : Phase) → was_opened (retired phase) ≡ true
     retired_opened Unopened = refl
     retired_opened Standing = refl
     retired_opened (Ended k) = refl
@@ -216,7 +217,7 @@ opened_after Retire deeds h = absurd (true≢false (sym (retired_opened (phase_o
 retired_is : (deeds : List Deed) → was_opened (phase_of (Retire ∷ deeds)) ≡ true
 retired_is deeds = by_phase (phase_of deeds)
   where
-    by_phase : (p : Phase) → was_opened (retired p) ≡ true
+    by_phase : (phase : Phase) → was_opened (retired phase) ≡ true
     by_phase Unopened = refl
     by_phase Standing = refl
     by_phase (Ended k) = refl
@@ -234,8 +235,8 @@ count_fresh asked (e ∷ events) h = by_event (count_fresh asked events) (e.clie
         → cond (o && s) (generation_of e.client + 1) (count_opened (slot_of asked) events) ≤ generation_of asked
     by_event ih true is true opening s slot l after k = absurd (true≢false (opens_it e.deed opening k))
       where
-        opens_it : (a : Deed) → is_opening a ≡ true → was_opened (phase_of (a ∷ deeds_of asked events)) ≡ false
-            → true ≡ false
+        opens_it : (deed : Deed) → is_opening deed ≡ true
+            → was_opened (phase_of (deed ∷ deeds_of asked events)) ≡ false → true ≡ false
         opens_it (Look w) x y = sym x
         opens_it (Renew moment old) x y = sym x
         opens_it (Open moment) x y = y
@@ -264,7 +265,8 @@ last_opened s g (e ∷ events) low h = by_event (last_opened s g events low) (e.
         → was_opened (phase_of (cond b (e.deed ∷ deeds_of client events) (cond (opens_later client e) (Retire ∷ deeds_of client events) (deeds_of client events)))) ≡ true
     by_event ih true is true opening t slot k = opens_it e.deed opening
       where
-        opens_it : (a : Deed) → is_opening a ≡ true → was_opened (phase_of (a ∷ deeds_of client events)) ≡ true
+        opens_it : (deed : Deed) → is_opening deed ≡ true
+            → was_opened (phase_of (deed ∷ deeds_of client events)) ≡ true
         opens_it (Look w) x = absurd (true≢false (sym x))
         opens_it (Renew moment old) x = absurd (true≢false (sym x))
         opens_it (Open moment) x = refl
@@ -272,8 +274,8 @@ last_opened s g (e ∷ events) low h = by_event (last_opened s g events low) (e.
         opens_it Retire x = absurd (true≢false (sym x))
     by_event ih true is false opening t slot k = stays e.deed (ih k)
       where
-        stays : (a : Deed) → was_opened (phase_of (deeds_of client events)) ≡ true
-            → was_opened (phase_of (a ∷ deeds_of client events)) ≡ true
+        stays : (deed : Deed) → was_opened (phase_of (deeds_of client events)) ≡ true
+            → was_opened (phase_of (deed ∷ deeds_of client events)) ≡ true
         stays (Look w) x = x
         stays (Renew moment old) x = x
         stays (Open moment) x = refl
@@ -344,7 +346,7 @@ look_shown {table} kept at view asked e h = by_stage one.stage refl one.stands h
         let fit = one.each kept.keeper kept.holds.0 kept.holds.1 in
         (kept.holds.0, kept.holds.1, standing_opened kept.holds.0.own asked (ap is_standing ((fit.keeps kept.holds.2).1 ∙ is)))
 
-    by_stage : (p : Phase) → one.stage ≡ p → Stands asked table.views p part
+    by_stage : (phase : Phase) → one.stage ≡ phase → Stands asked table.views phase part
         → saw_open (Look part ∷ deeds_of asked view.own) ≡ true
         → (saw_open (deeds_of asked view.own) ≡ true) ⊎ HasOpenedAt kept.keeper table.views asked
     by_stage Unopened is stands x = inl (subst (λ (n : ℕ). saw_open (Look n ∷ deeds_of asked view.own) ≡ true) stands x)

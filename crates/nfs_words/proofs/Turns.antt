@@ -19,12 +19,12 @@ later_more : (client : ℕ) (x : Event) (events : List Event) → HasOpenedFrom 
     → HasOpenedFrom client (x ∷ events)
 later_more client x events h = (h.0, h.1, h.2, (h.3.0, in_more (event h.0 (Open h.3.0)) x events h.3.1))
 
-all_retired : (p : Phase) → was_opened (retired p) ≡ true
+all_retired : (phase : Phase) → was_opened (retired phase) ≡ true
 all_retired Unopened = refl
 all_retired Standing = refl
 all_retired (Ended k) = refl
 
-not_live : (p : Phase) → is_standing (retired p) ≡ false
+not_live : (phase : Phase) → is_standing (retired phase) ≡ false
 not_live Unopened = refl
 not_live Standing = refl
 not_live (Ended k) = refl
@@ -33,8 +33,8 @@ not_live (Ended k) = refl
 opening_has : (e : Event) → is_opening e.deed ≡ true → (moment : ℕ) × (e ≡ event e.client (Open moment))
 opening_has e h = by_deed e.client e.deed h
   where
-    by_deed : (client : ℕ) (a : Deed) → is_opening a ≡ true
-        → (moment : ℕ) × (event client a ≡ event client (Open moment))
+    by_deed : (client : ℕ) (deed : Deed) → is_opening deed ≡ true
+        → (moment : ℕ) × (event client deed ≡ event client (Open moment))
     by_deed client (Look w) x = absurd (true≢false (sym x))
     by_deed client (Renew moment old) x = absurd (true≢false (sym x))
     by_deed client (Open moment) x = (moment, refl)
@@ -55,8 +55,8 @@ opened_has (e ∷ events) turn client h = by_client (λ k. opened_has events tur
     newest opening slot up = let o = opening_has e opening in (e.client, slot, up, (o.0, (zero, omega arith, o.1)))
 
     by_deed : (was_opened (phase_of (deeds_of client events)) ≡ true → HasOpenedFrom client events)
-        → e.client ≡ client → (a : Deed) → e.deed ≡ a
-        → was_opened (phase_of (a ∷ deeds_of client events)) ≡ true → HasOpenedFrom client (e ∷ events)
+        → e.client ≡ client → (deed : Deed) → e.deed ≡ deed
+        → was_opened (phase_of (deed ∷ deeds_of client events)) ≡ true → HasOpenedFrom client (e ∷ events)
     by_deed ih same (Look w) is k = later_more client e events (ih k)
     by_deed ih same (Renew moment old) is k = later_more client e events (ih k)
     by_deed ih same (Open moment) is k = newest (ap is_opening is) (ap slot_of same) (omega (arith, same))
@@ -84,8 +84,8 @@ pub has_opened : (events : List Event) (client : ℕ) → HasOpenedFrom client e
 has_opened [] client h = absurd (omega (arith, h.3.1.1))
 has_opened (e ∷ events) client h = by_place (λ k. has_opened events client k) (contains_cons e events (event h.0 (Open h.3.0)) h.3.1)
   where
-    stays : (a : Deed) (deeds : List Deed) → was_opened (phase_of deeds) ≡ true
-        → was_opened (phase_of (a ∷ deeds)) ≡ true
+    stays : (deed : Deed) (deeds : List Deed) → was_opened (phase_of deeds) ≡ true
+        → was_opened (phase_of (deed ∷ deeds)) ≡ true
     stays (Look w) deeds x = x
     stays (Renew moment old) deeds x = x
     stays (Open moment) deeds x = refl
@@ -93,11 +93,11 @@ has_opened (e ∷ events) client h = by_place (λ k. has_opened events client k)
     stays (Close seen now false) deeds x = x
     stays Retire deeds x = all_retired (phase_of deeds)
 
-    by_tests : (b p : Bool) (a : Deed) (deeds : List Deed) → was_opened (phase_of deeds) ≡ true
-        → was_opened (phase_of (cond b (a ∷ deeds) (cond p (Retire ∷ deeds) deeds))) ≡ true
-    by_tests true p a deeds x = stays a deeds x
-    by_tests false true a deeds x = all_retired (phase_of deeds)
-    by_tests false false a deeds x = x
+    by_tests : (b p : Bool) (deed : Deed) (deeds : List Deed) → was_opened (phase_of deeds) ≡ true
+        → was_opened (phase_of (cond b (deed ∷ deeds) (cond p (Retire ∷ deeds) deeds))) ≡ true
+    by_tests true p deed deeds x = stays deed deeds x
+    by_tests false true deed deeds x = all_retired (phase_of deeds)
+    by_tests false false deed deeds x = x
 
     here : (d moment : ℕ) → slot_of d ≡ slot_of client → client ≤ d
         → was_opened (phase_of (deeds_of client (event d (Open moment) ∷ events))) ≡ true
@@ -146,8 +146,8 @@ alone_live [] turn client h = refl
 alone_live (e ∷ events) turn client h = by_client (λ k. alone_live events turn.2 client k) (e.client == client) refl (opens_later client e) refl h
   where
     by_deed : (was_opened (phase_of (own_deeds_of client events)) ≡ true → is_standing (phase_of (own_deeds_of client events)) ≡ is_standing (phase_of (deeds_of client events)))
-        → (a : Deed) → was_opened (phase_of (a ∷ own_deeds_of client events)) ≡ true
-        → is_standing (phase_of (a ∷ own_deeds_of client events)) ≡ is_standing (phase_of (a ∷ deeds_of client events))
+        → (deed : Deed) → was_opened (phase_of (deed ∷ own_deeds_of client events)) ≡ true
+        → is_standing (phase_of (deed ∷ own_deeds_of client events)) ≡ is_standing (phase_of (deed ∷ deeds_of client events))
     by_deed ih (Look w) k = ih k
     by_deed ih (Renew moment old) k = ih k
     by_deed ih (Open moment) k = refl
@@ -178,8 +178,8 @@ pub has_own : (events : List Event) (client : ℕ) → HasOpened client events
 has_own [] client h = absurd (omega (arith, h.1.1))
 has_own (e ∷ events) client h = by_place (λ k. has_own events client k) (contains_cons e events (event client (Open h.0)) h.1)
   where
-    stays : (a : Deed) (deeds : List Deed) → was_opened (phase_of deeds) ≡ true
-        → was_opened (phase_of (a ∷ deeds)) ≡ true
+    stays : (deed : Deed) (deeds : List Deed) → was_opened (phase_of deeds) ≡ true
+        → was_opened (phase_of (deed ∷ deeds)) ≡ true
     stays (Look w) deeds x = x
     stays (Renew moment old) deeds x = x
     stays (Open moment) deeds x = refl
@@ -187,10 +187,10 @@ has_own (e ∷ events) client h = by_place (λ k. has_own events client k) (cont
     stays (Close seen now false) deeds x = x
     stays Retire deeds x = all_retired (phase_of deeds)
 
-    by_test : (b : Bool) (a : Deed) (deeds : List Deed) → was_opened (phase_of deeds) ≡ true
-        → was_opened (phase_of (cond b (a ∷ deeds) deeds)) ≡ true
-    by_test true a deeds x = stays a deeds x
-    by_test false a deeds x = x
+    by_test : (b : Bool) (deed : Deed) (deeds : List Deed) → was_opened (phase_of deeds) ≡ true
+        → was_opened (phase_of (cond b (deed ∷ deeds) deeds)) ≡ true
+    by_test true deed deeds x = stays deed deeds x
+    by_test false deed deeds x = x
 
     here : was_opened (phase_of (own_deeds_of client (event client (Open h.0) ∷ events))) ≡ true
     here = ap (λ (b : Bool). was_opened (phase_of (cond b (Open h.0 ∷ own_deeds_of client events) (own_deeds_of client events)))) (eq-eqb client client refl)
@@ -213,8 +213,8 @@ standing_opened (e ∷ events) client h = by_client (λ k. standing_opened event
     more x = (x.0, in_more (event client (Open x.0)) e events x.1)
 
     by_deed : (is_standing (phase_of (deeds_of client events)) ≡ true → HasOpened client events)
-        → e.client ≡ client → (a : Deed) → e.deed ≡ a
-        → is_standing (phase_of (a ∷ deeds_of client events)) ≡ true → HasOpened client (e ∷ events)
+        → e.client ≡ client → (deed : Deed) → e.deed ≡ deed
+        → is_standing (phase_of (deed ∷ deeds_of client events)) ≡ true → HasOpened client (e ∷ events)
     by_deed ih same (Look w) is k = more (ih k)
     by_deed ih same (Renew moment old) is k = more (ih k)
     by_deed ih same (Open moment) is k = (moment, (zero, omega arith, ap (λ (n : ℕ). event n e.deed) same ∙ ap (event client) is))

@@ -138,12 +138,12 @@ live_close : (seen now : ℕ) (done : Bool) (deeds : List Deed)
 live_close seen now true deeds = refl
 live_close seen now false deeds = refl
 
-pub not_live : (p : Phase) → is_standing (retired p) ≡ false
+pub not_live : (phase : Phase) → is_standing (retired phase) ≡ false
 not_live Unopened = refl
 not_live Standing = refl
 not_live (Ended bound) = refl
 
-pub all_opened : (p : Phase) → was_opened (retired p) ≡ true
+pub all_opened : (phase : Phase) → was_opened (retired phase) ≡ true
 all_opened Unopened = refl
 all_opened Standing = refl
 all_opened (Ended bound) = refl
