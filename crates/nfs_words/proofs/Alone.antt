@@ -11,7 +11,7 @@ use Rattle.nfs_words.specs.Words.{closed_part}
 use Rattle.nfs_words.specs.Deeds.{HasOpened, event, deeds_of, own_deeds_of, phase_of, is_standing}
 use Rattle.nfs_words.specs.Rule.{Kept}
 use Rattle.nfs_words.specs.Rules.{AnswersAlone, HasSameOf, IsSeated, KeeperHas, WroteAt, client_part}
-use Rattle.nfs_words.proofs.Turns.{alone_live, contains_cons, has_own, in_more}
+use Rattle.nfs_words.proofs.Turns.{alone_standing, contains_cons, has_own, in_more}
 use Rattle.nfs_words.proofs.Ruling.{keeper_held, rules}
 
 -- a deed is among those of the client itself
@@ -97,7 +97,7 @@ open_by_own table lawful client deeds h is =
     let turn = lawful.turn lawful.keeper lawful.holds.0 lawful.holds.1 lawful.holds.2 in
     let has = subst (λ (view : View). HasOpened client view.own) same h.3 in
     ap (λ (view : View). is_standing (phase_of (deeds_of client view.own))) (keeper_held table lawful)
-    ∙ sym (alone_live lawful.holds.0.own turn.in_turn client (has_own lawful.holds.0.own client has))
+    ∙ sym (alone_standing lawful.holds.0.own turn.in_turn client (has_own lawful.holds.0.own client has))
     ∙ ap (λ (view : View). is_standing (phase_of (own_deeds_of client view.own))) (sym same) ∙ ap (λ (deeds : List Deed). is_standing (phase_of deeds)) h.4 ∙ is
 
 -- and closed where it isn't

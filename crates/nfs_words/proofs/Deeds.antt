@@ -36,8 +36,8 @@ saw_knows (Close seen now false ∷ deeds) h = saw_knows deeds h
 saw_knows (Retire ∷ deeds) h = refl
 
 -- what was seen open was opened
-pub not_fresh : (part : ℕ) (deeds : List Deed) → FitsPhase Unopened part deeds → saw_open deeds ≡ true → ⊥
-not_fresh part deeds under h = true≢false (sym (saw_knows deeds h) ∙ under.0)
+pub not_unopened : (part : ℕ) (deeds : List Deed) → FitsPhase Unopened part deeds → saw_open deeds ≡ true → ⊥
+not_unopened part deeds under h = true≢false (sym (saw_knows deeds h) ∙ under.0)
 
 pub raise_under : (phase : Phase) (part bound : ℕ) (deeds : List Deed) → FitsPhase phase part deeds
     → FitsPhase phase (max part bound) deeds
@@ -48,7 +48,7 @@ raise_under (Ended n) part bound deeds u = u
 pub raise_good : (lease : ℕ) (phase : Phase) (part moment : ℕ) (deeds : List Deed) → IsPartIn phase part
     → IsMoment moment → saw_open deeds ≡ true → AreLawful lease phase part deeds
     → AreLawful lease phase (max part (moment + 1)) (Renew moment part ∷ deeds)
-raise_good lease Unopened part moment deeds is low seen good = absurd (not_fresh part deeds good.fits seen)
+raise_good lease Unopened part moment deeds is low seen good = absurd (not_unopened part deeds good.fits seen)
 raise_good lease Standing part moment deeds is low seen good =
     let u = good.fits in
     let o = good.order in

@@ -1,5 +1,5 @@
 -- From what a seat keeps of its deeds to single events.
-use Rattle.std.proofs.Common.{◌≡◌, ◌≢◌, ◌⊎◌, ℕ, zero, suc, ◌+◌, ◌<◌, ◌≤◌, ◌&&◌, not, cond, List, [], ◌∷◌, ◌++◌, Bool, true, false, true≢false, refl, sym, subst, inl, inr, ⊎_elim, arith, Contains, nat_lt, nat_le, ltb-true, le_trans, lt-ltb, ◌==◌}
+use Rattle.std.proofs.Common.{◌≡◌, ◌≢◌, ℕ, ◌+◌, ◌<◌, ◌≤◌, ◌&&◌, not, cond, List, [], ◌∷◌, ◌++◌, Bool, true, false, true≢false, refl, sym, subst, ⊎_elim, arith, Contains, nat_lt, nat_le, ltb-true, le_trans, lt-ltb, ◌==◌}
 use Rattle.std.proofs.lemmas.Bool.Decides.{nat_tests}
 use Rattle.nfs_words.specs.declared.event.Event.{Event}
 use Rattle.nfs_words.specs.declared.event.Deed.{Deed}
@@ -8,10 +8,7 @@ use Rattle.nfs_words.specs.Deeds.{event, deeds_of, opens_later, greatest_part, l
 use Rattle.nfs_words.specs.Words.{closed_part}
 use Rattle.nfs_words.specs.SeatLaws.{NoneLate, NoneAfterEnd, LooksFirst, NeverVacantAgain}
 use Rattle.nfs_words.proofs.Keeping.{of_same}
-
-contains_cons : (x : Event) (xs : List Event) (y : Event) → Contains (x ∷ xs) y → (x ≡ y) ⊎ Contains xs y
-contains_cons x xs y (zero, low, e) = inl e
-contains_cons x xs y (suc k, low, e) = inr (k, omega arith, e)
+use Rattle.nfs_words.proofs.Turns.{contains_cons}
 
 left_true : (a b : Bool) → (a && b) ≡ true → a ≡ true
 left_true true b h = refl

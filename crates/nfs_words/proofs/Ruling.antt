@@ -14,16 +14,10 @@ use Rattle.nfs_words.specs.Deeds.{HasOpened, saw_open, Phase, Unopened, Standing
 use Rattle.nfs_words.specs.Plays.{IsPartIn}
 use Rattle.nfs_words.specs.Rule.{AreLawful, HasSeenOpen, FitsPhase, Stands, FitsKeeper, Kept}
 use Rattle.nfs_words.specs.Rules.{HasEndedAlone, HasEvents, HasOpenedFrom, IsLast, IsSeated, RulesHold, WroteAt, slot_word, client_part}
+use Rattle.nfs_words.proofs.Keeping.{word_in}
 use Rattle.nfs_words.proofs.Parts.{read_some, closed_word}
-use Rattle.nfs_words.proofs.Turns.{opened_has, has_opened, count_has, alone_live, has_own}
+use Rattle.nfs_words.proofs.Turns.{in_more, opened_has, has_opened, count_has, alone_standing, has_own}
 use Rattle.nfs_words.proofs.Histories.{renewed_saw, answered_reach, looked_reach, opened_reach, none_late, none_after_end, looks_first, never_vacant_again}
-
--- the word in each phase
-word_in : (client : ℕ) (views : List View) (phase : Phase) (w : ℕ) → Stands client views phase w
-    → IsPartIn phase w
-word_in client views Unopened w h = h
-word_in client views Standing w h = (h.0, h.1)
-word_in client views (Ended k) w h = h
 
 vacant_of : (phase : Phase) (w : ℕ) → IsPartIn phase w
     → (w ≡ 0 → was_opened phase ≡ false) × (was_opened phase ≡ false → w ≡ 0)
@@ -64,9 +58,6 @@ both_under Standing w deeds events is a b = let low = is.1 in omega (arith, a.1,
 both_under (Ended k) w deeds events is a b = omega (arith, a.0, b.1)
 
 -- what was written
-in_more : (e x : Event) (events : List Event) → Contains events e → Contains (x ∷ events) e
-in_more e x events h = (suc h.0, omega (arith, h.1), h.2)
-
 abbrev Wrote : ℕ → ℕ → List Event → Type 0
 Wrote client w events = (moment : ℕ) × (w ≡ moment + 1) × (Contains events (event client (Open moment)) ⊎ ((from : ℕ) × (from ≢ closed_part) × Contains events (event client (Renew moment from))))
 
@@ -158,7 +149,7 @@ module _ (table : State ℕ View) (lawful : Kept table) where
   -- live by its own events exactly where it is at all
   alone_stage : (client : ℕ) → HasOpened client lawful.holds.0.own
       → is_standing (phase_of (own_deeds_of client lawful.holds.0.own)) ≡ is_standing (stage client)
-  alone_stage client h = alone_live lawful.holds.0.own turn.in_turn client (has_own lawful.holds.0.own client h) ∙ ap is_standing (phase_is client)
+  alone_stage client h = alone_standing lawful.holds.0.own turn.in_turn client (has_own lawful.holds.0.own client h) ∙ ap is_standing (phase_is client)
 
   -- the word of a whose that was opened, or passed over, is of its generation or a later one
   up : (client : ℕ) → was_opened (stage client) ≡ true
@@ -190,17 +181,17 @@ module _ (table : State ℕ View) (lawful : Kept table) where
           let here = (turn.words_are (slot_of client)).last g (omega (arith, is)) in
           omega (arith, most, some_word, here.0, here.1)
 
-  live_of : (p : Phase) (w : ℕ) → IsPartIn p w → was_opened p ≡ true
+  standing_of : (p : Phase) (w : ℕ) → IsPartIn p w → was_opened p ≡ true
       → (w ≡ closed_part → is_standing p ≡ false) × (is_standing p ≡ false → w ≡ closed_part)
-  live_of Unopened w h o = absurd (true≢false (sym o))
-  live_of Standing w h o = ((λ is. let low = h.1 in absurd (omega (arith, low, is))), (λ is. absurd (true≢false is)))
-  live_of (Ended k) w h o = ((λ _. refl), (λ _. h))
+  standing_of Unopened w h o = absurd (true≢false (sym o))
+  standing_of Standing w h o = ((λ is. let low = h.1 in absurd (omega (arith, low, is))), (λ is. absurd (true≢false is)))
+  standing_of (Ended k) w h o = ((λ _. refl), (λ _. h))
 
   alone_of : (client : ℕ) → HasOpened client lawful.holds.0.own
       → (client_part table client ≡ closed_part → is_standing (phase_of (own_deeds_of client lawful.holds.0.own)) ≡ false)
       × (is_standing (phase_of (own_deeds_of client lawful.holds.0.own)) ≡ false → client_part table client ≡ closed_part)
   alone_of client h =
-      let both = live_of (stage client) (client_part table client) (word client) (opened_stage client (self_later client h)) in
+      let both = standing_of (stage client) (client_part table client) (word client) (opened_stage client (self_later client h)) in
       ((λ is. alone_stage client h ∙ both.0 is), (λ is. both.1 (sym (alone_stage client h) ∙ is)))
 
   last_word_of : (client : ℕ) → IsLast client lawful.holds.0.own
@@ -263,10 +254,10 @@ module _ (table : State ℕ View) (lawful : Kept table) where
       shut_above : (g p w : ℕ) → g < p → word_with p 0 < w → part_in g w ≡ closed_part
       shut_above g p w less high = grind (arith, nat_tests)
 
-  one_live_of : (client other : ℕ) → slot_of client ≡ slot_of other
+  one_open_of : (client other : ℕ) → slot_of client ≡ slot_of other
       → is_standing (phase_of (deeds_of client lawful.holds.0.own)) ≡ true
       → is_standing (phase_of (deeds_of other lawful.holds.0.own)) ≡ true → client ≡ other
-  one_live_of client other slots a b =
+  one_open_of client other slots a b =
       let generation : generation_of client ≡ generation_of other = same_generation (generation_of client) (generation_of other) (slot_word table client) (open_word client a) (subst (λ (s : ℕ). (0 < part_in (generation_of other) (slice_index table.words s)) × (part_in (generation_of other) (slice_index table.words s) < closed_part)) (sym slots) (open_word other b)) in
       omega arith
     where
@@ -328,7 +319,7 @@ rules table lawful = record {
   apart = record {
     alone = λ client has. let both = alone_of table lawful client has in ((λ is. true≢false (sym (opened_stage table lawful client (self_later table lawful client has)) ∙ (vacant_of (stage table lawful client) (client_part table client) (word table lawful client)).0 is)), both);
     late = late_of table lawful;
-    one_open = one_live_of table lawful;
+    one_open = one_open_of table lawful;
   };
 }
 

@@ -27,12 +27,12 @@ vacant_read : (g : ℕ) → part_in g 0 ≡ 0
 vacant_read g = grind (arith, nat_tests)
 
 -- nothing is known by no deeds
-fresh_none : (lease w : ℕ) → AreLawful lease Unopened w []
-fresh_none lease w = record { order = refl; fits = (refl, refl, refl, refl) }
+unopened_none : (lease w : ℕ) → AreLawful lease Unopened w []
+unopened_none lease w = record { order = refl; fits = (refl, refl, refl, refl) }
 
 first_fits : (lease client : ℕ) (w : ℕ) → (at : ℕ) (view : View)
     → get_elem? (keeper_view lease ∷ []) at ≡ some view → FitsView 0 client Unopened w at view
-first_fits lease client w zero view e = subst (FitsView 0 client Unopened w 0) (some-injective _ _ e) record { keeps = λ k. (refl, refl); own = fresh_none lease w; beside = fresh_none lease w }
+first_fits lease client w zero view e = subst (FitsView 0 client Unopened w 0) (some-injective _ _ e) record { keeps = λ k. (refl, refl); own = unopened_none lease w; beside = unopened_none lease w }
 first_fits lease client w (suc at) view e = absurd (some-ne-none view (sym e))
 
 pub begins : (lease places : ℕ) (words : List ℕ) → places ≡ SLOTS → words ≡ replicate places 0
@@ -73,7 +73,7 @@ cap_top (Retire ∷ deeds) = cap_top deeds
 -- no deeds fit any phase that some deeds fit
 none_good : (lease lease' : ℕ) (phase : Phase) (w : ℕ) (deeds : List Deed) → AreLawful lease' phase w deeds
     → AreLawful lease phase w []
-none_good lease lease' Unopened w deeds good = fresh_none lease w
+none_good lease lease' Unopened w deeds good = unopened_none lease w
 none_good lease lease' Standing w deeds good = record { order = refl; fits = (refl, omega arith, refl) }
 none_good lease lease' (Ended k) w deeds good = let u = good.fits in record { order = refl; fits = (omega arith, omega (arith, u.1, cap_top deeds)) }
 

@@ -18,11 +18,12 @@ use Rattle.nfs_words.specs.Deeds.{was_opened_by, is_open_by, Phase, Unopened, St
 use Rattle.nfs_words.specs.Views.{with_event}
 use Rattle.nfs_words.specs.Rule.{HasOpenedAt, FitsPhase, AreLawful, Stands, RuleFor, IsWordOf, Kept}
 use Rattle.nfs_words.specs.Plays.{IsTold, Looked, Raised, Opened, Tried, Retired, moment_in}
+use Rattle.nfs_words.specs.laws.Following.{retired_opened}
 use Rattle.nfs_words.proofs.Parts.{part_low, read_some, read_raise, read_raise_else, read_here, read_earlier, read_later, read_alike, read_below, last_raise, closed_word}
 use Rattle.nfs_words.proofs.Turns.{standing_opened}
 use Rattle.nfs_words.proofs.Keeping.{Wrote, of_same, of_passed, of_else, set_each, set_there, mine, other, wrote_set, step_keeps, quiet_keeps, told_step, word_in}
 use Rattle.nfs_leases.specs.BookEvent.{IsAloneIn}
-use Rattle.nfs_words.proofs.Deeds.{look_good, not_fresh, raise_under, raise_good, open_good, close_good, try_good, ends_under, retire_good, wrote_open, wrote_raise, wrote_more}
+use Rattle.nfs_words.proofs.Deeds.{look_good, not_unopened, raise_under, raise_good, open_good, close_good, try_good, ends_under, retire_good, wrote_open, wrote_raise, wrote_more}
 
 module _ (keeper asked w : ℕ) (views : List View) (at : ℕ) (view : View) (e : get_elem? views at ≡ some view) where
   -- the views after the seat has one more deed of the client
@@ -54,7 +55,7 @@ module _ (keeper asked w : ℕ) (views : List View) (at : ℕ) (view : View) (e 
   raise_stands : (moment : ℕ) (p : Phase) → IsMoment moment → FitsPhase p w (deeds_of asked view.own)
       → saw_open (deeds_of asked view.own) ≡ true → Stands asked views p w
       → Stands asked (after (Renew moment w)) p (max w (moment + 1))
-  raise_stands moment Unopened low under seen h = absurd (not_fresh w (deeds_of asked view.own) under seen)
+  raise_stands moment Unopened low under seen h = absurd (not_unopened w (deeds_of asked view.own) under seen)
   raise_stands moment Standing low under seen h =
       let top = h.1 in
       let here = h.0 in (
@@ -138,15 +139,15 @@ module _ (keeper asked w : ℕ) (views : List View) (at : ℕ) (view : View) (e 
       (retire_stands one.stage)
 
   -- which phase it is
-  fresh_of : (p : Phase) → was_opened p ≡ false → p ≡ Unopened
-  fresh_of Unopened h = refl
-  fresh_of Standing h = absurd (true≢false h)
-  fresh_of (Ended k) h = absurd (true≢false h)
+  unopened_of : (p : Phase) → was_opened p ≡ false → p ≡ Unopened
+  unopened_of Unopened h = refl
+  unopened_of Standing h = absurd (true≢false h)
+  unopened_of (Ended k) h = absurd (true≢false h)
 
-  live_of : (p : Phase) (n : ℕ) → Stands asked views p w → w ≡ n + 1 → IsMoment n → p ≡ Standing
-  live_of Unopened n h same low = let is : w ≡ 0 = h in absurd (omega arith)
-  live_of Standing n h same low = refl
-  live_of (Ended k) n h same low = let is : w ≡ closed_part = h in absurd (omega arith)
+  standing_of : (p : Phase) (n : ℕ) → Stands asked views p w → w ≡ n + 1 → IsMoment n → p ≡ Standing
+  standing_of Unopened n h same low = let is : w ≡ 0 = h in absurd (omega arith)
+  standing_of Standing n h same low = refl
+  standing_of (Ended k) n h same low = let is : w ≡ closed_part = h in absurd (omega arith)
 
   vacant_of : (p : Phase) → Stands asked views p w → p ≡ Unopened → w ≡ 0
   vacant_of p h is = subst (λ (q : Phase). Stands asked views q w) is h
@@ -188,7 +189,7 @@ module _ (keeper asked w : ℕ) (views : List View) (at : ℕ) (view : View) (e 
 
   seen_word : (p : Phase) → saw_open (deeds_of asked view.own) ≡ true → FitsPhase p w (deeds_of asked view.own)
       → Stands asked views p w → w ≢ 0
-  seen_word Unopened seen u h = absurd (not_fresh w (deeds_of asked view.own) u seen)
+  seen_word Unopened seen u h = absurd (not_unopened w (deeds_of asked view.own) u seen)
   seen_word Standing seen u h = opened_word Standing refl h
   seen_word (Ended k) seen u h = opened_word (Ended k) refl h
 
@@ -208,25 +209,12 @@ opened_after (Open moment) deeds h = absurd (true≢false h)
 opened_after (Close seen now true) deeds h = absurd (true≢false h)
 opened_after (Close seen now false) deeds h = h
 opened_after Retire deeds h = absurd (true≢false (sym (retired_opened (phase_of deeds)) ∙ h))
-  where
-    retired_opened : (phase : Phase) → was_opened (retired phase) ≡ true
-    retired_opened Unopened = refl
-    retired_opened Standing = refl
-    retired_opened (Ended k) = refl
-
-retired_is : (deeds : List Deed) → was_opened (phase_of (Retire ∷ deeds)) ≡ true
-retired_is deeds = by_phase (phase_of deeds)
-  where
-    by_phase : (phase : Phase) → was_opened (retired phase) ≡ true
-    by_phase Unopened = refl
-    by_phase Standing = refl
-    by_phase (Ended k) = refl
 
 -- Of a client that was never opened nor passed over, the slot's last generation is an earlier one
-count_fresh : (asked : ℕ) (events : List Event) → was_opened (phase_of (deeds_of asked events)) ≡ false
+count_unopened : (asked : ℕ) (events : List Event) → was_opened (phase_of (deeds_of asked events)) ≡ false
     → count_opened (slot_of asked) events ≤ generation_of asked
-count_fresh asked [] h = omega arith
-count_fresh asked (e ∷ events) h = by_event (count_fresh asked events) (e.client == asked) refl (is_opening e.deed) refl (slot_of e.client == slot_of asked) refl (is_earlier asked e.client) refl h
+count_unopened asked [] h = omega arith
+count_unopened asked (e ∷ events) h = by_event (count_unopened asked events) (e.client == asked) refl (is_opening e.deed) refl (slot_of e.client == slot_of asked) refl (is_earlier asked e.client) refl h
   where
     by_event : (was_opened (phase_of (deeds_of asked events)) ≡ false → count_opened (slot_of asked) events ≤ generation_of asked)
         → (b : Bool) → (e.client == asked) ≡ b → (o : Bool) → is_opening e.deed ≡ o → (s : Bool)
@@ -243,9 +231,9 @@ count_fresh asked (e ∷ events) h = by_event (count_fresh asked events) (e.clie
         opens_it (Close seen now done) x y = sym x
         opens_it Retire x y = sym x
     by_event ih true is false opening s slot l after k = ih (opened_after e.deed (deeds_of asked events) k)
-    by_event ih false is true opening true slot true after k = absurd (true≢false (sym (retired_is (deeds_of asked events)) ∙ k))
+    by_event ih false is true opening true slot true after k = absurd (true≢false (sym (retired_opened (phase_of (deeds_of asked events))) ∙ k))
     by_event ih false is true opening true slot false after k = grind (arith, nat_tests)
-    by_event ih false is true opening false slot true after k = absurd (true≢false (sym (retired_is (deeds_of asked events)) ∙ k))
+    by_event ih false is true opening false slot true after k = absurd (true≢false (sym (retired_opened (phase_of (deeds_of asked events))) ∙ k))
     by_event ih false is true opening false slot false after k = ih k
     by_event ih false is false opening s slot l after k = ih k
 
@@ -281,7 +269,7 @@ last_opened s g (e ∷ events) low h = by_event (last_opened s g events low) (e.
         stays (Open moment) x = refl
         stays (Close seen now true) x = refl
         stays (Close seen now false) x = x
-        stays Retire x = retired_is (deeds_of client events)
+        stays Retire x = retired_opened (phase_of (deeds_of client events))
     by_event ih false is true opening true slot k =
         let number : e.client ≡ client = grind (arith, nat_tests) in
         absurd (true≢false (sym (eq-eqb e.client client number) ∙ is))
@@ -289,13 +277,13 @@ last_opened s g (e ∷ events) low h = by_event (last_opened s g events low) (e.
       where
         by_pass : (p : Bool) → was_opened (phase_of (deeds_of client events)) ≡ true
             → was_opened (phase_of (cond p (Retire ∷ deeds_of client events) (deeds_of client events))) ≡ true
-        by_pass true x = retired_is (deeds_of client events)
+        by_pass true x = retired_opened (phase_of (deeds_of client events))
         by_pass false x = x
     by_event ih false is false opening t slot k = by_pass (opens_later client e) (ih k)
       where
         by_pass : (p : Bool) → was_opened (phase_of (deeds_of client events)) ≡ true
             → was_opened (phase_of (cond p (Retire ∷ deeds_of client events) (deeds_of client events))) ≡ true
-        by_pass true x = retired_is (deeds_of client events)
+        by_pass true x = retired_opened (phase_of (deeds_of client events))
         by_pass false x = x
 
 -- Where no lease of the slot is open, the keeper knows its word
@@ -429,10 +417,10 @@ opens slots id me asked moment from k small is keeper never idle resting table k
     back = omega arith
 
     stage : one.stage ≡ Unopened
-    stage = fresh_of kept.keeper asked (part_at table.words asked) table.views id me.0 at one.stage (sym (ap was_opened ((one.each id me.0 at).keeps keeper).1) ∙ never)
+    stage = unopened_of kept.keeper asked (part_at table.words asked) table.views id me.0 at one.stage (sym (ap was_opened ((one.each id me.0 at).keeps keeper).1) ∙ never)
 
     counted : count_opened (slot_of asked) me.0.own ≤ g
-    counted = count_fresh asked me.0.own never
+    counted = count_unopened asked me.0.own never
 
     last : IsWordOf n (count_opened (slot_of asked) me.0.own)
     last = (kept.turn id me.0 at keeper).words_are (slot_of asked)
@@ -531,7 +519,7 @@ closes slots id me asked seen now k j small is shut keeper due table kept len at
     here hit = ap (part_in g) (found hit) ∙ read_here g (seen + 1) part
 
     stage : (n == k) ≡ true → one.stage ≡ Standing
-    stage hit = live_of kept.keeper asked (part_at table.words asked) table.views id me.0 at one.stage seen one.stands (here hit) small
+    stage hit = standing_of kept.keeper asked (part_at table.words asked) table.views id me.0 at one.stage seen one.stands (here hit) small
 
     whole : (b : Bool) → (n == k) ≡ b → Kept record { words = set table.words (slot_of asked) (either b j n); homes = table.homes; views = set table.views id (with_event me.0 (event asked (Close (moment_in asked k) now b))) }
     whole true hit =

@@ -5,8 +5,9 @@ use Rattle.nfs_owners.specs.Slots.{slot_of, generation_of, is_earlier}
 use Rattle.nfs_words.specs.declared.event.Event.{Event}
 use Rattle.nfs_words.specs.declared.event.Deed.{Deed}
 use Rattle.nfs_words.specs.declared.event.Deed.TheVariants.{Look, Renew, Open, Close, Retire}
-use Rattle.nfs_words.specs.Deeds.{HasOpened, Phase, Unopened, Standing, Ended, event, deeds_of, own_deeds_of, opens_later, is_opening, is_ending, count_opened, AreInTurn, phase_of, retired, was_opened, is_standing}
+use Rattle.nfs_words.specs.Deeds.{HasOpened, event, deeds_of, own_deeds_of, opens_later, is_opening, is_ending, count_opened, AreInTurn, phase_of, was_opened, is_standing}
 use Rattle.nfs_words.specs.Rules.{HasOpenedFrom}
+use Rattle.nfs_words.specs.laws.Following.{retired_opened, retired_not_standing}
 
 pub in_more : (e x : Event) (events : List Event) → Contains events e → Contains (x ∷ events) e
 in_more e x events h = (suc h.0, omega (arith, h.1), h.2)
@@ -18,16 +19,6 @@ contains_cons x xs y (suc k, low, e) = inr (k, omega arith, e)
 later_more : (client : ℕ) (x : Event) (events : List Event) → HasOpenedFrom client events
     → HasOpenedFrom client (x ∷ events)
 later_more client x events h = (h.0, h.1, h.2, (h.3.0, in_more (event h.0 (Open h.3.0)) x events h.3.1))
-
-all_retired : (phase : Phase) → was_opened (retired phase) ≡ true
-all_retired Unopened = refl
-all_retired Standing = refl
-all_retired (Ended k) = refl
-
-not_live : (phase : Phase) → is_standing (retired phase) ≡ false
-not_live Unopened = refl
-not_live Standing = refl
-not_live (Ended k) = refl
 
 -- an opening is the event of it
 opening_has : (e : Event) → is_opening e.deed ≡ true → (moment : ℕ) × (e ≡ event e.client (Open moment))
@@ -91,12 +82,12 @@ has_opened (e ∷ events) client h = by_place (λ k. has_opened events client k)
     stays (Open moment) deeds x = refl
     stays (Close seen now true) deeds x = refl
     stays (Close seen now false) deeds x = x
-    stays Retire deeds x = all_retired (phase_of deeds)
+    stays Retire deeds x = retired_opened (phase_of deeds)
 
     by_tests : (b p : Bool) (deed : Deed) (deeds : List Deed) → was_opened (phase_of deeds) ≡ true
         → was_opened (phase_of (cond b (deed ∷ deeds) (cond p (Retire ∷ deeds) deeds))) ≡ true
     by_tests true p deed deeds x = stays deed deeds x
-    by_tests false true deed deeds x = all_retired (phase_of deeds)
+    by_tests false true deed deeds x = retired_opened (phase_of deeds)
     by_tests false false deed deeds x = x
 
     here : (d moment : ℕ) → slot_of d ≡ slot_of client → client ≤ d
@@ -106,7 +97,7 @@ has_opened (e ∷ events) client h = by_place (λ k. has_opened events client k)
         by_same : (b : Bool) → (d == client) ≡ b → (l : Bool) → is_earlier client d ≡ l
             → was_opened (phase_of (cond b (Open moment ∷ deeds_of client events) (cond l (Retire ∷ deeds_of client events) (deeds_of client events)))) ≡ true
         by_same true x l y = refl
-        by_same false x true y = all_retired (phase_of (deeds_of client events))
+        by_same false x true y = retired_opened (phase_of (deeds_of client events))
         by_same false x false y = absurd (grind (arith, nat_tests))
 
     by_place : (HasOpenedFrom client events → was_opened (phase_of (deeds_of client events)) ≡ true)
@@ -139,11 +130,11 @@ count_has s n (e ∷ events) low h = by_event (λ k. count_has s n events low k)
     by_event ih false opening t slot k = more (ih k)
 
 -- A client that was opened itself is live by its own events alone exactly where it is by all of the slot's
-pub alone_live : (events : List Event) → AreInTurn events → (client : ℕ)
+pub alone_standing : (events : List Event) → AreInTurn events → (client : ℕ)
     → was_opened (phase_of (own_deeds_of client events)) ≡ true
     → is_standing (phase_of (own_deeds_of client events)) ≡ is_standing (phase_of (deeds_of client events))
-alone_live [] turn client h = refl
-alone_live (e ∷ events) turn client h = by_client (λ k. alone_live events turn.2 client k) (e.client == client) refl (opens_later client e) refl h
+alone_standing [] turn client h = refl
+alone_standing (e ∷ events) turn client h = by_client (λ k. alone_standing events turn.2 client k) (e.client == client) refl (opens_later client e) refl h
   where
     by_deed : (was_opened (phase_of (own_deeds_of client events)) ≡ true → is_standing (phase_of (own_deeds_of client events)) ≡ is_standing (phase_of (deeds_of client events)))
         → (deed : Deed) → was_opened (phase_of (deed ∷ own_deeds_of client events)) ≡ true
@@ -153,7 +144,7 @@ alone_live (e ∷ events) turn client h = by_client (λ k. alone_live events tur
     by_deed ih (Open moment) k = refl
     by_deed ih (Close seen now true) k = refl
     by_deed ih (Close seen now false) k = ih k
-    by_deed ih Retire k = not_live (phase_of (own_deeds_of client events)) ∙ sym (not_live (phase_of (deeds_of client events)))
+    by_deed ih Retire k = retired_not_standing (phase_of (own_deeds_of client events)) ∙ sym (retired_not_standing (phase_of (deeds_of client events)))
 
     idle : opens_later client e ≡ true → is_standing (phase_of (deeds_of client events)) ≡ false
     idle is = by_pass (is_opening e.deed) refl (is_earlier client e.client) refl is
@@ -169,7 +160,7 @@ alone_live (e ∷ events) turn client h = by_client (λ k. alone_live events tur
         → was_opened (phase_of (cond b (e.deed ∷ own_deeds_of client events) (own_deeds_of client events))) ≡ true
         → is_standing (phase_of (cond b (e.deed ∷ own_deeds_of client events) (own_deeds_of client events))) ≡ is_standing (phase_of (cond b (e.deed ∷ deeds_of client events) (cond p (Retire ∷ deeds_of client events) (deeds_of client events))))
     by_client ih true same p is k = by_deed ih e.deed k
-    by_client ih false other true is k = ih k ∙ idle is ∙ sym (not_live (phase_of (deeds_of client events)))
+    by_client ih false other true is k = ih k ∙ idle is ∙ sym (retired_not_standing (phase_of (deeds_of client events)))
     by_client ih false other false is k = ih k
 
 -- what was opened is so by its own events
@@ -185,7 +176,7 @@ has_own (e ∷ events) client h = by_place (λ k. has_own events client k) (cont
     stays (Open moment) deeds x = refl
     stays (Close seen now true) deeds x = refl
     stays (Close seen now false) deeds x = x
-    stays Retire deeds x = all_retired (phase_of deeds)
+    stays Retire deeds x = retired_opened (phase_of deeds)
 
     by_test : (b : Bool) (deed : Deed) (deeds : List Deed) → was_opened (phase_of deeds) ≡ true
         → was_opened (phase_of (cond b (deed ∷ deeds) deeds)) ≡ true
@@ -220,12 +211,12 @@ standing_opened (e ∷ events) client h = by_client (λ k. standing_opened event
     by_deed ih same (Open moment) is k = (moment, (zero, omega arith, ap (λ (n : ℕ). event n e.deed) same ∙ ap (event client) is))
     by_deed ih same (Close seen now true) is k = absurd (true≢false (sym k))
     by_deed ih same (Close seen now false) is k = more (ih k)
-    by_deed ih same Retire is k = absurd (true≢false (sym k ∙ not_live (phase_of (deeds_of client events))))
+    by_deed ih same Retire is k = absurd (true≢false (sym k ∙ retired_not_standing (phase_of (deeds_of client events))))
 
     by_client : (is_standing (phase_of (deeds_of client events)) ≡ true → HasOpened client events) → (b : Bool)
         → (e.client == client) ≡ b → (p : Bool)
         → is_standing (phase_of (cond b (e.deed ∷ deeds_of client events) (cond p (Retire ∷ deeds_of client events) (deeds_of client events)))) ≡ true
         → HasOpened client (e ∷ events)
     by_client ih true same p k = by_deed ih (eqb-true e.client client same) e.deed refl k
-    by_client ih false other true k = absurd (true≢false (sym k ∙ not_live (phase_of (deeds_of client events))))
+    by_client ih false other true k = absurd (true≢false (sym k ∙ retired_not_standing (phase_of (deeds_of client events))))
     by_client ih false other false k = more (ih k)
