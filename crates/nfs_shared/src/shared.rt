@@ -396,7 +396,8 @@ impl<N: Naming> Shared<N> {
         count.audit(&mut rest);
         share.merge(marks);
         other_count.audit(&mut share);
-        leased.into_core()
+        let (core, _) = leased.into_parts();
+        core
     }
 }
 

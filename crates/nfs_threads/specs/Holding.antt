@@ -44,14 +44,15 @@ abbrev pub renewed_in : HeldView → History → ClientId → OpResult
 renewed_in held start client =
     results.Renew (renewal_answer (has_open_lease held.leases (number_in start.epoch client)))
 
--- How a desk answers a question. RENEW is answered NFS4_OK where the client's lease is open in a value that the lock may
--- have guarded since the seat's last receipt.
-abbrev pub GivenBySeat : Holding → Question → OpResult → Holding → Type 0
-GivenBySeat old (Operation request) answer new =
+-- How a desk answers a question, in the run with this epoch. RENEW is answered NFS4_OK where the client's lease is open in
+-- a value that the lock may have guarded since the seat's last receipt.
+abbrev pub GivenBySeat : ℕ → Holding → Question → OpResult → Holding → Type 0
+GivenBySeat epoch old (Operation request) answer new =
     (receipt : Option Receipt) × IsReceived old request answer receipt new
-GivenBySeat old (Renewal moment client) answer new =
+GivenBySeat epoch old (Renewal moment client) answer new =
     (held : HeldView)
     × (start : History)
     × MayBeHeld start old.seat held
+    × (start.epoch ≡ epoch)
     × (answer ≡ renewed_in held start client)
     × HoldsTheSame old new

@@ -31,7 +31,7 @@ receipts_by_worker workers = map (λ account. account.receipts.items) workers
 pub record IsRun {R W : Type 0} (links : TcpLinks R W) (tree : Files) (count : ℕ) (old new : Server)
     (workers : List WorkerAccount) : Type 0 where
   pub all : length workers ≡ count
-  pub each : AreAccounts tcp tree links 0 workers
+  pub each : AreAccounts (tcp old.journal.epoch) tree links 0 workers
   -- the journal began as that of the old core, and is lawful; and what is stored is safe
   pub start : start_of new.journal ≡ start_of old.journal
   pub lawful : IsLawful new

@@ -85,7 +85,7 @@ impl<'a, N: Naming, R: Wait> Desk<'a, N, R> {
 }
 
 impl<'a, N: Naming, R: Wait> Service for Desk<'a, N, R> {
-    ghost gives = { GivenBySeat };
+    ghost gives = { GivenBySeat N.start.epoch };
 
     ghost alike = { AreAlikeButRoom };
 

@@ -208,7 +208,7 @@ fn serve_helped<
     requires unused { AreUnused (seats_of links.items) }
     requires empty { spare.items ≡ [] }
     requires room { length links.items ≤ vec_capacity spare }
-    ensures { AreEndsOf tcp setting.now.tree.now links.entry.items result.0.items }
+    ensures { AreEndsOf (tcp N.start.epoch) setting.now.tree.now links.entry.items result.0.items }
 {
     thread::scope(
         thread::scope_env(),
@@ -216,7 +216,7 @@ fn serve_helped<
         |scope| -> (Vec<WorkerEnd<N>>, Helpers<N>, bool)
             requires { (N.start.nodes ≡ setting.now.tree.now.nodes) × AreUnused (seats_of links.items)
                 × (spare.items ≡ []) × (length links.items ≤ vec_capacity spare) }
-            ensures { AreEndsOf tcp setting.entry.now.tree.now links.entry.items result.0.items }
+            ensures { AreEndsOf (tcp N.start.epoch) setting.entry.now.tree.now links.entry.items result.0.items }
         {
             let Helpers { sweeper, sender } = helpers;
             let sweeping = scope.spawn(move || sweep_until(setting, shared, sweeper));
@@ -250,7 +250,7 @@ fn refuse_all<N: Naming, R, W>(
     requires unused { AreUnused (seats_of links.items) }
     requires empty { spare.items ≡ [] }
     requires room { vec_len links ≤ vec_capacity spare }
-    ensures { AreEndsOf tcp tree.now links.entry.items result.items }
+    ensures { AreEndsOf (tcp N.start.epoch) tree.now links.entry.items result.items }
 {
     let mut all = spare;
     for (_, seat) in links {

@@ -1,12 +1,14 @@
-use Rattle.std.proofs.Common.{◌≤◌, List, ap, length, subst, sym, vec_capacity, ◌∙◌}
+use Rattle.std.proofs.Common.{◌≤◌, ℕ, List, ap, length, subst, sym, vec_capacity, ◌∙◌}
 use Rattle.std.proofs.lemmas.List.{length-map}
 use Rattle.nfs_shared.specs.Ends.{AllApart, AllStand, AreFresh, receipts_in}
 use Rattle.nfs_shared.specs.Naming.{OpenedView}
 use Rattle.nfs_shared.specs.Seats.{SeatView}
 use Rattle.nfs_shared.specs.declared.receipt.Receipt.{Receipt}
 use Rattle.nfs_threads.proofs.Accounts.{accounts_of}
+use Rattle.nfs_state.specs.State.{History}
 use Rattle.nfs_threads.specs.Links.{tcp}
 use Rattle.nfs_threads.specs.Rooms.{HaveRoom}
+use Rattle.nfs_threads.specs.Run.{AreAccounts}
 use Rattle.nfs_threads.proofs.listening.run.Goals as goal
 
 pub serve_helped-ends-requires-clause-unused : goal.serve_helped-ends-requires-clause-unused
@@ -52,7 +54,8 @@ returns-clause-served g c =
     let accounts = c.end-core.result.1.items in
     let receipts = c.end-core.ensures.receipts in record {
       all = sym (length-map accounts (λ a. a.receipts.items)) ∙ ap (λ xs. length xs) receipts ∙ length-map all (λ e. e.receipts.items) ∙ many;
-      each = accounts_of tcp c.args.setting.now.tree.now c.args.links.now g.N.Naming.run.workers links all accounts fresh c.link_all.ensures.same c.serve_helped-ends.ensures c.end-core.ensures.shifts receipts;
+      each = subst (λ (epoch : ℕ). AreAccounts (tcp epoch) c.args.setting.now.tree.now c.args.links.now 0 accounts) (ap (λ (h : History). h.epoch) (sym c.requires.beginning.start))
+          (accounts_of (tcp g.N.Naming.start.epoch) c.args.setting.now.tree.now c.args.links.now g.N.Naming.run.workers links all accounts fresh c.link_all.ensures.same c.serve_helped-ends.ensures c.end-core.ensures.shifts receipts);
       start = c.end-core.ensures.start ∙ sym c.requires.beginning.start;
       lawful = c.end-core.ensures.lawful;
       safe = c.end-core.ensures.safe;

@@ -4,4 +4,4 @@ use Rattle.nfs_threads.proofs.worker_laws.workers_keep_receipts.Goals as goal
 
 pub returns : goal.returns
 returns g c tree count links ends fresh are =
-    are_kept (linking g.L.Links.opens g.L.Links.stops g.L.Device.Duplex.device g.L.Device.Duplex.read_failures g.L.Device.Duplex.write_failures g.L.Clock.Clock.tells) tree count links ends fresh are
+    are_kept (linking g.N.Naming.start.epoch g.L.Links.opens g.L.Links.stops g.L.Device.Duplex.device g.L.Device.Duplex.read_failures g.L.Device.Duplex.write_failures g.L.Clock.Clock.tells) tree count links ends fresh are

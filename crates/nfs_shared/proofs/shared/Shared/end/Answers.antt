@@ -16,7 +16,7 @@ pub returns-clause-stand : goal.returns-clause-stand
 returns-clause-stand g c =
     let held = c.held.inside in
     let begin = subst (AllBegin c.args.seats.items) c.held.invariant.0.receipts c.meet_each.ensures.begin in
-    subst (λ (s : Server). AllStand s.journal.entries (map (λ v. v.items) c.args.receipts.now)) (sym c.into_core.ensures)
+    subst (λ (s : Server). AllStand s.journal.entries (map (λ v. v.items) c.args.receipts.now)) (sym c.into_parts-core.ensures.core)
     (all_stand held.leased.core.journal.entries held.register.places.items c.args.seats.items (map (λ v. v.items) c.args.receipts.now) begin c.requires.kept)
 
 pub returns-clause-apart : goal.returns-clause-apart
@@ -35,7 +35,7 @@ returns-clause-counted g c =
     let met = c.meet_each.ensures in
     let whole : c.meet_each.new.rest.amount ≡ held.register.count.total = c.audit.ensures.whole (omega (arith, met.parts, c.held.invariant.3, c.requires.all)) in
     let same = counted es held.register.places.items (list_of held.register.writer) h.receipts h.places in
-    omega (arith, ap (λ (s : Server). calls_in s.journal.entries) c.into_core.ensures, whole, met.amount, c.held.invariant.4, c.held.invariant.1.total, same, h.places, all)
+    omega (arith, ap (λ (s : Server). calls_in s.journal.entries) c.into_parts-core.ensures.core, whole, met.amount, c.held.invariant.4, c.held.invariant.1.total, same, h.places, all)
 
 -- what was taken begins what was put, which begins the journal's recalls
 pub returns-clause-taken : goal.returns-clause-taken
@@ -49,7 +49,7 @@ returns-clause-taken g c =
     subst (AreRecallsOf held.leased.core.journal) (sym same) c.held.invariant.0.queued in
     let told : AreRecallsOf held.leased.core.journal (c.args.sender.taken ++ (begins.0 ++ left)) =
     subst (λ (s : SenderView). AreRecallsOf held.leased.core.journal (s.taken ++ (begins.0 ++ left))) c.sender.view_is all in
-    (begins.0 ++ left, subst (λ (s : Server). AreRecallsOf s.journal (c.args.sender.taken ++ (begins.0 ++ left))) (sym c.into_core.ensures) told)
+    (begins.0 ++ left, subst (λ (s : Server). AreRecallsOf s.journal (c.args.sender.taken ++ (begins.0 ++ left))) (sym c.into_parts-core.ensures.core) told)
 
 -- the sweeper's share and the sender's are the whole
 pub returns-clause-others : goal.returns-clause-others
@@ -57,7 +57,7 @@ returns-clause-others g c =
     let whole = c.audit-2.ensures.whole (omega (arith, c.merge.ensures.parts, c.sweeper.invariant, c.sender.invariant.0)) in
     omega (
       arith,
-      ap (λ (s : Server). others_in s.journal.entries) c.into_core.ensures,
+      ap (λ (s : Server). others_in s.journal.entries) c.into_parts-core.ensures.core,
       whole,
       c.merge.ensures.amount,
       c.held.invariant.5,
