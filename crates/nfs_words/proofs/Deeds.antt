@@ -1,5 +1,5 @@
 -- What one more deed of a client leaves of a seat's list of deeds.
-use Rattle.std.proofs.Common.{◌≡◌, ◌≢◌, ℕ, ◌+◌, ◌<◌, ◌≤◌, ◌^◌, List, [], ◌∷◌, true, false, true≢false, max, refl, sym, ◌∙◌, arith}
+use Rattle.std.proofs.Common.{◌≡◌, ◌≢◌, ℕ, ◌+◌, ◌<◌, ◌≤◌, List, [], ◌∷◌, true, false, true≢false, max, refl, sym, ◌∙◌, arith}
 use Rattle.std.proofs.lemmas.Bool.Decides.{nat_tests}
 use Rattle.nfs_words.specs.declared.event.Deed.{Deed}
 use Rattle.nfs_words.specs.declared.event.Deed.TheVariants.{Look, Renew, Open, Close, Retire}
@@ -9,96 +9,101 @@ use Rattle.nfs_words.specs.Rule.{FitsPhase, AreLawful}
 use Rattle.nfs_words.specs.Plays.{IsPartIn}
 
 -- a look at the word as it is
-pub look_good : (lease : ℕ) (p : Phase) (w : ℕ) (ds : List Deed) → IsPartIn p w → AreLawful lease p w ds
-    → AreLawful lease p w (Look w ∷ ds)
-look_good lease Unopened w ds is good =
+pub look_good : (lease : ℕ) (phase : Phase) (part : ℕ) (deeds : List Deed) → IsPartIn phase part
+    → AreLawful lease phase part deeds → AreLawful lease phase part (Look part ∷ deeds)
+look_good lease Unopened part deeds is good =
     let u = good.fits in
     let o = good.order in
     record { order = grind (arith, nat_tests, u.0); fits = (grind (arith, nat_tests, u.0), grind (arith, nat_tests, u.1), grind (arith, nat_tests, u.2), u.3) }
-look_good lease Standing w ds is good =
+look_good lease Standing part deeds is good =
     let u = good.fits in
     let o = good.order in
     let above = is.0 in
     let low = is.1 in
     record { order = grind (arith, nat_tests, u.0, u.1); fits = (grind (arith, nat_tests, u.0), grind (arith, nat_tests, u.1), u.2) }
-look_good lease (Ended k) w ds is good =
+look_good lease (Ended bound) part deeds is good =
     let u = good.fits in
     let o = good.order in
     record { order = grind (arith, nat_tests); fits = (grind (arith, nat_tests, u.0), u.1) }
 
-saw_knows : (ds : List Deed) → saw_open ds ≡ true → knows ds ≡ true
+saw_knows : (deeds : List Deed) → saw_open deeds ≡ true → knows deeds ≡ true
 saw_knows [] h = h
-saw_knows (Look w ∷ ds) h = let r = saw_knows ds in grind (arith, nat_tests)
-saw_knows (Renew m old ∷ ds) h = refl
-saw_knows (Open m ∷ ds) h = refl
-saw_knows (Close seen now true ∷ ds) h = refl
-saw_knows (Close seen now false ∷ ds) h = saw_knows ds h
-saw_knows (Retire ∷ ds) h = refl
+saw_knows (Look part ∷ deeds) h = let r = saw_knows deeds in grind (arith, nat_tests)
+saw_knows (Renew moment old ∷ deeds) h = refl
+saw_knows (Open moment ∷ deeds) h = refl
+saw_knows (Close seen now true ∷ deeds) h = refl
+saw_knows (Close seen now false ∷ deeds) h = saw_knows deeds h
+saw_knows (Retire ∷ deeds) h = refl
 
 -- what was seen open was opened
-pub not_fresh : (w : ℕ) (ds : List Deed) → FitsPhase Unopened w ds → saw_open ds ≡ true → ⊥
-not_fresh w ds under h = true≢false (sym (saw_knows ds h) ∙ under.0)
+pub not_unopened : (part : ℕ) (deeds : List Deed) → FitsPhase Unopened part deeds → saw_open deeds ≡ true → ⊥
+not_unopened part deeds under h = true≢false (sym (saw_knows deeds h) ∙ under.0)
 
-pub raise_under : (p : Phase) (w k : ℕ) (ds : List Deed) → FitsPhase p w ds → FitsPhase p (max w k) ds
-raise_under Unopened w k ds u = u
-raise_under Standing w k ds u = (u.0, omega (arith, u.1), u.2)
-raise_under (Ended n) w k ds u = u
+pub raise_under : (phase : Phase) (part bound : ℕ) (deeds : List Deed) → FitsPhase phase part deeds
+    → FitsPhase phase (max part bound) deeds
+raise_under Unopened part bound deeds u = u
+raise_under Standing part bound deeds u = (u.0, omega (arith, u.1), u.2)
+raise_under (Ended n) part bound deeds u = u
 
-pub raise_good : (lease : ℕ) (p : Phase) (w m : ℕ) (ds : List Deed) → IsPartIn p w → IsMoment m
-    → saw_open ds ≡ true → AreLawful lease p w ds → AreLawful lease p (max w (m + 1)) (Renew m w ∷ ds)
-raise_good lease Unopened w m ds is low seen good = absurd (not_fresh w ds good.fits seen)
-raise_good lease Standing w m ds is low seen good =
+pub raise_good : (lease : ℕ) (phase : Phase) (part moment : ℕ) (deeds : List Deed) → IsPartIn phase part
+    → IsMoment moment → saw_open deeds ≡ true → AreLawful lease phase part deeds
+    → AreLawful lease phase (max part (moment + 1)) (Renew moment part ∷ deeds)
+raise_good lease Unopened part moment deeds is low seen good = absurd (not_unopened part deeds good.fits seen)
+raise_good lease Standing part moment deeds is low seen good =
     let u = good.fits in
     let o = good.order in
     let above = is.0 in
     let top = is.1 in
     record { order = grind (arith, nat_tests, u.0, u.1); fits = (grind (arith, nat_tests, u.0), grind (arith, nat_tests, u.1), u.2) }
-raise_good lease (Ended k) w m ds is low seen good =
+raise_good lease (Ended bound) part moment deeds is low seen good =
     let u = good.fits in
     let o = good.order in
     record { order = grind (arith, nat_tests); fits = (grind (arith, nat_tests, u.0), u.1) }
 
-pub open_good : (lease w m : ℕ) (ds : List Deed) → AreLawful lease Unopened w ds
-    → AreLawful lease Standing (m + 1) (Open m ∷ ds)
-open_good lease w m ds good =
+pub open_good : (lease part moment : ℕ) (deeds : List Deed) → AreLawful lease Unopened part deeds
+    → AreLawful lease Standing (moment + 1) (Open moment ∷ deeds)
+open_good lease part moment deeds good =
     let u = good.fits in
     let o = good.order in
     record { order = grind (arith, nat_tests, u.0); fits = (u.1, grind (arith, u.2), u.3) }
 
-pub close_good : (lease seen now : ℕ) (ds : List Deed) → IsMoment seen → seen + lease < now
-    → AreLawful lease Standing (seen + 1) ds
-    → AreLawful lease (Ended (seen + 1)) closed_part (Close seen now true ∷ ds)
-close_good lease seen now ds low due good =
+pub close_good : (lease seen now : ℕ) (deeds : List Deed) → IsMoment seen → seen + lease < now
+    → AreLawful lease Standing (seen + 1) deeds
+    → AreLawful lease (Ended (seen + 1)) closed_part (Close seen now true ∷ deeds)
+close_good lease seen now deeds low due good =
     let u = good.fits in
     let o = good.order in
     record { order = grind (arith, nat_tests, u.0, u.1); fits = (u.1, omega (arith, u.2)) }
 
-pub try_good : (lease : ℕ) (p : Phase) (w seen now : ℕ) (ds : List Deed) → seen + lease < now
-    → AreLawful lease p w ds → AreLawful lease p w (Close seen now false ∷ ds)
-try_good lease Unopened w seen now ds due good = let o = good.order in record { order = grind (arith, nat_tests); fits = good.fits }
-try_good lease Standing w seen now ds due good = let o = good.order in record { order = grind (arith, nat_tests); fits = good.fits }
-try_good lease (Ended k) w seen now ds due good = let o = good.order in record { order = grind (arith, nat_tests); fits = good.fits }
+pub try_good : (lease : ℕ) (phase : Phase) (part seen now : ℕ) (deeds : List Deed) → seen + lease < now
+    → AreLawful lease phase part deeds → AreLawful lease phase part (Close seen now false ∷ deeds)
+try_good lease Unopened part seen now deeds due good = let o = good.order in record { order = grind (arith, nat_tests); fits = good.fits }
+try_good lease Standing part seen now deeds due good = let o = good.order in record { order = grind (arith, nat_tests); fits = good.fits }
+try_good lease (Ended bound) part seen now deeds due good = let o = good.order in record { order = grind (arith, nat_tests); fits = good.fits }
 
 -- an open lease that ends with the bound k, which its word doesn't pass
-pub ends_under : (w k : ℕ) (ds : List Deed) → w ≤ k → k ≤ closed_part → FitsPhase Standing w ds
-    → FitsPhase (Ended k) closed_part ds
-ends_under w k ds low top u = (omega (arith, u.1), omega (arith, u.2))
+pub ends_under : (part bound : ℕ) (deeds : List Deed) → part ≤ bound → bound ≤ closed_part
+    → FitsPhase Standing part deeds → FitsPhase (Ended bound) closed_part deeds
+ends_under part bound deeds low top u = (omega (arith, u.1), omega (arith, u.2))
 
-pub retire_good : (lease : ℕ) (p : Phase) (w w' : ℕ) (ds : List Deed) → FitsPhase (retired p) w' ds
-    → AreLawful lease p w ds → AreLawful lease (retired p) w' (Retire ∷ ds)
-retire_good lease Unopened w w' ds u good = record { order = good.order; fits = u }
-retire_good lease Standing w w' ds u good = record { order = good.order; fits = u }
-retire_good lease (Ended k) w w' ds u good = record { order = good.order; fits = u }
+pub retire_good : (lease : ℕ) (phase : Phase) (part later_part : ℕ) (deeds : List Deed)
+    → FitsPhase (retired phase) later_part deeds → AreLawful lease phase part deeds
+    → AreLawful lease (retired phase) later_part (Retire ∷ deeds)
+retire_good lease Unopened part later_part deeds u good = record { order = good.order; fits = u }
+retire_good lease Standing part later_part deeds u good = record { order = good.order; fits = u }
+retire_good lease (Ended bound) part later_part deeds u good = record { order = good.order; fits = u }
 
-pub wrote_open : (m : ℕ) (ds : List Deed) → wrote (m + 1) (Open m ∷ ds) ≡ true
-wrote_open m ds = grind (arith, nat_tests)
+pub wrote_open : (moment : ℕ) (deeds : List Deed) → wrote (moment + 1) (Open moment ∷ deeds) ≡ true
+wrote_open moment deeds = grind (arith, nat_tests)
 
-pub wrote_raise : (m w : ℕ) (ds : List Deed) → w ≢ closed_part → wrote (m + 1) (Renew m w ∷ ds) ≡ true
-wrote_raise m w ds h = grind (arith, nat_tests)
+pub wrote_raise : (moment part : ℕ) (deeds : List Deed) → part ≢ closed_part
+    → wrote (moment + 1) (Renew moment part ∷ deeds) ≡ true
+wrote_raise moment part deeds h = grind (arith, nat_tests)
 
-pub wrote_more : (w : ℕ) (d : Deed) (ds : List Deed) → wrote w ds ≡ true → wrote w (d ∷ ds) ≡ true
-wrote_more w (Look n) ds h = h
-wrote_more w (Renew m old) ds h = grind (arith, nat_tests)
-wrote_more w (Open m) ds h = grind (arith, nat_tests)
-wrote_more w (Close seen now done) ds h = h
-wrote_more w Retire ds h = h
+pub wrote_more : (part : ℕ) (deed : Deed) (deeds : List Deed) → wrote part deeds ≡ true
+    → wrote part (deed ∷ deeds) ≡ true
+wrote_more part (Look n) deeds h = h
+wrote_more part (Renew moment old) deeds h = grind (arith, nat_tests)
+wrote_more part (Open moment) deeds h = grind (arith, nat_tests)
+wrote_more part (Close seen now done) deeds h = h
+wrote_more part Retire deeds h = h

@@ -1,5 +1,5 @@
 -- What a list of a client's deeds tells. Each list begins with the newest.
-use Rattle.std.specs.Prelude.{◌≡◌, ℕ, zero, suc, ◌+◌, ◌==◌, nat_le, nat_lt, min, max, Bool, true, false, not, ◌&&◌, ◌||◌, IsFalse, IsTrue, if◌then◌else◌, List, [], ◌∷◌, Contains, ⊤}
+use Rattle.std.specs.Prelude.{ℕ, zero, suc, ◌+◌, ◌==◌, nat_le, min, max, Bool, true, false, not, ◌&&◌, ◌||◌, IsFalse, IsTrue, if◌then◌else◌, List, [], ◌∷◌, Contains, ⊤}
 use Rattle.nfs_leases.specs.BookEvent.{IsAloneIn}
 use Rattle.nfs_owners.specs.Slots.{generation_of, is_earlier, slot_of}
 use Rattle.nfs_state.specs.Lease.{is_over}

@@ -1,6 +1,6 @@
 -- What holds at any time of the words and of all seats, between any two steps of any of them, in terms of single
 -- events.
-use Rattle.std.specs.Prelude.{◌≡◌, ◌≢◌, ◌⊎◌, ℕ, ◌+◌, ◌<◌, ◌≤◌, max, true, IsFalse, IsTrue, List, Contains, slice_index}
+use Rattle.std.specs.Prelude.{◌≡◌, ◌≢◌, ◌⊎◌, ◌↔◌, ℕ, ◌+◌, ◌<◌, ◌≤◌, max, true, IsFalse, IsTrue, List, Contains, slice_index}
 use mathlib.Core.Option.{some}
 use lib.ListN.{get_elem?}
 use Rattle.atomic_table.specs.Table.{State}
@@ -56,30 +56,22 @@ HasEndedAlone client events = IsFalse (is_standing (phase_of (own_deeds_of clien
 -- one opened, and closed exactly where that one was closed or retired.
 pub record WordsFollow (table : State ℕ View) (own : List Event) : Type 0 where
   pub no_word : (slot : ℕ) → slot < SLOTS
-      → (slice_index table.words slot ≡ 0
-      → (client : ℕ) → slot_of client ≡ slot → ¬ HasOpened client own)
-      × (((client : ℕ) → slot_of client ≡ slot → ¬ HasOpened client own)
-      → slice_index table.words slot ≡ 0)
+      → (slice_index table.words slot ≡ 0)
+      ↔ ((client : ℕ) → slot_of client ≡ slot → ¬ HasOpened client own)
   pub last_word : (client : ℕ) → IsLast client own
       → (word_with (generation_of client) 0 < slot_word table client)
       × (slot_word table client ≤ word_with (generation_of client) closed_part)
-      × (slot_word table client ≡ word_with (generation_of client) closed_part
-      → HasEndedAlone client own)
-      × (HasEndedAlone client own
-      → slot_word table client ≡ word_with (generation_of client) closed_part)
+      × ((slot_word table client ≡ word_with (generation_of client) closed_part)
+      ↔ HasEndedAlone client own)
 
 -- And so does what each client reads: that its lease is vacant exactly where neither it nor a later one of its slot was
 -- opened, and closed exactly where one of them was and its own isn't open. So a renewal is answered, which is where its
 -- raise finds another part than the closed one, only while the keeper hasn't ended the lease.
 pub record PartsFollow (table : State ℕ View) (own : List Event) : Type 0 where
-  pub vacant : (client : ℕ)
-      → (client_part table client ≡ 0 → ¬ HasOpenedFrom client own)
-      × (¬ HasOpenedFrom client own → client_part table client ≡ 0)
+  pub vacant : (client : ℕ) → (client_part table client ≡ 0) ↔ (¬ HasOpenedFrom client own)
   pub shut : (client : ℕ)
-      → (client_part table client ≡ closed_part
-      → IsTrue (was_opened_by own client) × IsFalse (is_open_by own client))
-      × (IsTrue (was_opened_by own client) → IsFalse (is_open_by own client)
-      → client_part table client ≡ closed_part)
+      → (client_part table client ≡ closed_part)
+      ↔ (IsTrue (was_opened_by own client) × IsFalse (is_open_by own client))
 
 -- The part of an open lease is a moment and 1, at which some seat opened the lease, or renewed it and was answered. It
 -- is no less than that of any opening, answered renewal or look of any seat.
@@ -137,8 +129,7 @@ pub record NothingIsLate (table : State ℕ View) : Type 0 where
 pub record GenerationsAreApart (table : State ℕ View) (own : List Event) : Type 0 where
   pub alone : (client : ℕ) → HasOpened client own
       → (client_part table client ≢ 0)
-      × (client_part table client ≡ closed_part → HasEndedAlone client own)
-      × (HasEndedAlone client own → client_part table client ≡ closed_part)
+      × ((client_part table client ≡ closed_part) ↔ HasEndedAlone client own)
   pub late : (client other moment : ℕ)
       → IsTrue (is_earlier client other) → HasOpened other own → IsMoment moment
       → (max (slot_word table client) (word_with (generation_of client) (moment + 1))

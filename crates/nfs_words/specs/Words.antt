@@ -8,13 +8,13 @@ use Rattle.nfs_owners.specs.Slots.{generation_of, slot_of}
 abbrev pub IsMoment : ℕ → Type 0
 IsMoment seconds = seconds < 2 ^ 40 - 2
 
--- the part of the word of a lease that was closed or retired: 2^40 - 1
+-- the part of the word of a lease that was closed or retired
 abbrev pub closed_part : ℕ
-closed_part = 1099511627775
+closed_part = 2 ^ 40 - 1
 
 -- the word of the generation with this part
 abbrev pub word_with : ℕ → ℕ → ℕ
-word_with generation part = generation * 1099511627776 + part
+word_with generation part = generation * 2 ^ 40 + part
 
 -- What a generation reads in a word: of an earlier generation's word that it is vacant, of a later one's that it is
 -- closed, and of its own the part.

@@ -17,6 +17,7 @@ pub struct View {
     pub beside: LinkedList<Event>,
 }
 
+/// The rule of the table, by how long a lease lasts.
 pub struct LeaseRule;
 
 impl TableRule<u64, View, u64> for LeaseRule {
@@ -39,7 +40,7 @@ impl Asked for Brand {
     ghost client = { 0 };
 }
 
-// A load.
+/// A load.
 pub struct LookStep<C: Asked> {
     of: PhantomData<C>,
 }
@@ -50,7 +51,7 @@ impl<C: Asked> Play<u64, View> for LookStep<C> {
     ghost then = { Looked C.client };
 }
 
-// The raise of a renewal.
+/// The raise of a renewal.
 pub struct RaiseStep<C: Asked> {
     of: PhantomData<C>,
 }
@@ -61,7 +62,7 @@ impl<C: Asked> Play<u64, View> for RaiseStep<C> {
     ghost then = { Raised C.client };
 }
 
-// The exchange of an opening.
+/// The exchange of an opening.
 pub struct OpenStep<C: Asked> {
     of: PhantomData<C>,
 }
@@ -72,7 +73,7 @@ impl<C: Asked> Play<u64, View> for OpenStep<C> {
     ghost then = { Opened C.client };
 }
 
-// The exchange of a closing.
+/// The exchange of a closing.
 pub struct CloseStep<C: Asked> {
     of: PhantomData<C>,
 }
@@ -83,7 +84,7 @@ impl<C: Asked> Play<u64, View> for CloseStep<C> {
     ghost then = { Tried C.client };
 }
 
-// The raise of a retiring.
+/// The raise of a retiring.
 pub struct RetireStep<C: Asked> {
     of: PhantomData<C>,
 }
@@ -94,7 +95,7 @@ impl<C: Asked> Play<u64, View> for RetireStep<C> {
     ghost then = { Retired C.client };
 }
 
-// A worker's seat is cut off the keeper's.
+/// A worker's seat is cut off the keeper's.
 pub struct Deal;
 
 impl Split<View> for Deal {
@@ -105,7 +106,7 @@ impl Split<View> for Deal {
     ghost right = { dealt };
 }
 
-// A note is cut off a seat, and put beside the events of another.
+/// A note is cut off a seat, and put beside the events of another.
 pub struct Note;
 
 impl Split<View> for Note {

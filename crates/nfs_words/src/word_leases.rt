@@ -93,8 +93,8 @@ impl WordLeases {
         Ok(seats)
     }
 
-    // A worker's seat, cut off the keeper's.
-    fn deal(&self, keeper: &mut LeaseSeat) -> LeaseSeat
+    /// A worker's seat, cut off the keeper's.
+    pub fn deal(&self, keeper: &mut LeaseSeat) -> LeaseSeat
         requires { FitsTable keeper.old self.now }
         ensures same { keeper.new ≡ keeper.old }
         ensures dealt { result ≡ worker_at self.now }

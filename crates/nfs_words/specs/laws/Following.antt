@@ -1,5 +1,5 @@
 -- What the calls on a book over words mean for its leases.
-use Rattle.std.specs.Prelude.{◌≡◌, ℕ, ◌<◌, ◌&&◌, ◌||◌, ◌==◌, not, cond, Bool, true, false, List, [], ◌∷◌, refl, ◌+◌, ◌^◌}
+use Rattle.std.specs.Prelude.{◌≡◌, ℕ, ◌&&◌, ◌||◌, ◌==◌, not, cond, Bool, true, false, List, [], ◌∷◌, refl, ◌+◌}
 use Rattle.std.proofs.Common.{arith, ap, sym, ◌∙◌, ⊎_elim, subst, eqb-true, true≢false}
 use Rattle.std.proofs.lemmas.Bool.Decides.{nat_tests}
 use Rattle.nfs_owners.specs.Slots.{slot_of, is_earlier}
@@ -133,25 +133,25 @@ retire_choice true false = refl
 retire_choice false true = refl
 retire_choice false false = refl
 
-live_close : (seen now : ℕ) (done : Bool) (deeds : List Deed)
+standing_close : (seen now : ℕ) (done : Bool) (deeds : List Deed)
     → is_standing (phase_of (Close seen now done ∷ deeds)) ≡ cond done false (is_standing (phase_of deeds))
-live_close seen now true deeds = refl
-live_close seen now false deeds = refl
+standing_close seen now true deeds = refl
+standing_close seen now false deeds = refl
 
-pub not_live : (p : Phase) → is_standing (retired p) ≡ false
-not_live Unopened = refl
-not_live Standing = refl
-not_live (Ended bound) = refl
+pub retired_not_standing : (phase : Phase) → is_standing (retired phase) ≡ false
+retired_not_standing Unopened = refl
+retired_not_standing Standing = refl
+retired_not_standing (Ended bound) = refl
 
-pub all_opened : (p : Phase) → was_opened (retired p) ≡ true
-all_opened Unopened = refl
-all_opened Standing = refl
-all_opened (Ended bound) = refl
+pub retired_opened : (phase : Phase) → was_opened (retired phase) ≡ true
+retired_opened Unopened = refl
+retired_opened Standing = refl
+retired_opened (Ended bound) = refl
 
-pub opened_live : (p : Phase) → is_standing p ≡ true → was_opened p ≡ true
-opened_live Unopened h = h
-opened_live Standing h = h
-opened_live (Ended bound) h = refl
+pub standing_was_opened : (p : Phase) → is_standing p ≡ true → was_opened p ≡ true
+standing_was_opened Unopened h = h
+standing_was_opened Standing h = h
+standing_was_opened (Ended bound) h = refl
 
 later_slot : (client other : ℕ) → is_earlier client other ≡ true → slot_of client ≡ slot_of other
 later_slot client other h = grind (arith, nat_tests)
@@ -167,20 +167,20 @@ open_follows old (book.Close other seen now answer) new h client =
     let events = old.view.own in
     ap (λ (s : Sitting). is_open_at s client) h.1
     ∙ tested is_standing client other (Close seen now (is_done answer)) events refl
-    ∙ ap (λ (b : Bool). cond (client == other) b (is_standing (phase_of (deeds_of client events)))) (live_close seen now (is_done answer) (deeds_of client events))
+    ∙ ap (λ (b : Bool). cond (client == other) b (is_standing (phase_of (deeds_of client events)))) (standing_close seen now (is_done answer) (deeds_of client events))
     ∙ close_choice (client == other) (is_done answer) (is_standing (phase_of (deeds_of client events)))
 open_follows old (book.Open other moment) new h client =
     let events = old.view.own in
     ap (λ (s : Sitting). is_open_at s client) h.1
     ∙ tested_open is_standing client other moment (event other (Look 0) ∷ events)
-    ∙ ap (λ (b : Bool). cond (client == other) true (cond (is_earlier client other) b (is_standing (phase_of (deeds_of client (event other (Look 0) ∷ events)))))) (not_live (phase_of (deeds_of client (event other (Look 0) ∷ events))))
+    ∙ ap (λ (b : Bool). cond (client == other) true (cond (is_earlier client other) b (is_standing (phase_of (deeds_of client (event other (Look 0) ∷ events)))))) (retired_not_standing (phase_of (deeds_of client (event other (Look 0) ∷ events))))
     ∙ ap (λ (b : Bool). cond (client == other) true (cond (is_earlier client other) false b)) (quiet_look is_standing client other 0 events)
     ∙ open_choice (client == other) (is_earlier client other) (is_standing (phase_of (deeds_of client events))) (λ is. h.0 client (later_slot client other is))
 open_follows old (book.Retire other) new h client =
     let events = old.view.own in
     ap (λ (s : Sitting). is_open_at s client) h.1
     ∙ tested is_standing client other Retire events refl
-    ∙ ap (λ (b : Bool). cond (client == other) b (is_standing (phase_of (deeds_of client events)))) (not_live (phase_of (deeds_of client events)))
+    ∙ ap (λ (b : Bool). cond (client == other) b (is_standing (phase_of (deeds_of client events)))) (retired_not_standing (phase_of (deeds_of client events)))
     ∙ retire_choice (client == other) (is_standing (phase_of (deeds_of client events)))
 
 -- a deed of a client that was opened leaves it so
@@ -198,7 +198,7 @@ still_opened client other deed events quiet is = tested was_opened client other 
 opened_close : (seen now : ℕ) (done : Bool) (deeds : List Deed)
     → (done ≡ true → is_standing (phase_of deeds) ≡ true)
     → was_opened (phase_of (Close seen now done ∷ deeds)) ≡ was_opened (phase_of deeds)
-opened_close seen now true deeds was = sym (opened_live (phase_of deeds) (was refl))
+opened_close seen now true deeds was = sym (standing_was_opened (phase_of deeds) (was refl))
 opened_close seen now false deeds was = refl
 
 pub opened_follows : (old : Sitting) (call : BookEvent) (new : Sitting) → Happens old call new → (client : ℕ)
@@ -216,17 +216,17 @@ opened_follows old (book.Open other moment) new h client =
     let events = old.view.own in
     ap (λ (s : Sitting). was_opened_at s client) h.1
     ∙ tested_open was_opened client other moment (event other (Look 0) ∷ events)
-    ∙ ap (λ (b : Bool). cond (client == other) true (cond (is_earlier client other) b (was_opened (phase_of (deeds_of client (event other (Look 0) ∷ events)))))) (all_opened (phase_of (deeds_of client (event other (Look 0) ∷ events))))
+    ∙ ap (λ (b : Bool). cond (client == other) true (cond (is_earlier client other) b (was_opened (phase_of (deeds_of client (event other (Look 0) ∷ events)))))) (retired_opened (phase_of (deeds_of client (event other (Look 0) ∷ events))))
     ∙ ap (λ (b : Bool). cond (client == other) true (cond (is_earlier client other) true b)) (quiet_look was_opened client other 0 events)
     ∙ opened_choice (client == other) (is_earlier client other) (was_opened (phase_of (deeds_of client events)))
 opened_follows old (book.Retire other) new h client =
     let events = old.view.own in
     ap (λ (s : Sitting). was_opened_at s client) h.1
-    ∙ still_opened client other Retire events refl (λ hit. all_opened (phase_of (deeds_of client events)) ∙ sym (subst (λ (one : ℕ). was_opened (phase_of (deeds_of one events)) ≡ true) (sym (eqb-true client other hit)) h.0))
+    ∙ still_opened client other Retire events refl (λ hit. retired_opened (phase_of (deeds_of client events)) ∙ sym (subst (λ (one : ℕ). was_opened (phase_of (deeds_of one events)) ≡ true) (sym (eqb-true client other hit)) h.0))
 
 pub open_was_opened : (book : Sitting) (client : ℕ) → is_open_at book client ≡ true
     → was_opened_at book client ≡ true
-open_was_opened book client h = opened_live (phase_of (deeds_of client book.view.own)) h
+open_was_opened book client h = standing_was_opened (phase_of (deeds_of client book.view.own)) h
 
 pub keeps_table : (old : Sitting) (call : BookEvent) (new : Sitting) → Happens old call new
     → new.table ≡ old.table
