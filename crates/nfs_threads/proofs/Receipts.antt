@@ -45,9 +45,9 @@ gains_operation old new request answer (Some receipt) is = record {
 }
 
 gains_one : (epoch : ℕ) (old new : Holding) (question : Question) (answer : OpResult) → GivenBySeat epoch old question answer new → GainsReceipts old (question ∷ []) (answer ∷ []) new
-gains_one epoch old new (Operation request) answer given = gains_operation old new request answer given.0 given.1
+gains_one epoch old new (Operation request) answer given = gains_operation old new request answer given.1 given.2
 gains_one epoch old new (Renewal moment client) answer given =
-    gains_none old new (Renewal moment client ∷ []) (answer ∷ []) given.5 refl
+    gains_none old new (Renewal moment client ∷ []) (answer ∷ []) given.3 refl
 
 -- receipts of a seat, and more receipts of it after them
 of_seat_then : (place : ℕ) (before mid last : Option ℕ) (receipts more : List Receipt) → AreOfSeat place before receipts mid → AreOfSeat place mid more last → AreOfSeat place before (receipts ++ more) last
