@@ -52,4 +52,5 @@ AreDeeds journal old (entry ∷ rest) new deeds =
 -- the deeds of a whole journal, which leads to this state
 abbrev pub AreDeedsOf : History → State → List BookEvent → Type 0
 AreDeedsOf journal state deeds =
-    AreDeeds (record journal { entries = [] }) (empty_server journal.nodes) journal.entries state deeds
+    AreDeeds (record journal { entries = [] }) (empty_server journal.nodes) journal.entries state
+    deeds

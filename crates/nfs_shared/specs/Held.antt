@@ -57,7 +57,8 @@ pub record IsHeld (held : HeldView) : Type 0 where
   -- by what the keeper did, the leases that are open are those of the live clients; what others do to the words changes
   -- no part of this
   pub agrees :
-      IsBookOf (is_open_at held.leases) (was_opened_at held.leases) held.leases.view.lease held.server
+      IsBookOf (is_open_at held.leases) (was_opened_at held.leases) held.leases.view.lease
+      held.server
   -- The keeper's closings that were done are the ends of clients in the journal, its openings are those of the clients
   -- that became live by an entry, and its retirings those of the clients that were replaced, in one order.
   pub deeds :

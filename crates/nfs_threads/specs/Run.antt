@@ -17,8 +17,8 @@ use Rattle.nfs_words.specs.Sitting.{Words}
 
 -- Each of these accounts is of a shift of the links at an unused seat, which became this one. The places of the seats go
 -- up from this one, and they are at these lease words.
-abbrev pub AreAccounts : {L D C : Type 0} → Linking L D C → Files → L → Words → ℕ → List WorkerAccount
-    → List SeatView → Type 0
+abbrev pub AreAccounts : {L D C : Type 0} → Linking L D C → Files → L → Words → ℕ
+    → List WorkerAccount → List SeatView → Type 0
 AreAccounts linking tree links words place [] [] = Unit {0}
 AreAccounts linking tree links words place (account ∷ rest) (seat ∷ seats) =
     IsShift linking tree (links, fresh words place) account.shift account.receipts.items seat

@@ -54,7 +54,8 @@ pub record IsServed {L D C : Type 0} (linking : Linking L D C) (tree : Files) (b
   pub first : connection.first ≡ length before.desk.receipts
   pub device' : D
   pub clock' : C
-  pub course : HasCourse linking.device (rules tree (GivenBySeat linking.epoch) AreAlikeButRoom linking.tells)
+  pub course : HasCourse linking.device
+      (rules tree (GivenBySeat linking.epoch) AreAlikeButRoom linking.tells)
       (scene device before.desk clock) connection.result (scene device' after.desk clock')
   pub read_failed : IsErrOf connection.result errors.Read
       ↔ linking.read_failures device < linking.read_failures device'

@@ -216,7 +216,8 @@ fn serve_helped<
         |scope| -> (Vec<WorkerEnd<N>>, Helpers<N>, bool)
             requires { (N.start.nodes ≡ setting.now.tree.now.nodes) × AreUnused (seats_of links.items)
                 × (spare.items ≡ []) × (length links.items ≤ vec_capacity spare) }
-            ensures { AreEndsOf (tcp N.start.epoch) setting.entry.now.tree.now links.entry.items result.0.items }
+            ensures { AreEndsOf (tcp N.start.epoch) setting.entry.now.tree.now links.entry.items
+                result.0.items }
         {
             let Helpers { sweeper, sender } = helpers;
             let sweeping = scope.spawn(move || sweep_until(setting, shared, sweeper));

@@ -29,9 +29,11 @@ pub fn receipts_are_questions<D: Duplex, R: Source, W: Sink, C: Clock>()
 pub fn receipts_by_connection<N: Naming, L: Links>()
     ensures { (tree : Files) (links : L) (seat : SeatView) (end : WorkerEnd N)
         → IsEndOf
-        (linking N.start.epoch L.opens L.stops L.Device.device L.Device.read_failures L.Device.write_failures L.Clock.tells)
+        (linking N.start.epoch L.opens L.stops L.Device.device L.Device.read_failures
+        L.Device.write_failures L.Clock.tells)
         tree links seat end
         → HasParts
-        (linking N.start.epoch L.opens L.stops L.Device.device L.Device.read_failures L.Device.write_failures L.Clock.tells)
+        (linking N.start.epoch L.opens L.stops L.Device.device L.Device.read_failures
+        L.Device.write_failures L.Clock.tells)
         tree links seat end }
 {}

@@ -16,7 +16,8 @@ pub fn workers_keep_receipts<N: Naming, L: Links>()
         (ends : List (WorkerEnd N))
         → AreFresh words count (seats_of links)
         → AreEndsOf
-        (linking N.start.epoch L.opens L.stops L.Device.device L.Device.read_failures L.Device.write_failures L.Clock.tells)
+        (linking N.start.epoch L.opens L.stops L.Device.device L.Device.read_failures
+        L.Device.write_failures L.Clock.tells)
         tree links ends
         → (length (seats_back ends) ≡ count) × AreKept (seats_back ends) (receipts_back ends) }
 {}

@@ -29,4 +29,5 @@ AreBackFrom {N = N} first ends =
 abbrev pub AreServed : {N L : Type 0} → List (L × SeatView) → List (WorkerEnd N) → Type 0
 AreServed links ends =
     (length ends ≡ length links)
-    × ((words : Words) (first : ℕ) → AreFreshFrom words first (seats_of links) → AreBackFrom first ends)
+    × ((words : Words) (first : ℕ) → AreFreshFrom words first (seats_of links)
+    → AreBackFrom first ends)

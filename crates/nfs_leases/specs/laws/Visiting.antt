@@ -16,14 +16,16 @@ IsOfVisit (Open client moment) = ⊥
 IsOfVisit (Retire client) = ⊥
 
 one_visit : (case : VisitCase) (client seen now : ℕ) (rest : List BookEvent)
-    → AllByRecursion IsOfVisit rest → AllByRecursion IsOfVisit (events_by case client seen now ++ rest)
+    → AllByRecursion IsOfVisit rest
+    → AllByRecursion IsOfVisit (events_by case client seen now ++ rest)
 one_visit cases.Expired client seen now rest all = (tt, (tt, all))
 one_visit cases.Kept client seen now rest all = (tt, all)
 one_visit cases.Changed client seen now rest all = (tt, (tt, all))
 one_visit cases.Refused client seen now rest all = (tt, all)
 
 -- In its visits a sweep looks, and tries to close leases, and asks nothing else of the book.
-pub visits_look_and_close : (now : ℕ) (visits : List Visit) → AllByRecursion IsOfVisit (events_of_all now visits)
+pub visits_look_and_close : (now : ℕ) (visits : List Visit)
+    → AllByRecursion IsOfVisit (events_of_all now visits)
 visits_look_and_close now [] = tt
 visits_look_and_close now (visit ∷ visits) =
     one_visit visit.case visit.client visit.seen now (events_of_all now visits) (visits_look_and_close now visits)
