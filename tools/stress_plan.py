@@ -470,7 +470,7 @@ def numbers_of(visit):
 
 class Visitor:
     """The connection by which a client comes again and again, each time with another verifier, so that it takes its own
-    place; and by which others have their callbacks confirmed anew. Nobody else asks for a confirm value."""
+    place; and by which others have their callbacks confirmed anew. Nobody else sends SETCLIENTID."""
 
     def __init__(self, chance):
         chunks, value = [], MADE
@@ -496,6 +496,7 @@ class Plan:
         # After so many calls of the one that comes alone the others begin at this moment.
         self.moment = len(split(self.first)[0]) // PACE
         self.others = [self.link(place, first, chance).bytes for place in range(LINKS)]
+        # The first takes the place of a link, which counts for the chance of those behind it.
         self.others[0] = Visitor(chance).bytes
         # The last two send the same.
         self.others[-1] = self.others[-2]

@@ -1,6 +1,7 @@
 #!/usr/bin/env python3
-"""limits.py PROGRAM: a built nfs4state at its limits of 16,384 owners, of 65,536 opens, and of as many opens and
-delegations together, each met and passed by one.
+"""limits.py PROGRAM: a built nfs4state at its limits of 16,384 owners, of 65,536 opens, of as many opens and
+delegations together, and of a journal of 1,000,000 entries, each met and passed by one. The journal is that of a client
+which begins anew again and again, and so gets 500,000 numbers.
 
 What is wanted is written beside each call, since the model would take minutes for so many. lock_limits.py does the same
 with lock owners and lock states."""
@@ -12,8 +13,8 @@ import time
 sys.dont_write_bytecode = True
 
 import wire
-from model import OWNERS_LIMIT, STATES_LIMIT
-from states import handle_of
+from model import JOURNAL_LIMIT, OWNERS_LIMIT, STATES_LIMIT
+from states import SLOTS, handle_of
 from wire import Opnum, Status, opaque, u32, u64
 
 # A file more than each owner opens; many files keep the opens of each few.
@@ -30,12 +31,17 @@ def result(opnum, status=Status.OK, rest=b""):
 
 # A step is operations with the results that are wanted of them.
 
-def introduce(verifier, number):
+def coming(verifier, status=Status.OK, rest=b""):
+    """The client's SETCLIENTID."""
     callback = u32(7) + opaque(b"tcp") + opaque(b"127.0.0.1.3.232") + u32(1)
-    return [
-        (u32(Opnum.SETCLIENTID) + u64(verifier) + opaque(b"c1") + callback,
-         result(Opnum.SETCLIENTID, rest=u32(1, number) + u64(number))),
-        (u32(Opnum.SETCLIENTID_CONFIRM, 1, number) + u64(number), result(Opnum.SETCLIENTID_CONFIRM))]
+    return (u32(Opnum.SETCLIENTID) + u64(verifier) + opaque(b"c1") + callback,
+            result(Opnum.SETCLIENTID, status, rest))
+
+
+def introduce(verifier, number):
+    """The client comes, or begins anew; with each verifier one more confirm value was given."""
+    return [coming(verifier, rest=u32(1, number) + u64(verifier)),
+            (u32(Opnum.SETCLIENTID_CONFIRM, 1, number) + u64(verifier), result(Opnum.SETCLIENTID_CONFIRM))]
 
 
 def opening(owner, seqid, file, client=1, number=None, flags=4, state_seqid=1, status=Status.OK, access=READ, **more):
@@ -148,6 +154,13 @@ def delegations_at_their_limit(limit=STATES_LIMIT):
     yield opening(0, 1, files, client=2, number=last + 6, flags=6)
 
 
+def journal_at_its_limit(limit=JOURNAL_LIMIT):
+    """The client gets the next number of that of the slots 1 and 2 which it hasn't."""
+    for turn in range(limit // 2):
+        yield introduce(turn + 1, 1 + turn % 2 + SLOTS * (turn // 2))
+    yield [coming(0, Status.RESOURCE)]
+
+
 def compounds(steps):
     """Steps together, as many as there may be in a COMPOUND; one that is refused ends it."""
     pairs = []
@@ -192,7 +205,8 @@ def compare(program, name, steps, document=TREE):
 
 def main(program):
     sides = (("owners", owners_at_their_limit(), TREE), ("opens", opens_at_their_limit(), TREE),
-             ("opens and delegations", delegations_at_their_limit(), LENDING))
+             ("opens and delegations", delegations_at_their_limit(), LENDING),
+             ("the journal", journal_at_its_limit(), TREE))
     agree = [compare(program, *side)[0] for side in sides]
     return 0 if all(agree) else 1
 

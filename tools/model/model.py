@@ -324,7 +324,7 @@ class Server(Delegating):
 
     def new_number(self, replaced):
         """A number of the least slot that no record has, but for the one that is replaced, if there is one; or of the
-        slot of a record that gives way."""
+        slot of the record that gives way. Records stand in the order of their arrival."""
         others = [it for it in self.records if it is not replaced]
         taken = {slot_of(it.number) for it in others}
         slot = next((it for it in range(1, SLOTS) if it not in taken and self.has_generation(it)), None)
@@ -342,7 +342,7 @@ class Server(Delegating):
         return self.generations[slot] < GENERATIONS
 
     def can_give_way(self, record):
-        """Whether it is unconfirmed, and no update of a live client. Records stand in the order of their arrival."""
+        """Whether it is unconfirmed, and no update of a live client."""
         return not (record.is_confirmed or self.is_live(record.number)) and self.has_generation(slot_of(record.number))
 
     def give_way(self, record):
