@@ -109,6 +109,8 @@ class Judge:
         self.lives = [frozenset(server.renewals) for server in states(journal)]
         # Of each RENEW, whether it could be answered only as it was; and those that were OK.
         self.renews, self.renewals = [], []
+        # Of each entry of a link, the earliest state in which its call may have renewed: behind the link's entry before it.
+        self.firsts = {}
 
     def expect_link(self, sent, replies, numbers):
         """The replies to what a link sent are those of its receipts' entries, which have these numbers."""
@@ -116,6 +118,7 @@ class Judge:
             raise Wrong("the numbers of its receipts don't rise")
         if numbers and numbers[-1] >= len(self.journal.entries):
             raise Wrong(f"a receipt for entry {numbers[-1]}, which isn't there")
+        self.firsts.update((number, before + 1) for before, number in zip([-1, *numbers], numbers))
         asked, answered = split_records(sent)[0], split_records(replies)
         if answered[1] or len(answered[0]) != len(asked):
             raise Wrong(f"{len(answered[0])} replies to {len(asked)} calls")
@@ -132,15 +135,15 @@ class Judge:
         """Each client whose lease ended was heard of last when its entry says, where these are all links, and none of
         their calls was refused for want of memory, which renews without an entry. What a sweep ends comes in its
         order. (That the leases were over, and the delegations due, is a part of what an audit says.)"""
-        server, heard = Server(epoch=self.journal.epoch), {}
+        server, begun, calls = Server(epoch=self.journal.epoch), {}, {}
         for number, entry in enumerate(self.journal.entries):
-            before, after = self.lives[number:number + 2]
-            if isinstance(entry, Expire):
-                self.expect_end(entry, heard[entry.client])
-            elif isinstance(entry, Call):
+            if isinstance(entry, Call):
                 # Besides, a confirmation begins the lease of who is live by it.
-                for client in (before & {server.renewed_by(entry.opnum, entry.arguments)}) | (after - before):
-                    heard.setdefault(client, []).append(entry.moment)
+                begun.update((client, entry.moment) for client in self.lives[number + 1] - self.lives[number])
+                calls.setdefault(server.renewed_by(entry.opnum, entry.arguments), []).append(number)
+        for number, entry in enumerate(self.journal.entries):
+            if isinstance(entry, Expire):
+                self.expect_end(number, begun[entry.client], calls.get(entry.client, []))
         self.expect_order()
 
     def expect_numbers(self):
@@ -156,14 +159,23 @@ class Judge:
                 raise Wrong(f"client {number} is given again by {entry}")
             numbers.add(number)
 
-    def expect_end(self, end, heard):
-        """The client was heard of at the moment that it was seen last, by a call with an entry or by RENEW, and at none
-        that is later."""
+    def expect_end(self, number, begun, calls):
+        """The client of this end was heard of at the moment that it was seen last, by one of these calls or by RENEW,
+        and at none that is later. A call renews before it waits for the lock, behind the link's entry before it: so
+        perhaps before the client was live, and so, too, while it was, though the call's own entry stands behind its
+        end."""
+        end, sure, perhaps = self.journal.entries[number], [begun], []
+        for call in calls:
+            first, moment = self.firsts.get(call, 0), self.journal.entries[call].moment
+            if call > number:
+                perhaps += [moment] if first <= number else []
+            elif end.client in self.lives[call]:
+                (sure if end.client in self.lives[first] else perhaps).append(moment)
         own = [renewal for renewal in self.renewals if renewal.client == end.client]
-        least = max(heard + [renewal.first for renewal in own])
+        least = max(sure + [renewal.first for renewal in own])
         if end.seen < least:
             raise Wrong(f"client {end.client} ends, seen last at {end.seen}, but it was heard of at {least}")
-        if end.seen not in heard and not any(renewal.first <= end.seen <= renewal.last for renewal in own):
+        if end.seen not in sure + perhaps and not any(renewal.first <= end.seen <= renewal.last for renewal in own):
             raise Wrong(f"client {end.client} ends, seen last at {end.seen}, when it wasn't heard of")
 
     def expect_order(self):

@@ -8,6 +8,8 @@ mod board_link;
 #[cfg(test)]
 mod client;
 #[cfg(test)]
+mod renew_beside_hold;
+#[cfg(test)]
 mod two_connections;
 #[cfg(test)]
 mod two_links_at_once;

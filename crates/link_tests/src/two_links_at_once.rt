@@ -33,7 +33,7 @@ fn serve_links<R: Threads + Wait + Sleeper + RandomSource + Sync>(
     links: u32,
 ) -> Option<Outcome> {
     let tree = Tree::from_toml(alloc, "file = [{ path = \"a\" }]").ok()?;
-    let opened = Opened::new(alloc, links).ok()?;
+    let opened = Opened::new(alloc, 90, links).ok()?;
     let Ok(seeds) = Seeds::new(rt) else {
         return None;
     };
@@ -71,7 +71,7 @@ fn serve_parts<N: Naming + Send + Sync, R: Threads + Wait + Sleeper + Sync>(
     tree: &Tree,
 ) -> Option<Outcome>
     requires tree { N.start.nodes ≡ tree.now.nodes }
-    requires fresh { AreFresh N.run.workers parts.seats.items }
+    requires fresh { AreFresh N.run.words N.run.workers parts.seats.items }
 {
     let SharedParts {
         shared,
@@ -122,7 +122,7 @@ fn serve_seats<N: Naming + Send + Sync, R: Threads + Wait + Sleeper + Sync>(
     tree: &Tree,
 ) -> Option<SeatsBack<N>>
     requires tree { N.start.nodes ≡ tree.now.nodes }
-    requires fresh { AreFresh N.run.workers seats.items }
+    requires fresh { AreFresh N.run.words N.run.workers seats.items }
     ensures all { IfSome result (λ back. length back.seats.items ≡ N.run.workers) }
     ensures kept { IfSome result (λ back.
         AreKept back.seats.items (map (λ v. v.items) back.receipts.items)) }

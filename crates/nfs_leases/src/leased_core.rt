@@ -110,6 +110,17 @@ impl<B: LeaseBook> LeasedCore<B> {
     {
         self.core.take_recall()
     }
+
+    /// The core, and the book of its clients' leases.
+    pub fn into_parts(self) -> (Core, B)
+        ensures core { result.0 ≡ self.core }
+        ensures book { result.1 ≡ self.book }
+        ensures agrees { IsBookOf (B.is_open result.1) (B.was_opened result.1) (B.lease result.1)
+            result.0 }
+    {
+        let LeasedCore { core, book, .. } = self;
+        (core, book)
+    }
 }
 
 impl LeasedCore<PlainLeases> {
@@ -120,14 +131,6 @@ impl LeasedCore<PlainLeases> {
         ensures open { result ≡ has_open_lease self.old.book client }
     {
         renew_lease(&mut self.book, client, moment)
-    }
-
-    /// The core, without the leases.
-    pub fn into_core(self) -> Core
-        ensures { result ≡ self.core }
-    {
-        let LeasedCore { core, .. } = self;
-        core
     }
 }
 

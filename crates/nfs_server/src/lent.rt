@@ -55,7 +55,8 @@ impl Lent {
         ensures { result ≡ self.core }
     {
         let Lent { leased } = self;
-        leased.into_core()
+        let (core, _) = leased.into_parts();
+        core
     }
 
     /// Removes each client whose lease is over at this moment, with all that it has. Then it revokes the delegations that

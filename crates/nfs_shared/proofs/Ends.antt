@@ -8,13 +8,14 @@ use Rattle.nfs_shared.specs.declared.receipt.Receipt.{Receipt}
 use Rattle.nfs_shared.specs.Ends.{AreFresh, AreKept, AllBegin, StandsAt, AllStand, AllApart, receipts_in, given_in}
 use Rattle.nfs_shared.specs.Receipts.{receipts_of}
 use Rattle.nfs_shared.specs.Seats.{SeatView, fresh}
+use Rattle.nfs_words.specs.Sitting.{Words}
 use Rattle.nfs_shared.proofs.Prefixes.{prefix_get}
 use Rattle.nfs_shared.proofs.Receipts.{receipts_stand, receipts_apart}
 use Rattle.nfs_shared.specs.laws.Keeping.{at_more}
 
-pub fresh_more : (count : ℕ) (seats : List SeatView) (seat : SeatView) → AreFresh count seats → seat ≡ fresh count → AreFresh (count + 1) (seats ++ seat ∷ [])
-fresh_more count seats seat h is =
-    (omega (arith, h.0, length-append seats (seat ∷ [])), λ k s at. ⊎_elim (λ old. h.1 k s old) (λ new. sym new.1 ∙ is ∙ ap fresh (sym h.0 ∙ sym new.0)) (at_more seats seat k s at))
+pub fresh_more : (words : Words) (count : ℕ) (seats : List SeatView) (seat : SeatView) → AreFresh words count seats → seat ≡ fresh words count → AreFresh words (count + 1) (seats ++ seat ∷ [])
+fresh_more words count seats seat h is =
+    (omega (arith, h.0, length-append seats (seat ∷ [])), λ k s at. ⊎_elim (λ old. h.1 k s old) (λ new. sym new.1 ∙ is ∙ ap (fresh words) (sym h.0 ∙ sym new.0)) (at_more seats seat k s at))
 
 pub begin_more : (seats : List SeatView) (seat : SeatView) (whole : List Receipt) → AllBegin seats whole → IsPrefix seat.receipts.list whole → AllBegin (seats ++ seat ∷ []) whole
 begin_more seats seat whole h begins k s at =

@@ -6,8 +6,8 @@ use Rattle.nfs_core.specs.Safe.{IsSafe}
 use Rattle.nfs_core.specs.Server.{Enters, IsLawful, Server}
 use Rattle.nfs_leases.specs.BookOf.{IsBookOf}
 use Rattle.nfs_rpc.specs.declared.recall.Recall.{Recall}
+use Rattle.nfs_shared.specs.Deeds.{AreDeedsOf, keeper_deeds}
 use Rattle.nfs_shared.specs.Held.{HeldView, IsHeld, Moves, waiting}
-use Rattle.nfs_leases.specs.PlainBook.{is_open_in, was_opened_in}
 use Rattle.nfs_shared.specs.Receipts.{calls_in, receipts_of}
 use Rattle.nfs_leases.specs.Visit.{Gains}
 use Rattle.nfs_shared.specs.declared.receipt.Receipt.{Receipt}
@@ -18,12 +18,15 @@ use Rattle.nfs_state.specs.Stored.{meaning}
 use Rattle.nfs_state.specs.declared.entry.Call.{Call}
 use Rattle.nfs_state.specs.declared.entry.Entry.{Entry}
 use Rattle.nfs_state.specs.declared.entry.Entry.TheVariants as entries
+use Rattle.nfs_words.specs.Desk.{is_open_at, was_opened_at}
+use Rattle.nfs_words.specs.Sitting.{Sitting}
 
 -- what the state, its journal, the leases and the recalls have to keep
 pub record KeepsRules (held : HeldView) : Type 0 where
   pub lawful : IsLawful held.server
   pub safe : IsSafe (meaning held.server.stored)
-  pub agrees : IsBookOf (is_open_in held.leases) (was_opened_in held.leases) held.leases.lease held.server
+  pub agrees : IsBookOf (is_open_at held.leases) (was_opened_at held.leases) held.leases.view.lease held.server
+  pub deeds : AreDeedsOf held.server.journal (meaning held.server.stored) (keeper_deeds held.leases.view.own)
   pub recalls : AreLeftOf held.server.journal held.server.recalls
   pub queued : AreRecallsOf held.server.journal (held.put ++ waiting held.hand held.server.recalls)
 
@@ -43,6 +46,7 @@ held_call old new number call receipt h enters keeps number_is call_is places_is
       lawful = keeps.lawful;
       safe = keeps.safe;
       agrees = keeps.agrees;
+      deeds = keeps.deeds;
       recalls = keeps.recalls;
       queued = keeps.queued;
       places = omega (arith, ap length places_is, length-append old.places (receipt.place ∷ []), h.places, more);
@@ -68,6 +72,7 @@ held_more old new more h gains none keeps places_is receipts_is =
       lawful = keeps.lawful;
       safe = keeps.safe;
       agrees = keeps.agrees;
+      deeds = keeps.deeds;
       recalls = keeps.recalls;
       queued = keeps.queued;
       places = ap length places_is ∙ h.places ∙ sym (calls_in_more es more none) ∙ ap calls_in (sym journal);
@@ -77,17 +82,20 @@ held_more old new more h gains none keeps places_is receipts_is =
 -- recalls that went from those that wait into the queue
 pub held_moved : (old new : HeldView) → IsHeld old
     → new.server ≡ record old.server { recalls = new.server.recalls }
-    → new.places ≡ old.places → new.receipts ≡ old.receipts
-    → IsBookOf (is_open_in new.leases) (was_opened_in new.leases) new.leases.lease new.server
+    → new.places ≡ old.places → new.receipts ≡ old.receipts → new.leases ≡ old.leases
+    → IsBookOf (is_open_at new.leases) (was_opened_at new.leases) new.leases.view.lease new.server
     → AreLeftOf new.server.journal new.server.recalls
     → new.put ++ waiting new.hand new.server.recalls ≡ old.put ++ waiting old.hand old.server.recalls
     → IsHeld new
-held_moved old new was server places receipts agrees left same =
+held_moved old new was server places receipts leases agrees left same =
     let journal : new.server.journal ≡ old.server.journal = ap (λ (s : Server). s.journal) server in
     record {
       lawful = subst IsLawful (sym server) was.lawful;
       safe = subst (λ (s : Server). IsSafe (meaning s.stored)) (sym server) was.safe;
       agrees = agrees;
+      deeds =
+          subst (λ (x : Server × Sitting). AreDeedsOf x.0.journal (meaning x.0.stored) (keeper_deeds x.1.view.own))
+          (λ i. (sym server i, sym leases i)) was.deeds;
       recalls = left;
       queued = subst (λ (y : History × List Recall). AreRecallsOf y.0 y.1) (λ i. (sym journal i, sym same i)) was.queued;
       places = ap length places ∙ was.places ∙ ap (λ (j : History). calls_in j.entries) (sym journal);

@@ -5,6 +5,8 @@ pub mod RecallsOut
 pub mod Receipts
 pub mod Giving
 pub mod Holding
-pub mod Renewals
+pub mod Deeds
+pub mod Meeting
+pub mod Telling
 pub mod Ends
 pub mod Beginning

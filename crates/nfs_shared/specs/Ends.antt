@@ -1,16 +1,24 @@
 -- What is known of all seats and all receipts when the workers have ended.
-use Rattle.std.specs.Prelude.{◌≡◌, ℕ, ◌+◌, ◌<◌, ◌≤◌, List, [], ◌∷◌, length, slice_get, Some}
+use Rattle.std.specs.Prelude.{◌≡◌, ◌≢◌, ℕ, ◌+◌, ◌<◌, ◌≤◌, IsTrue, List, [], ◌∷◌, Contains, length, slice_get, Some}
 use mathlib.Core.List.{IsPrefix}
+use Rattle.nfs_core.specs.Events.{expire_of}
+use Rattle.nfs_state.specs.Lease.{is_over}
 use Rattle.nfs_state.specs.declared.entry.Entry.{Entry}
 use Rattle.nfs_state.specs.declared.entry.Entry.TheVariants as entries
 use Rattle.nfs_shared.specs.declared.receipt.Receipt.{Receipt}
 use Rattle.nfs_shared.specs.Seats.{SeatView, fresh}
+use Rattle.nfs_words.specs.Deeds.{event}
+use Rattle.nfs_words.specs.SeatLaws.{NoneLate}
+use Rattle.nfs_words.specs.Sitting.{Words}
+use Rattle.nfs_words.specs.Words.{closed_part}
+use Rattle.nfs_words.specs.declared.event.Deed.TheVariants.{Renew}
+use Rattle.nfs_words.specs.declared.event.Event.{Event}
 
--- this number of seats that were given nothing yet, in the order of their places
-abbrev pub AreFresh : ℕ → List SeatView → Type 0
-AreFresh count seats =
+-- this number of seats at these words that were given nothing yet, in the order of their places
+abbrev pub AreFresh : Words → ℕ → List SeatView → Type 0
+AreFresh words count seats =
     (length seats ≡ count)
-    × ((k : ℕ) (seat : SeatView) → slice_get seats k ≡ Some seat → seat ≡ fresh k)
+    × ((k : ℕ) (seat : SeatView) → slice_get seats k ≡ Some seat → seat ≡ fresh words k)
 
 -- These are the receipts that the seat was given, in order: they bear its place, stand in its list, and are as many as
 -- it was given. Their numbers rise, and none is above that of the last.
@@ -64,3 +72,24 @@ receipts_in (receipts ∷ rest) = length receipts + receipts_in rest
 abbrev pub given_in : List SeatView → ℕ
 given_in [] = 0
 given_in (seat ∷ rest) = seat.receipts.given + given_in rest
+
+-- Among these events each renewal that was answered comes in time for the journal: where the journal has the end of its
+-- client, the moment of the renewal isn't above the one that was seen last, and the lease was over since.
+abbrev pub InTime : ℕ → List Entry → List Event → Type 0
+InTime lease journal events =
+    (client moment found seen now : ℕ)
+    → Contains events (event client (Renew moment found)) → found ≢ closed_part
+    → Contains journal (entries.Expire (expire_of client seen now))
+    → (moment ≤ seen) × IsTrue (is_over moment lease now)
+
+-- each renewal that was answered to one of these seats
+abbrev pub AllInTime : ℕ → List Entry → List SeatView → Type 0
+AllInTime lease journal seats =
+    (k : ℕ) (seat : SeatView) → slice_get seats k ≡ Some seat
+    → InTime lease journal seat.leases.view.own
+
+-- no renewal that was answered to one of these seats is later than a closing among these events saw
+abbrev pub AllMet : ℕ → List Event → List SeatView → Type 0
+AllMet lease closings seats =
+    (k : ℕ) (seat : SeatView) → slice_get seats k ≡ Some seat
+    → NoneLate lease seat.leases.view.own closings

@@ -9,11 +9,10 @@ use Rattle.nfs_core.specs.Safe.{IsSafe}
 use Rattle.nfs_core.specs.Server.{IsLawful, Server}
 use Rattle.nfs_leases.specs.BookOf.{IsBookOf}
 use Rattle.nfs_rpc.specs.declared.recall.Recall.{Recall}
+use Rattle.nfs_shared.specs.Deeds.{AreDeedsOf, keeper_deeds}
 use Rattle.nfs_shared.specs.Naming.{start_of}
-use Rattle.nfs_leases.specs.PlainBook.{PlainBook, is_open_in, was_opened_in}
 use Rattle.nfs_shared.specs.Receipts.{calls_in, others_in, receipts_of}
 use Rattle.nfs_shared.specs.Roll.{IsOf, IsWriter, list_of}
-use Rattle.nfs_shared.specs.Seats.{SeatView}
 use Rattle.nfs_shared.specs.Sender.{SenderView}
 use Rattle.nfs_shared.specs.Sweeper.{SweeperView}
 use Rattle.nfs_shared.specs.declared.recall_queue.TheConstants.{CAPACITY}
@@ -21,12 +20,14 @@ use Rattle.nfs_shared.specs.declared.receipt.Receipt.{Receipt}
 use Rattle.nfs_shared.specs.declared.roll.View.{View}
 use Rattle.nfs_state.specs.State.{History}
 use Rattle.nfs_state.specs.Stored.{meaning}
+use Rattle.nfs_words.specs.Desk.{is_open_at, was_opened_at}
+use Rattle.nfs_words.specs.Sitting.{Sitting}
 
 pub record HeldView : Type 0 where
   -- the journal, and the state that is stored
   pub server : Server
-  -- the leases of the clients
-  pub leases : PlainBook
+  -- the keeper's seat at the lease words
+  pub leases : Sitting
   -- for each call of the journal, in order, the place of the seat that it was made with
   pub places : List ℕ
   -- all receipts that were given, in order
@@ -53,9 +54,16 @@ pub record IsHeld (held : HeldView) : Type 0 where
   -- of a known owner of a live client (`known`, `live`, `lockers_known`, `lockers_live`), and each delegation is of a
   -- live client (`holders_live`): these three are what stateids name.
   pub safe : IsSafe (meaning held.server.stored)
-  -- the leases that are open are those of the live clients
+  -- by what the keeper did, the leases that are open are those of the live clients; what others do to the words changes
+  -- no part of this
   pub agrees :
-      IsBookOf (is_open_in held.leases) (was_opened_in held.leases) held.leases.lease held.server
+      IsBookOf (is_open_at held.leases) (was_opened_at held.leases) held.leases.view.lease
+      held.server
+  -- The keeper's closings that were done are the ends of clients in the journal, its openings are those of the clients
+  -- that became live by an entry, and its retirings those of the clients that were replaced, in one order.
+  pub deeds :
+      AreDeedsOf held.server.journal (meaning held.server.stored)
+      (keeper_deeds held.leases.view.own)
   -- the recalls that are left in the core are those of the journal without those that left it, which come first
   pub recalls : AreLeftOf held.server.journal held.server.recalls
   -- what was put into the queue, followed by what waits for room in it, are the recalls of the journal
@@ -68,13 +76,6 @@ pub record IsHeld (held : HeldView) : Type 0 where
 pub record CanBeHeld (origin : History) (value : HeldView) : Type 0 where
   pub held : IsHeld value
   pub start : start_of value.server.journal ≡ origin
-
--- As far as the seat can tell, the lock may have guarded this value since the seat's last receipt, in a run with this
--- start: it is one as the lock guards, and the receipts that the seat knows of begin those that were given.
-pub record MayBeHeld (origin : History) (seat : SeatView) (value : HeldView) : Type 0 where
-  pub held : IsHeld value
-  pub start : start_of value.server.journal ≡ origin
-  pub begins : IsPrefix seat.receipts.list value.receipts
 
 -- As far as the sender can tell, the lock may guard this value, in a run with this start: it is one as the lock guards,
 -- what the sender took begins what was put into the queue, and no more entries came by the sender than are no calls.

@@ -1,3 +1,4 @@
+pub mod Deeds
 pub mod Ends
 pub mod Held
 pub mod Naming
@@ -5,6 +6,7 @@ pub mod Passes
 pub mod RecallOrder
 pub mod Receipt
 pub mod Receipts
+pub mod Renewing
 pub mod Roll
 pub mod Seats
 pub mod Sender

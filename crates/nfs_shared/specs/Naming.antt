@@ -6,6 +6,7 @@ use Rattle.nfs_owners.specs.Registry.{is_live}
 use Rattle.nfs_state.specs.State.{History}
 use Rattle.nfs_tree.specs.declared.policy.Callbacks.TheVariants.{Probe}
 use Rattle.nfs_tree.specs.declared.policy.Delegations.TheVariants.{All}
+use Rattle.nfs_words.specs.Sitting.{Words}
 
 -- what a run of threads is known by
 pub record OpenedView : Type 0 where
@@ -18,17 +19,20 @@ pub record OpenedView : Type 0 where
   pub other_ledger : ℕ
   -- the queue of recalls
   pub queue : TableId
+  -- the lease words, and how long a lease lasts
+  pub words : Words
 
 -- what the server was started with: the journal without its entries
 abbrev pub start_of : History → History
 start_of journal = record journal { entries = [] }
 
 -- A run of this name, with this start, can begin with what was opened and with this core: these are what the name stands
--- for, the journal is empty, and no client is live.
+-- for, the leases last as long as the journal says, the journal is empty, and no client is live.
 pub record CanBegin (name : OpenedView) (origin : History) (opened : OpenedView) (core : Server)
     : Type 0 where
   pub run : opened ≡ name
   pub start : start_of core.journal ≡ origin
+  pub lease : opened.words.lease ≡ core.journal.lease
   pub empty : core.journal.entries ≡ []
   pub nobody : (number : ℕ) → IsFalse (is_live number core.stored.clients)
 
@@ -52,6 +56,7 @@ no_run = record {
   workers = 0;
   other_ledger = 0;
   queue = no_table;
+  words = record { table = no_table; lease = 0 };
 }
 
 abbrev pub no_start : History

@@ -1,6 +1,8 @@
 -- Seats: what a worker makes its calls with, and what a receipt adds to it.
 use Rattle.std.specs.Prelude.{◌≡◌, ℕ, ◌+◌, ◌<◌, List, [], ◌∷◌, ◌++◌, slice_get, Option, Some, None}
 use Rattle.nfs_shared.specs.declared.receipt.Receipt.{Receipt}
+use Rattle.nfs_words.specs.Calls.{worker_at}
+use Rattle.nfs_words.specs.Sitting.{Sitting, Words}
 
 -- what a seat knows of receipts
 pub record SeatReceipts : Type 0 where
@@ -15,10 +17,24 @@ pub record SeatView : Type 0 where
   -- its place among the seats, from 0
   pub place : ℕ
   pub receipts : SeatReceipts
+  -- its seat at the lease words, with what it saw of leases and did to them
+  pub leases : Sitting
 
--- a seat that was given nothing yet
-abbrev pub fresh : ℕ → SeatView
-fresh place = record { place = place; receipts = record { last = None; list = []; given = 0 } }
+-- a seat that was given nothing yet, and saw nothing of leases
+abbrev pub fresh : Words → ℕ → SeatView
+fresh words place = record {
+  place = place;
+  receipts = record { last = None; list = []; given = 0 };
+  leases = worker_at words;
+}
+
+-- the seat with this of leases
+abbrev pub with_leases : SeatView → Sitting → SeatView
+with_leases seat leases = record {
+  place = seat.place;
+  receipts = seat.receipts;
+  leases = leases;
+}
 
 -- the seat has its place, and knows of receipts what it knew
 abbrev pub KnowsTheSame : SeatView → SeatView → Type 0
@@ -36,7 +52,7 @@ LastStands last list =
     → (k : ℕ) × (r : Receipt) × (slice_get list k ≡ Some r) × (r.number ≡ n)
 
 -- The receipt is the seat's: it bears its place, and its number is above that of the last one. The list goes on, and
--- ends with the receipt.
+-- ends with the receipt. Of leases the seat knows what it knew.
 pub record Gives (old : SeatView) (receipt : Receipt) (new : SeatView) : Type 0 where
   pub place : receipt.place ≡ old.place
   pub same : new.place ≡ old.place
@@ -45,3 +61,4 @@ pub record Gives (old : SeatView) (receipt : Receipt) (new : SeatView) : Type 0 
   pub list : (between : List Receipt)
       × (new.receipts.list ≡ (old.receipts.list ++ between) ++ receipt ∷ [])
   pub given : new.receipts.given ≡ old.receipts.given + 1
+  pub leases : new.leases ≡ old.leases

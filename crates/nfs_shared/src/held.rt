@@ -5,18 +5,16 @@ ghost use Rattle.nfs_core.specs.Events.{EndsNoClient, IsNotEntered, entry_by};
 ghost use Rattle.nfs_core.specs.Recalls.{AreLeftOf, AreOneList, RecallsBegin};
 ghost use Rattle.nfs_core.specs.Server.{Applies, AreAlike, Enters, IsLawful};
 ghost use Rattle.nfs_core.specs.declared.entered.Entered.{Entered};
-ghost use Rattle.nfs_forms.specs.ClientId.{number_in};
 ghost use Rattle.nfs_leases.specs.BookEvent.{AllHappen};
 ghost use Rattle.nfs_leases.specs.BookOf.{events_entered};
-ghost use Rattle.nfs_shared.specs.Held.{CanBeHeld, HasQueued, MayBeHeld, SenderMayFind, SweeperMayFind, waiting};
-ghost use Rattle.nfs_leases.specs.PlainBook.{Happens, has_open_lease, with_renewal};
-ghost use Rattle.nfs_leases.specs.Renewals.{renewed_by};
+ghost use Rattle.nfs_shared.specs.Held.{CanBeHeld, HasQueued, SenderMayFind, SweeperMayFind, waiting};
 ghost use Rattle.nfs_shared.specs.Sender.{with_mark};
 ghost use Rattle.nfs_shared.specs.Seats.{Gives, KnowsTheSame, number_given};
 ghost use Rattle.nfs_leases.specs.Sweeps.{Sweeps, leased_server};
 ghost use Rattle.nfs_state.specs.Entries.{IsFilehandle, resource};
 ghost use Rattle.nfs_state.specs.declared.entry.Call.{Call};
 ghost use Rattle.nfs_state.specs.declared.entry.Entry.TheVariants as entries;
+ghost use Rattle.nfs_words.specs.Desk.{Happens};
 ghost use Rattle.nfs_xdr.specs.Op.{has_entry, opnum_of};
 ghost use Rattle.nfs_xdr.specs.OpResult.{op_result};
 ghost use Rattle.nfs_xdr.specs.Opnum.{answer_limit};
@@ -25,7 +23,6 @@ use crate::naming::{Naming, OtherLedger};
 use crate::recall_queue::{PutPass, RecallQueue};
 use crate::receipt::Receipt;
 use crate::register::{Register, give};
-use crate::roll::meet;
 use crate::seat::Seat;
 use crate::sender::Sender;
 use crate::sweeper::Sweeper;
@@ -33,17 +30,19 @@ use nfs_core::{
     Core, CoreError, Entered, Entry, Event, Moment, Recall, lawful_is_safe, recalls_are_one_list,
     recalls_begin,
 };
-use nfs_leases::{LeasedCore, PlainLeases, Swept, renewed_client};
+use nfs_leases::{LeasedCore, Swept};
 use nfs_state::{Request, SeenCall};
-use nfs_xdr::{ClientId, Op, OpResult, Refusal};
+use nfs_words::WordDesk;
+use nfs_xdr::{OpResult, Refusal};
 use std::marker::Model;
 use std::sync::ledger::Book;
 
-/// The core with its journal and the leases of its clients, the register of the receipts for its entries, the number of
-/// the entries that are no calls, the right to put recalls into the queue, and a recall that found no room there.
+/// The core with its journal and the keeper's book of its clients' leases, the register of the receipts for its entries,
+/// the number of the entries that are no calls, the right to put recalls into the queue, and a recall that found no room
+/// there.
 #[derive(Drop)]
 pub struct Held<N: Naming> {
-    pub(crate) leased: LeasedCore<PlainLeases>,
+    pub(crate) leased: LeasedCore<WordDesk>,
     pub(crate) register: Register<N>,
     pub(crate) other_count: Book<OtherLedger<N>>,
     pub(crate) put: PutPass,
@@ -77,6 +76,7 @@ impl<N: Naming> Model for Held<N> {
     ghost use Rattle.nfs_shared.specs.Naming.{start_of};
     ghost use Rattle.nfs_shared.specs.Receipts.{others_in};
     ghost use Rattle.nfs_shared.specs.Roll.{list_of};
+    ghost use Rattle.nfs_words.specs.Calls.{FitsTable};
 
     ghost Value = { HeldView };
 
@@ -102,12 +102,12 @@ impl<N: Naming> Model for Held<N> {
         × (start_of h.leased.core.journal ≡ N.start)
         × (h.register.rest.parts ≡ 0) × (h.register.rest.amount ≡ 0)
         × (h.other_count.total ≡ others_in h.leased.core.journal.entries)
+        × FitsTable h.leased.book N.run.words
         × (h.put.queue ≡ N.run.queue) };
 }
 
-/// Has the core answer an operation, and makes the receipt for its entry. The lease of the client that the operation
-/// names is renewed before, whatever is answered. The leases of the clients that become live by it are opened, and those
-/// of the clients that are replaced are retired.
+/// Has the core answer an operation, and makes the receipt for its entry. The leases of the clients that become live by it
+/// are opened, and those of the clients that are replaced are retired. It renews no lease: the caller does that, before.
 pub fn call_held<N: Naming>(
     held: &mut Held<N>,
     seat: &mut Seat<N>,
@@ -131,9 +131,9 @@ pub fn call_held<N: Naming>(
     ensures leases { (entered : Option Entered)
         × Answers held.old.server held.new.server request result.0 entered
         × (number_entered entered ≡ number_given result.1)
-        × AllHappen Happens
-        (with_renewal (renewed_by N.start.epoch request.op) request.moment held.old.leases)
-        (events_entered entered request.moment) held.new.leases }
+        × AllHappen Happens held.old.leases (events_entered entered request.moment)
+        held.new.leases }
+    ensures looks { seat.new.leases ≡ seat.old.leases }
 {
     lawful_is_safe();
     recalls_stay();
@@ -149,10 +149,9 @@ pub fn call_held<N: Naming>(
     }
 }
 
-// Renews the lease of the client that the operation names, and has the core answer, if there is room for the place of a
-// receipt.
+// Has the core answer, if there is room for the place of a receipt.
 fn answer_with_room(
-    leased: &mut LeasedCore<PlainLeases>,
+    leased: &mut LeasedCore<WordDesk>,
     places: &mut Vec<u32>,
     request: Request,
 ) -> (OpResult, Option<Entered>)
@@ -161,16 +160,13 @@ fn answer_with_room(
     ensures answers { Answers leased.old.core leased.new.core request result.0 result.1 }
     ensures short { length (op_result.encoding result.0) ≤ answer_limit (opnum_of request.op) }
     ensures form { op_result.Fits result.0 }
-    ensures leases { AllHappen Happens
-        (with_renewal (renewed_by leased.old.core.journal.epoch request.op) request.moment
-        leased.old.book)
-        (events_entered result.1 request.moment) leased.new.book }
+    ensures leases { AllHappen Happens leased.old.book (events_entered result.1 request.moment)
+        leased.new.book }
     ensures lawful { IsLawful leased.new.core }
     ensures places { places.new.items ≡ places.old.items }
     ensures room { IfSome result.1 (λ _. vec_len places.new < vec_capacity places.new) }
 {
-    let client = renewed_client(&request.op, leased.core.journal().epoch());
-    leased.renew(client, request.moment);
+    leased.core.journal();
     if places.reserve(1).is_err() {
         let opnum = request.op.opnum();
         drop(request);
@@ -274,35 +270,4 @@ fn recalls_stay()
 {
     recalls_are_one_list();
     recalls_begin();
-}
-
-/// Renews the lease of this client, if it is open, and returns whether it is. The seat's receipts begin those that were
-/// given.
-pub fn renew_held<N: Naming>(
-    held: &mut Held<N>,
-    seat: &mut Seat<N>,
-    moment: Moment,
-    client: ClientId,
-) -> bool
-    ensures held { held.new ≡ record held.old {
-      leases = with_renewal (number_in N.start.epoch client) moment held.old.leases;
-    } }
-    ensures open { result ≡ has_open_lease held.old.leases (number_in N.start.epoch client) }
-    ensures known { MayBeHeld N.start seat.old held.old }
-    ensures same { KnowsTheSame seat.old seat.new }
-{
-    let register = &mut held.register;
-    meet(&register.roll, &mut register.writer, &mut seat.token);
-    let client = client.number_in(held.leased.core.journal().epoch());
-    held.leased.renew(client, moment)
-}
-
-/// Renews the lease of the client that the operation names, as a call of it does, where the call can't be made.
-pub(crate) fn renew_named<N: Naming>(held: &mut Held<N>, op: &Op, moment: Moment)
-    ensures { held.new ≡ record held.old {
-      leases = with_renewal (renewed_by N.start.epoch op.now) moment held.old.leases;
-    } }
-{
-    let client = renewed_client(op, held.leased.core.journal().epoch());
-    held.leased.renew(client, moment);
 }

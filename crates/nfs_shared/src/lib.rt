@@ -1,5 +1,6 @@
-//! The state that threads share: a core and the leases of its clients under one lock, with receipts for the entries that
-//! calls made, and the queue by which recalls reach the thread that sends them.
+//! The state that threads share: a core and the book of its clients' leases under one lock, with receipts for the entries
+//! that calls made, the queue by which recalls reach the thread that sends them, and beside the lock the words of the
+//! leases, which any worker renews.
 #![tactic(auto)]
 
 mod held;
@@ -17,7 +18,7 @@ mod sender;
 mod shared;
 mod sweeper;
 
-pub use held::{Held, call_held, enter_held, renew_held, sweep_held};
+pub use held::{Held, call_held, enter_held, sweep_held};
 pub use hold::Hold;
 pub use limits::limit_of_queue;
 pub use naming::Naming;

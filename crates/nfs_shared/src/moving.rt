@@ -10,7 +10,8 @@ use crate::held::{Held, recalls_are_left};
 use crate::naming::Naming;
 use crate::recall_queue::{PutPass, RecallQueue};
 use nfs_core::Recall;
-use nfs_leases::{LeasedCore, PlainLeases};
+use nfs_leases::LeasedCore;
+use nfs_words::WordDesk;
 use std::sync::Wait;
 
 /// Puts the recalls that wait into the queue, in order, until none waits or the queue gives one back.
@@ -49,7 +50,7 @@ fn put_one<R: Wait>(
     queue: &RecallQueue,
     put: &mut PutPass,
     hand: &mut Option<Recall>,
-    leased: &mut LeasedCore<PlainLeases>,
+    leased: &mut LeasedCore<WordDesk>,
 ) -> bool
     requires queue { put.old.queue ≡ queue.now }
     ensures queue { put.new.queue ≡ put.old.queue }
@@ -77,7 +78,7 @@ fn put_one<R: Wait>(
 }
 
 // Takes out the first of the recalls that wait.
-fn next_waiting(hand: &mut Option<Recall>, leased: &mut LeasedCore<PlainLeases>) -> Option<Recall>
+fn next_waiting(hand: &mut Option<Recall>, leased: &mut LeasedCore<WordDesk>) -> Option<Recall>
     ensures core { leased.new.core ≡ record leased.old.core {
       recalls = leased.new.core.recalls;
     } }

@@ -1,5 +1,5 @@
 //! The state that threads share, behind one lock.
-ghost use Rattle.std.specs.Prelude.{◌≡◌, ◌+◌, ◌<◌, ◌≤◌, ◌↔◌, ◌++◌, [], IfOk, IfErr, IfSome, IfNone, IsNone, IsTrue, List, None, Ok, OnErr, OnOk, Some, length, map};
+ghost use Rattle.std.specs.Prelude.{◌≡◌, ◌+◌, ◌<◌, ◌≤◌, ◌↔◌, ◌++◌, [], All, IfOk, IfErr, IfSome, IfNone, IsNone, IsTrue, List, None, Ok, OnErr, OnOk, Some, length, map, vec_len};
 ghost use Rattle.nfs_core.specs.Callbacks.{callback_of, has_delegation};
 ghost use Rattle.nfs_core.specs.Events.{IsNotEntered, path_of};
 ghost use Rattle.nfs_core.specs.Recalls.{AreRecallsOf};
@@ -7,27 +7,28 @@ ghost use Rattle.nfs_core.specs.Safe.{IsSafe};
 ghost use Rattle.nfs_core.specs.Server.{Enters, IsLawful, Server};
 ghost use Rattle.nfs_core.specs.declared.event.Event.TheVariants as events;
 ghost use Rattle.nfs_forms.specs.ClientId.{number_in};
-ghost use Rattle.nfs_shared.specs.Ends.{AreFresh, AreKept, AllStand, AllApart, AllBegin, receipts_in, given_in};
-ghost use Rattle.nfs_shared.specs.Held.{HeldView, MayBeHeld, SenderMayFind, SweeperMayFind};
+ghost use Rattle.nfs_shared.specs.Ends.{AreFresh, AreKept, AllStand, AllApart, AllBegin, AllInTime, AllMet, receipts_in, given_in};
+ghost use Rattle.nfs_shared.specs.Held.{HeldView, SenderMayFind, SweeperMayFind};
 ghost use Rattle.nfs_shared.specs.Naming.{CanBegin, start_of};
-ghost use Rattle.nfs_leases.specs.PlainBook.{Happens, has_open_lease};
+ghost use Rattle.nfs_leases.specs.Renewals.{renewed_by};
 ghost use Rattle.nfs_shared.specs.Receipts.{calls_in, others_in};
+ghost use Rattle.nfs_shared.specs.Renewing.{RenewsAs, RenewsFor};
 ghost use Rattle.nfs_shared.specs.Roll.{IsOf, IsWriter, list_of, writer_of};
 ghost use Rattle.nfs_shared.specs.Sender.{with_mark, with_taken};
-ghost use Rattle.nfs_shared.specs.Seats.{Gives, KnowsTheSame, fresh};
+ghost use Rattle.nfs_shared.specs.Seats.{Gives, KnowsTheSame, fresh, with_leases};
 ghost use Rattle.nfs_leases.specs.Sweeps.{Sweeps, leased_server};
 ghost use Rattle.nfs_owners.specs.LiveClients.{IsNextUnknown};
 ghost use Rattle.nfs_rpc.specs.declared.recall.Recall.{Recall};
 ghost use Rattle.nfs_state.specs.Entries.{IsFilehandle, request_of, resource};
 ghost use Rattle.nfs_state.specs.Stored.{meaning};
 ghost use Rattle.nfs_state.specs.declared.entry.Entry.TheVariants as entries;
+ghost use Rattle.nfs_words.specs.Calls.{FitsTable, Renews, worker_at};
+ghost use Rattle.nfs_words.specs.Desk.{Happens};
 ghost use Rattle.nfs_xdr.specs.Op.{has_entry, opnum_of};
 ghost use Rattle.nfs_xdr.specs.OpResult.{op_result};
 ghost use Rattle.nfs_xdr.specs.Opnum.{answer_limit};
 
-use crate::held::{
-    Held, call_held, enter_held, meet_sender, recalls_are_left, renew_held, renew_named, sweep_held,
-};
+use crate::held::{Held, call_held, enter_held, meet_sender, recalls_are_left, sweep_held};
 use crate::hold::Hold;
 use crate::naming::{Naming, OtherLedger, ReceiptLedger};
 use crate::opened::Opened;
@@ -39,19 +40,24 @@ use crate::seat::Seat;
 use crate::sender::Sender;
 use crate::sweeper::Sweeper;
 use nfs_core::{Core, CoreError, Event, Moment, Recall};
-use nfs_leases::{LeasedCore, PlainLeases, Swept};
+use nfs_leases::{LeasedCore, Renewal, Swept, renewed_client};
 use nfs_owners::ClientState;
 use nfs_state::{Path, Request};
+use nfs_words::{LeaseSeat, WordDesk, WordLeases};
 use nfs_xdr::{Callback, ClientId, Op, OpResult, Principal, Refusal, Stateid};
 use std::alloc::{AllocError, Global};
 use std::marker::Model;
 use std::sync::ledger::Share;
-use std::sync::{Mutex, Wait};
+use std::sync::{Arc, Mutex, Wait};
 
-/// The core with its journal, the leases and the receipts' register, behind one lock, and the queue by which recalls reach
-/// the thread that sends them. What holds whenever the lock is free is the invariant of `Held`.
+/// The core with its journal, the keeper's book of leases and the receipts' register, behind one lock, and beside it the
+/// words of the leases, which any worker reads and raises, and the queue by which recalls reach the thread that sends them.
+/// What holds whenever the lock is free is the invariant of `Held`.
 #[derive(Drop)]
 pub struct Shared<N: Naming> {
+    words: Arc<WordLeases, Global>,
+    // That of the run, by which a clientid or a stateid names a client of it.
+    epoch: u32,
     held: Mutex<Held<N>>,
     queue: RecallQueue,
 }
@@ -59,13 +65,15 @@ pub struct Shared<N: Naming> {
 // Contracts see the queue's name, which is the run's.
 impl<N: Naming> Model for Shared<N> {
     ghost use Rattle.std.specs.Prelude.{◌≡◌};
+    ghost use Rattle.std.specs.Arc.{arc_value};
     ghost use Rattle.atomic_table.specs.Seated.{TableId};
 
     ghost Value = { TableId };
 
     ghost view = { λ s. s.queue };
 
-    ghost invariant = { λ s. s.queue ≡ N.run.queue };
+    ghost invariant = { λ s. (s.queue ≡ N.run.queue) × (arc_value s.words ≡ N.run.words)
+        × (s.epoch ≡ N.start.epoch) };
 }
 
 /// The shared state, and what the threads of a run need for it.
@@ -83,14 +91,12 @@ impl<N: Naming> Shared<N> {
     /// no client is live in it. It fails only where memory is refused, and gives the core back.
     pub fn new(alloc: Global, opened: Opened, core: Core) -> Result<SharedParts<N>, Core>
         requires beginning { CanBegin N.run N.start opened core }
-        ensures seats { IfOk result (λ r. AreFresh N.run.workers r.seats.items) }
+        ensures seats { IfOk result (λ r. AreFresh N.run.words N.run.workers r.seats.items) }
         ensures sweeper { IfOk result (λ r. r.sweeper.count ≡ 0) }
         ensures sender { IfOk result (λ r. r.sender ≡ record { taken = []; count = 0 }) }
         ensures err { IfErr result (λ c. c ≡ core) }
     {
-        let Ok(leases) = PlainLeases::new(alloc, core.journal().lease()) else {
-            return Err(core);
-        };
+        let epoch = core.journal().epoch();
         let Opened {
             roll,
             mut writer,
@@ -100,10 +106,14 @@ impl<N: Naming> Shared<N> {
             queue,
             put,
             take,
+            words,
+            kept,
+            lease_seats,
+            keeper,
         } = opened;
         let (count, mut rest) = receipt_ledger.open::<ReceiptLedger<N>>();
         let (other_count, mut share) = other_ledger.open::<OtherLedger<N>>();
-        let Ok(seats) = new_seats(alloc, &roll, &mut writer, &mut rest, workers) else {
+        let Ok(seats) = new_seats(alloc, &roll, &mut writer, &mut rest, workers, lease_seats) else {
             return Err(core);
         };
         let register = Register {
@@ -114,8 +124,10 @@ impl<N: Naming> Shared<N> {
             rest,
         };
         recalls_are_left(&core);
+        let desk = WordDesk::new(kept, keeper);
+        let leased = LeasedCore::new(core, desk);
         let held = Held {
-            leased: LeasedCore::new(core, leases),
+            leased,
             register,
             other_count,
             put,
@@ -127,6 +139,8 @@ impl<N: Naming> Shared<N> {
         };
         Ok(SharedParts {
             shared: Shared {
+                words,
+                epoch,
                 held: Mutex::new(held),
                 queue,
             },
@@ -156,8 +170,8 @@ impl<N: Naming> Shared<N> {
     }
 
     /// Answers an operation that has an entry in the journal, in one hold of the lock, with a receipt for its entry. The
-    /// lease of the client that the operation names is renewed first, also where memory is refused for the request.
-    /// `filehandle` has to be a node of the tree.
+    /// lease of the client that the operation names is renewed first, by the seat and without the lock, also where memory
+    /// is refused for the request. `filehandle` has to be a node of the tree.
     pub fn call<R: Wait>(
         &self,
         rt: &R,
@@ -170,36 +184,67 @@ impl<N: Naming> Shared<N> {
         requires entry { IsTrue (has_entry op.now) }
         requires node { IsFilehandle N.start filehandle }
         ensures refused { IsNone result.1 ↔ (result.0 ≡ resource op.now) }
+        ensures renews { RenewsFor (renewed_by N.start.epoch op.now) moment seat.old.leases
+            seat.new.leases }
         ensures same { IfNone result.1 (KnowsTheSame seat.old seat.new) }
         ensures entry { IfSome result.1 (λ r. r.call ≡ record {
           request = request_of moment principal op.now filehandle;
           answer = result.0;
         }) }
-        ensures given { IfSome result.1 (λ r. Gives seat.old r seat.new) }
+        ensures given { IfSome result.1
+            (λ r. Gives (with_leases seat.old seat.new.leases) r seat.new) }
         ensures short { length (op_result.encoding result.0) ≤ answer_limit (opnum_of op.now) }
         ensures form { op_result.Fits result.0 }
     {
+        self.renew_named(seat, op, moment);
         let Ok(request) = Request::of_copy(moment, principal, op, filehandle) else {
-            renew_named(&mut *self.hold(rt).guard, op, moment);
             return (op.opnum().refusal(Refusal::Resource), None);
         };
         call_held(&mut *self.hold(rt).guard, seat, request)
     }
 
-    /// Renews the lease of this client in a hold of the lock, if it is open, and returns whether it is. No clause says
-    /// that the lock guarded the value that answers, but that it may have, since this seat's last receipt.
-    pub fn renew<R: Wait>(
-        &self,
-        rt: &R,
-        seat: &mut Seat<N>,
-        moment: Moment,
-        client: ClientId,
-    ) -> bool
-        ensures open { (held : HeldView) × MayBeHeld N.start seat.old held
-            × (result ≡ has_open_lease held.leases (number_in N.start.epoch client)) }
-        ensures same { KnowsTheSame seat.old seat.new }
+    /// Renews the lease of the client with this clientid, where it is open, and neither takes the lock nor waits. The seat
+    /// gains just what it saw and did: a look, and where that showed the lease open a raise of its word. Of a clientid of
+    /// another run it gains nothing, and there is no answer.
+    pub fn renew(&self, seat: &mut Seat<N>, client: ClientId, moment: Moment) -> Option<Renewal>
+        ensures renews { RenewsAs (number_in N.start.epoch client) moment result seat.old.leases
+            seat.new.leases }
+        ensures same { seat.new ≡ with_leases seat.old seat.new.leases }
     {
-        renew_held(&mut *self.hold(rt).guard, seat, moment, client)
+        self.renew_number(seat, client.number_in(self.epoch), moment)
+    }
+
+    /// Renews the lease of the client that the operation names, if it names one of this run, as `renew` does.
+    pub fn renew_named(&self, seat: &mut Seat<N>, op: &Op, moment: Moment)
+        ensures renews { RenewsFor (renewed_by N.start.epoch op.now) moment seat.old.leases
+            seat.new.leases }
+        ensures same { seat.new ≡ with_leases seat.old seat.new.leases }
+    {
+        self.renew_number(seat, renewed_client(op, self.epoch), moment);
+    }
+
+    // Renews the lease of the client with this number, if there is one.
+    fn renew_number(
+        &self,
+        seat: &mut Seat<N>,
+        number: Option<u32>,
+        moment: Moment,
+    ) -> Option<Renewal>
+        ensures renews { RenewsAs number moment result seat.old.leases seat.new.leases }
+        ensures same { seat.new ≡ with_leases seat.old seat.new.leases }
+    {
+        match number {
+            Some(client) => Some(self.renew_client(seat, client, moment)),
+            None => None,
+        }
+    }
+
+    // Renews the client's lease.
+    fn renew_client(&self, seat: &mut Seat<N>, client: u32, moment: Moment) -> Renewal
+        ensures renews { Renews seat.old.leases client moment result seat.new.leases }
+        ensures same { seat.new ≡ with_leases seat.old seat.new.leases }
+    {
+        self.words.renew(&mut seat.leases, client, moment)
     }
 
     /// Removes each client whose lease is over at this moment, with all that it has. Then it revokes the delegations that
@@ -349,7 +394,8 @@ impl<N: Naming> Shared<N> {
 
     /// The core, once all threads have ended. `receipts` has for each seat those that it was given, in order, and all
     /// seats are handed in, in the order of their places. What was taken from the queue begins the recalls of the core's
-    /// journal, in order, each once.
+    /// journal, in order, each once. No renewal that was answered to a seat is later than the journal's end of its client
+    /// allows.
     pub fn end(
         self,
         receipts: &[Vec<Receipt>],
@@ -369,8 +415,14 @@ impl<N: Naming> Shared<N> {
         ensures others { others_in result.journal.entries ≡ sweeper.count + sender.count }
         ensures taken { (rest : List Recall)
             × AreRecallsOf result.journal (sender.taken ++ rest) }
+        ensures in_time { AllInTime result.journal.lease result.journal.entries seats.items }
     {
-        let Shared { held, queue } = self;
+        let Shared {
+            words,
+            epoch: _,
+            held,
+            queue,
+        } = self;
         let held = held.into_inner();
         let Held {
             leased,
@@ -392,11 +444,13 @@ impl<N: Naming> Shared<N> {
             mut count,
             mut rest,
         } = register;
-        meet_each(&roll, &mut writer, &mut rest, seats);
+        let (core, book) = leased.into_parts();
+        let (_, mut keeper) = book.into_parts();
+        meet_each(&roll, &words, &mut writer, &mut keeper, &mut rest, seats);
         count.audit(&mut rest);
         share.merge(marks);
         other_count.audit(&mut share);
-        leased.into_core()
+        core
     }
 }
 
@@ -410,25 +464,32 @@ fn is_called_by(core: &Core, client: u32, callback: &Callback) -> bool
     }
 }
 
-// A fresh seat for each worker, in the order of their places.
+// A fresh seat for each worker, in the order of their places, with one of these at the lease words.
 fn new_seats<N: Naming>(
     alloc: Global,
     roll: &Roll,
     writer: &mut Token,
     rest: &mut Share<ReceiptLedger<N>>,
     workers: u32,
+    lease_seats: Vec<LeaseSeat>,
 ) -> Result<Vec<Seat<N>>, AllocError>
     requires roll { roll.now.shared.table_id ≡ N.run.roll }
+    requires count { vec_len lease_seats ≡ workers }
+    requires leases { All (λ seat. seat ≡ worker_at N.run.words) lease_seats.items }
     requires writer { IsOf N.run.roll writer.old × (writer.old.me ≡ (writer_of [], [])) }
     requires rest { (rest.old.parts ≡ workers) × (rest.old.amount ≡ 0) }
     ensures writer { IfOk result (λ s. IsOf N.run.roll writer.new
         × (writer.new.me ≡ (writer_of [], []))) }
     ensures rest { IfOk result (λ s. (rest.new.parts ≡ 0) × (rest.new.amount ≡ 0)) }
-    ensures seats { IfOk result (λ s. AreFresh workers s.items) }
+    ensures seats { IfOk result (λ s. AreFresh N.run.words workers s.items) }
 {
     let mut seats = Vec::new(alloc);
+    let mut lease_seats = lease_seats.into_iter();
     for place in 0..workers {
-        seats.push(new_seat(roll, writer, rest, place))?;
+        let Some(leases) = lease_seats.next() else {
+            unreachable!()
+        };
+        seats.push(new_seat(roll, writer, rest, place, leases))?;
     }
     Ok(seats)
 }
@@ -438,13 +499,15 @@ fn new_seat<N: Naming>(
     writer: &mut Token,
     rest: &mut Share<ReceiptLedger<N>>,
     place: u32,
+    leases: LeaseSeat,
 ) -> Seat<N>
     requires roll { roll.now.shared.table_id ≡ N.run.roll }
     requires writer { IsOf N.run.roll writer.old × (writer.old.me ≡ (writer_of [], [])) }
     requires rest { (rest.old.amount ≡ 0) × (0 < rest.old.parts) }
+    requires leases { leases ≡ worker_at N.run.words }
     ensures writer { IsOf N.run.roll writer.new × (writer.new.me ≡ (writer_of [], [])) }
     ensures rest { (rest.new.parts + 1 ≡ rest.old.parts) × (rest.new.amount ≡ 0) }
-    ensures seat { result ≡ fresh place }
+    ensures seat { result ≡ fresh N.run.words place }
 {
     let token = roll.shared.split_seat::<Copied>(writer);
     Seat {
@@ -452,19 +515,25 @@ fn new_seat<N: Naming>(
         last: None,
         token,
         share: rest.split_off(1, 0),
+        leases,
     }
 }
 
-// Each seat meets the writer, and gives its share back.
+// Each seat meets the writer and the keeper, and gives its share back.
 fn meet_each<N: Naming>(
     roll: &Roll,
+    words: &WordLeases,
     writer: &mut Token,
+    keeper: &mut LeaseSeat,
     rest: &mut Share<ReceiptLedger<N>>,
     seats: Vec<Seat<N>>,
 )
     requires roll { roll.now.shared.table_id ≡ N.run.roll }
+    requires words { words.now ≡ N.run.words }
     requires writer { IsOf N.run.roll writer.old × IsWriter writer.old }
+    requires keeper { FitsTable keeper.old N.run.words }
     ensures begin { AllBegin seats.items (list_of writer.old) }
+    ensures met { AllMet N.run.words.lease keeper.old.view.own seats.items }
     ensures parts { rest.new.parts ≡ rest.old.parts + length seats.items }
     ensures amount { rest.new.amount ≡ rest.old.amount + given_in seats.items }
 {
@@ -474,8 +543,10 @@ fn meet_each<N: Naming>(
             last: _,
             mut token,
             share,
+            mut leases,
         } = seat;
         meet(roll, writer, &mut token);
+        words.confer(keeper, &mut leases, 0);
         rest.merge(share);
     }
 }

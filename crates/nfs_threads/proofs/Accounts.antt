@@ -6,11 +6,12 @@ use Rattle.nfs_shared.specs.Seats.{SeatView, fresh}
 use Rattle.nfs_shared.specs.declared.receipt.Receipt.{Receipt}
 use Rattle.nfs_tree.specs.Tree.{Files}
 use Rattle.nfs_threads.specs.Holding.{Holding}
-use Rattle.nfs_threads.specs.Worker.{AreEndsOf, IsEndOf, IsShift, Linking, Stops, receipts_back, seats_of, stand}
+use Rattle.nfs_threads.specs.Worker.{AreEndsOf, IsEndOf, IsShift, Linking, Stops, receipts_back, seats_back, seats_of, stand}
 use Rattle.nfs_threads.specs.declared.shift.Shift.{Shift}
 use Rattle.nfs_threads.specs.declared.worker_end.WorkerEnd.{WorkerEnd}
 use Rattle.nfs_threads.specs.declared.worker_account.WorkerAccount.{WorkerAccount}
 use Rattle.nfs_threads.specs.Run.{AreAccounts, receipts_by_worker}
+use Rattle.nfs_words.specs.Sitting.{Words}
 use Rattle.nfs_threads.proofs.Each.{none_served}
 use Rattle.nfs_threads.proofs.Workers.{kept_unused}
 
@@ -50,13 +51,13 @@ is_refused linking tree links seat end none empty is_err same no_receipts =
     )
 
 -- these seats are unused, and their places go up from this one
-abbrev FreshFrom : ℕ → List SeatView → Type 0
-FreshFrom place [] = Unit {0}
-FreshFrom place (seat ∷ seats) = (seat ≡ fresh place) × FreshFrom (suc place) seats
+abbrev FreshFrom : Words → ℕ → List SeatView → Type 0
+FreshFrom words place [] = Unit {0}
+FreshFrom words place (seat ∷ seats) = (seat ≡ fresh words place) × FreshFrom words (suc place) seats
 
-fresh_from : (place : ℕ) (seats : List SeatView) → ((k : ℕ) (seat : SeatView) → slice_get seats k ≡ Some seat → seat ≡ fresh (k + place)) → FreshFrom place seats
-fresh_from place [] each = tt
-fresh_from place (seat ∷ seats) each = (each 0 seat refl ∙ ap fresh (omega arith), fresh_from (suc place) seats (λ k s at. each (suc k) s at ∙ ap fresh (omega arith)))
+fresh_from : (words : Words) (place : ℕ) (seats : List SeatView) → ((k : ℕ) (seat : SeatView) → slice_get seats k ≡ Some seat → seat ≡ fresh words (k + place)) → FreshFrom words place seats
+fresh_from words place [] each = tt
+fresh_from words place (seat ∷ seats) each = (each 0 seat refl ∙ ap (fresh words) (omega arith), fresh_from words (suc place) seats (λ k s at. each (suc k) s at ∙ ap (fresh words) (omega arith)))
 
 -- the account of a worker
 of_end : {N L D C : Type 0} (linking : Linking L D C) (tree : Files) (links : L) (seat : SeatView) (end : WorkerEnd N) (account : WorkerAccount)
@@ -66,26 +67,27 @@ of_end linking tree links seat end account is shift receipts =
     subst (λ (s : Shift). IsShift linking tree (links, seat) s account.receipts.items end.seat) (sym shift)
     (subst (λ (r : List Receipt). IsShift linking tree (links, seat) end.shift r end.seat) (sym receipts) is.0)
 
-accounted : {N L D C : Type 0} (linking : Linking L D C) (tree : Files) (link : L) (place : ℕ) (links : List (L × SeatView)) (ends : List (WorkerEnd N)) (accounts : List WorkerAccount)
-    → FreshFrom place (seats_of links) → AllByRecursion (λ l. l.0 ≡ link) links → AreEndsOf linking tree links ends
+accounted : {N L D C : Type 0} (linking : Linking L D C) (tree : Files) (link : L) (words : Words) (place : ℕ) (links : List (L × SeatView)) (ends : List (WorkerEnd N)) (accounts : List WorkerAccount)
+    → FreshFrom words place (seats_of links) → AllByRecursion (λ l. l.0 ≡ link) links → AreEndsOf linking tree links ends
     → map (λ a. a.shift) accounts ≡ map (λ e. e.shift) ends → receipts_by_worker accounts ≡ receipts_back ends
-    → AreAccounts linking tree link place accounts
-accounted linking tree link place links ends [] new same are shifts receipts = tt
-accounted linking tree link place links [] (a ∷ accounts) new same are shifts receipts = absurd cc
-accounted linking tree link place [] (e ∷ ends) (a ∷ accounts) new same are shifts receipts = absurd are
-accounted linking tree link place (l ∷ links) (e ∷ ends) (a ∷ accounts) new same are shifts receipts =
+    → AreAccounts linking tree link words place accounts (seats_back ends)
+accounted linking tree link words place links [] [] new same are shifts receipts = tt
+accounted linking tree link words place links (e ∷ ends) [] new same are shifts receipts = absurd cc
+accounted linking tree link words place links [] (a ∷ accounts) new same are shifts receipts = absurd cc
+accounted linking tree link words place [] (e ∷ ends) (a ∷ accounts) new same are shifts receipts = absurd are
+accounted linking tree link words place (l ∷ links) (e ∷ ends) (a ∷ accounts) new same are shifts receipts =
     let shift : a.shift ≡ e.shift = cc in
     let more_shifts : map (λ x. x.shift) accounts ≡ map (λ x. x.shift) ends = cc in
     let own : a.receipts.items ≡ e.receipts.items = cc in
     let more_receipts : receipts_by_worker accounts ≡ receipts_back ends = cc in (
-      (e.seat, of_end linking tree link (fresh place) e a (subst (λ x. IsEndOf linking tree x (fresh place) e) same.0 (subst (λ s. IsEndOf linking tree l.0 s e) new.0 are.0)) shift own),
-      accounted linking tree link (suc place) links ends accounts new.1 same.1 are.1 more_shifts more_receipts,
+      of_end linking tree link (fresh words place) e a (subst (λ x. IsEndOf linking tree x (fresh words place) e) same.0 (subst (λ s. IsEndOf linking tree l.0 s e) new.0 are.0)) shift own,
+      accounted linking tree link words (suc place) links ends accounts new.1 same.1 are.1 more_shifts more_receipts,
     )
 
 -- the accounts of workers for the same links at fresh seats
-pub accounts_of : {N L D C : Type 0} (linking : Linking L D C) (tree : Files) (link : L) (count : ℕ) (links : List (L × SeatView)) (ends : List (WorkerEnd N)) (accounts : List WorkerAccount)
-    → AreFresh count (seats_of links) → AllByRecursion (λ l. l.0 ≡ link) links → AreEndsOf linking tree links ends
+pub accounts_of : {N L D C : Type 0} (linking : Linking L D C) (tree : Files) (link : L) (words : Words) (count : ℕ) (links : List (L × SeatView)) (ends : List (WorkerEnd N)) (accounts : List WorkerAccount)
+    → AreFresh words count (seats_of links) → AllByRecursion (λ l. l.0 ≡ link) links → AreEndsOf linking tree links ends
     → map (λ a. a.shift) accounts ≡ map (λ e. e.shift) ends → receipts_by_worker accounts ≡ receipts_back ends
-    → AreAccounts linking tree link 0 accounts
-accounts_of linking tree link count links ends accounts new same are shifts receipts =
-    accounted linking tree link 0 links ends accounts (fresh_from 0 (seats_of links) (λ k seat at. new.1 k seat at ∙ ap fresh (omega arith))) same are shifts receipts
+    → AreAccounts linking tree link words 0 accounts (seats_back ends)
+accounts_of linking tree link words count links ends accounts new same are shifts receipts =
+    accounted linking tree link words 0 links ends accounts (fresh_from words 0 (seats_of links) (λ k seat at. new.1 k seat at ∙ ap (fresh words) (omega arith))) same are shifts receipts

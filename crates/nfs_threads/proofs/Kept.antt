@@ -5,6 +5,7 @@ use Rattle.nfs_shared.specs.Ends.{AreFresh, AreKept, IsKept}
 use Rattle.nfs_shared.specs.declared.receipt.Receipt.{Receipt}
 use Rattle.nfs_shared.specs.Seats.{SeatView}
 use Rattle.nfs_tree.specs.Tree.{Files}
+use Rattle.nfs_words.specs.Sitting.{Words}
 use Rattle.nfs_threads.specs.Worker.{AreEndsOf, Linking, receipts_back, seats_back, seats_of}
 use Rattle.nfs_threads.specs.declared.worker_end.WorkerEnd.{WorkerEnd}
 use Rattle.nfs_threads.proofs.Parts.{has_parts}
@@ -45,10 +46,10 @@ as_many linking tree (l ∷ links) [] are = absurd are
 as_many linking tree [] (e ∷ ends) are = absurd are
 as_many linking tree (l ∷ links) (e ∷ ends) are = ap (λ n. suc n) (as_many linking tree links ends are.1)
 
-pub are_kept : {N L D C : Type 0} (linking : Linking L D C) (tree : Files) (count : ℕ) (links : List (L × SeatView)) (ends : List (WorkerEnd N))
-    → AreFresh count (seats_of links) → AreEndsOf linking tree links ends
+pub are_kept : {N L D C : Type 0} (linking : Linking L D C) (tree : Files) (words : Words) (count : ℕ) (links : List (L × SeatView)) (ends : List (WorkerEnd N))
+    → AreFresh words count (seats_of links) → AreEndsOf linking tree links ends
     → (length (seats_back ends) ≡ count) × AreKept (seats_back ends) (receipts_back ends)
-are_kept {N = N} linking tree count links ends fresh are = (
+are_kept {N = N} linking tree words count links ends fresh are = (
   as_many linking tree links ends are ∙ fresh.0,
   (
     length-map ends (λ (e : WorkerEnd N). e.receipts.items) ∙ sym (length-map ends (λ (e : WorkerEnd N). e.seat)),

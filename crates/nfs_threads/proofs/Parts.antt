@@ -31,7 +31,7 @@ parts_of {L = L} linking tree before [] after are = record {
 parts_of linking tree before (one ∷ more) after are =
     let mid = are.0 in
     let is = are.1 in
-    let gains = receipts_are_questions linking.device tree linking.tells (scene is.device before.desk is.clock) (scene is.device' mid.desk is.clock') is.course.0 one.result is.course.1 in
+    let gains = receipts_are_questions linking.device tree linking.epoch linking.tells (scene is.device before.desk is.clock) (scene is.device' mid.desk is.clock') is.course.0 one.result is.course.1 in
     let rest = parts_of linking tree mid more after are.2 in record {
       parts = gains.receipts ∷ rest.parts;
       are = (mid, (is, gains, refl), rest.are);

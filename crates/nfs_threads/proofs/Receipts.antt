@@ -44,10 +44,10 @@ gains_operation old new request answer (Some receipt) is = record {
   of_seat = (is.2.place, is.2.above, is.2.last);
 }
 
-gains_one : (old new : Holding) (question : Question) (answer : OpResult) → GivenBySeat old question answer new → GainsReceipts old (question ∷ []) (answer ∷ []) new
-gains_one old new (Operation request) answer given = gains_operation old new request answer given.0 given.1
-gains_one old new (Renewal moment client) answer given =
-    gains_none old new (Renewal moment client ∷ []) (answer ∷ []) given.4 refl
+gains_one : (epoch : ℕ) (old new : Holding) (question : Question) (answer : OpResult) → GivenBySeat epoch old question answer new → GainsReceipts old (question ∷ []) (answer ∷ []) new
+gains_one epoch old new (Operation request) answer given = gains_operation old new request answer given.1 given.2
+gains_one epoch old new (Renewal moment client) answer given =
+    gains_none old new (Renewal moment client ∷ []) (answer ∷ []) given.3 refl
 
 -- receipts of a seat, and more receipts of it after them
 of_seat_then : (place : ℕ) (before mid last : Option ℕ) (receipts more : List Receipt) → AreOfSeat place before receipts mid → AreOfSeat place mid more last → AreOfSeat place before (receipts ++ more) last
@@ -70,9 +70,9 @@ gains_more old mid new questions others answers replies first second = record {
       (subst (λ (place : ℕ). AreOfSeat place mid.seat.receipts.last second.receipts new.seat.receipts.last) first.place second.of_seat);
 }
 
-desk_gains : IsGain GivenBySeat AreAlikeButRoom GainsReceipts
-desk_gains = record { same = λ (h : Holding). refl; stays = gains_alike; one = gains_one; more = gains_more }
+desk_gains : (epoch : ℕ) → IsGain (GivenBySeat epoch) AreAlikeButRoom GainsReceipts
+desk_gains epoch = record { same = λ (h : Holding). refl; stays = gains_alike; one = gains_one epoch; more = gains_more }
 
-pub receipts_are_questions : {D C : Type 0} (device : Device D) (tree : Files) (tells : C → ℕ → C → Type 0) → ReceiptsAreQuestions device (rules tree GivenBySeat AreAlikeButRoom tells)
-receipts_are_questions device tree tells before after course result is =
-    course_gains device (rules tree GivenBySeat AreAlikeButRoom tells) GainsReceipts desk_gains before course result after is
+pub receipts_are_questions : {D C : Type 0} (device : Device D) (tree : Files) (epoch : ℕ) (tells : C → ℕ → C → Type 0) → ReceiptsAreQuestions device (rules tree (GivenBySeat epoch) AreAlikeButRoom tells)
+receipts_are_questions device tree epoch tells before after course result is =
+    course_gains device (rules tree (GivenBySeat epoch) AreAlikeButRoom tells) GainsReceipts (desk_gains epoch) before course result after is

@@ -1,5 +1,5 @@
 -- The links of a listener.
-use Rattle.std.specs.Prelude.{◌≡◌, None, Some, IsSome}
+use Rattle.std.specs.Prelude.{◌≡◌, ℕ, None, Some, IsSome}
 use Rattle.nfs_threads.specs.Sockets.{socket_device}
 use Rattle.nfs_threads.specs.Uptimes.{GoesOn}
 use Rattle.nfs_threads.specs.declared.socket.Socket.{Socket}
@@ -35,9 +35,10 @@ HasEnded (entrances.Door door) = Unit {0}
 abbrev pub Stops : {R W : Type 0} → TcpLinks R W → TcpLinks R W → Type 0
 Stops old new = HasEnded old.entrance × (new ≡ old)
 
--- what is known of such links
-abbrev pub tcp : {R W : Type 0} → Linking (TcpLinks R W) (Socket R) (Uptime R)
-tcp = record {
+-- what is known of such links, in the run with this epoch
+abbrev pub tcp : {R W : Type 0} → ℕ → Linking (TcpLinks R W) (Socket R) (Uptime R)
+tcp epoch = record {
+  epoch = epoch;
   opens = Opens;
   stops = Stops;
   device = socket_device;

@@ -2,7 +2,7 @@
 use Rattle.std.specs.Prelude.{◌≡◌, ℕ, suc, List, [], ◌∷◌, length, map}
 use Rattle.nfs_core.specs.Safe.{IsSafe}
 use Rattle.nfs_core.specs.Server.{IsLawful, Server}
-use Rattle.nfs_shared.specs.Ends.{AllApart, AllStand, receipts_in}
+use Rattle.nfs_shared.specs.Ends.{AllApart, AllInTime, AllStand, receipts_in}
 use Rattle.nfs_shared.specs.Naming.{start_of}
 use Rattle.nfs_shared.specs.Receipts.{calls_in}
 use Rattle.nfs_shared.specs.Seats.{SeatView, fresh}
@@ -13,14 +13,18 @@ use Rattle.nfs_tree.specs.Tree.{Files}
 use Rattle.nfs_threads.specs.Links.{tcp}
 use Rattle.nfs_threads.specs.declared.worker_account.WorkerAccount.{WorkerAccount}
 use Rattle.nfs_threads.specs.declared.tcp_links.TcpLinks.{TcpLinks}
+use Rattle.nfs_words.specs.Sitting.{Words}
 
--- each of these accounts is of a shift of the links at an unused seat; the places of the seats go up from this one
-abbrev pub AreAccounts : {L D C : Type 0} → Linking L D C → Files → L → ℕ → List WorkerAccount → Type 0
-AreAccounts linking tree links place [] = Unit {0}
-AreAccounts linking tree links place (account ∷ rest) =
-    ((seat : SeatView) × IsShift linking tree (links, fresh place) account.shift
-    account.receipts.items seat)
-    × AreAccounts linking tree links (suc place) rest
+-- Each of these accounts is of a shift of the links at an unused seat, which became this one. The places of the seats go
+-- up from this one, and they are at these lease words.
+abbrev pub AreAccounts : {L D C : Type 0} → Linking L D C → Files → L → Words → ℕ
+    → List WorkerAccount → List SeatView → Type 0
+AreAccounts linking tree links words place [] [] = Unit {0}
+AreAccounts linking tree links words place (account ∷ rest) (seat ∷ seats) =
+    IsShift linking tree (links, fresh words place) account.shift account.receipts.items seat
+    × AreAccounts linking tree links words (suc place) rest seats
+AreAccounts linking tree links words place [] (seat ∷ seats) = ⊥
+AreAccounts linking tree links words place (account ∷ rest) [] = ⊥
 
 -- the receipts of each worker
 abbrev pub receipts_by_worker : List WorkerAccount → List (List Receipt)
@@ -31,7 +35,11 @@ receipts_by_worker workers = map (λ account. account.receipts.items) workers
 pub record IsRun {R W : Type 0} (links : TcpLinks R W) (tree : Files) (count : ℕ) (old new : Server)
     (workers : List WorkerAccount) : Type 0 where
   pub all : length workers ≡ count
-  pub each : AreAccounts tcp tree links 0 workers
+  -- the seats as the workers left them, and the lease words that they are at
+  pub seats : List SeatView
+  pub words : Words
+  pub lasts : words.lease ≡ old.journal.lease
+  pub each : AreAccounts (tcp old.journal.epoch) tree links words 0 workers seats
   -- the journal began as that of the old core, and is lawful; and what is stored is safe
   pub start : start_of new.journal ≡ start_of old.journal
   pub lawful : IsLawful new
@@ -40,3 +48,5 @@ pub record IsRun {R W : Type 0} (links : TcpLinks R W) (tree : Files) (count : �
   pub stand : AllStand new.journal.entries (receipts_by_worker workers)
   pub apart : AllApart (receipts_by_worker workers)
   pub counted : calls_in new.journal.entries ≡ receipts_in (receipts_by_worker workers)
+  -- no renewal that was answered to one of the seats is later than the journal's end of its client allows
+  pub in_time : AllInTime new.journal.lease new.journal.entries seats

@@ -3,9 +3,9 @@ ghost use Rattle.nfs_threads.specs.Holding.{AreAlikeButRoom, GivenBySeat};
 ghost use Rattle.nfs_shared.specs.Ends.{IsKept};
 
 use nfs_core::Moment;
-use nfs_leases::renewal_answer;
+use nfs_leases::{Renewal, renewal_answer};
 use nfs_server::Service;
-use nfs_shared::{Hold, Naming, Receipt, Seat, Shared, call_held, renew_held};
+use nfs_shared::{Hold, Naming, Receipt, Seat, Shared, call_held};
 use nfs_state::Request;
 use nfs_xdr::{ClientId, OpResult};
 use std::alloc::{AllocError, Global};
@@ -13,13 +13,14 @@ use std::marker::Model;
 use std::sync::Wait;
 
 /// A worker at the state that threads share: the service of its connection. It keeps the receipts that it is given, and
-/// has a hold of the lock while it answers a batch, from its first question on. The handle by which it may wait for the
-/// lock is part of it, as services are called without one.
+/// has a hold of the lock while it answers a batch, from its first question on that needs one. Leases it renews without
+/// the lock. The handle by which it may wait for the lock is part of it, as services are called without one.
 #[derive(Drop)]
 pub struct Desk<'a, N: Naming, R: Wait> {
     rt: &'a R,
     shared: &'a Shared<N>,
-    // Whether a batch is under way, and the hold of the lock in which it is answered. What asks nothing takes none.
+    // Whether a batch is under way, and the hold of the lock in which it is answered. What asks for no operation takes
+    // none.
     is_batch: bool,
     hold: Option<Hold<'a, 'a, N, R>>,
     seat: Seat<N>,
@@ -85,7 +86,7 @@ impl<'a, N: Naming, R: Wait> Desk<'a, N, R> {
 }
 
 impl<'a, N: Naming, R: Wait> Service for Desk<'a, N, R> {
-    ghost gives = { GivenBySeat };
+    ghost gives = { GivenBySeat N.start.epoch };
 
     ghost alike = { AreAlikeButRoom };
 
@@ -109,6 +110,9 @@ impl<'a, N: Naming, R: Wait> Service for Desk<'a, N, R> {
     }
 
     fn call(&mut self, request: Request) -> OpResult {
+        // The lease is renewed before the lock is waited for.
+        self.shared
+            .renew_named(&mut self.seat, &request.op, request.moment);
         let hold = hold_in(&mut self.hold, self.rt, self.shared);
         let (answer, receipt) = call_held(&mut *hold.guard, &mut self.seat, request);
         let_go(&mut self.hold, self.is_batch);
@@ -119,16 +123,15 @@ impl<'a, N: Naming, R: Wait> Service for Desk<'a, N, R> {
     }
 
     fn renew(&mut self, moment: Moment, client: ClientId) -> OpResult {
-        let hold = hold_in(&mut self.hold, self.rt, self.shared);
-        let is_open = renew_held(&mut *hold.guard, &mut self.seat, moment, client);
-        let_go(&mut self.hold, self.is_batch);
+        let told = self.shared.renew(&mut self.seat, client, moment);
+        let is_open = matches!(told, Some(Renewal::Renewed));
         let answer = OpResult::Renew(renewal_answer(is_open));
         answer.fits();
         answer
     }
 }
 
-// The hold in which a question is answered: that of the batch, which takes the lock at its first question.
+// The hold in which an operation is answered: that of the batch, which takes the lock at its first operation.
 fn hold_in<'h, 'a, N: Naming, R: Wait>(
     hold: &'h mut Option<Hold<'a, 'a, N, R>>,
     rt: &'a R,

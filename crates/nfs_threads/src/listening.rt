@@ -10,7 +10,7 @@ ghost use Rattle.nfs_threads.specs.declared.tcp_links.TcpLinks.{TcpLinks};
 ghost use Rattle.nfs_threads.specs.declared.watcher.Nobody.{Nobody};
 ghost use Rattle.nfs_owners.specs.Registry.{is_live};
 ghost use Rattle.nfs_threads.specs.Worker.{AreEndsOf, AreUnused, receipts_back, seats_back, seats_of};
-ghost use Rattle.nfs_shared.specs.Ends.{AllApart, AllStand, AreKept, receipts_in};
+ghost use Rattle.nfs_shared.specs.Ends.{AllApart, AllInTime, AllStand, AreKept, receipts_in};
 ghost use Rattle.nfs_shared.specs.Naming.{CanBegin, start_of};
 ghost use Rattle.nfs_shared.specs.Receipts.{calls_in};
 ghost use Rattle.nfs_state.specs.Stored.{meaning};
@@ -57,7 +57,7 @@ pub fn serve_on<R: Threads + Wait + Timer + Net<Listener = TcpListener, Stream =
         × IsRun links tree.now connections core r.core r.workers.items) }
     ensures back { IfErr result (λ back. back ≡ core) }
 {
-    let Ok(opened) = Opened::new(alloc, connections) else {
+    let Ok(opened) = Opened::new(alloc, core.journal().lease(), connections) else {
         return Err(core);
     };
     // Where the clock can't be read now and can be later, moments count from its own beginning.
@@ -90,7 +90,7 @@ pub fn serve_through<
     ensures back { IfErr result (λ back. back ≡ core) }
 {
     let workers = door.workers();
-    let Ok(opened) = Opened::new(alloc, workers) else {
+    let Ok(opened) = Opened::new(alloc, core.journal().lease(), workers) else {
         return Err(core);
     };
     let start = rt.monotonic().unwrap_or(Duration::ZERO);
@@ -208,7 +208,7 @@ fn serve_helped<
     requires unused { AreUnused (seats_of links.items) }
     requires empty { spare.items ≡ [] }
     requires room { length links.items ≤ vec_capacity spare }
-    ensures { AreEndsOf tcp setting.now.tree.now links.entry.items result.0.items }
+    ensures { AreEndsOf (tcp N.start.epoch) setting.now.tree.now links.entry.items result.0.items }
 {
     thread::scope(
         thread::scope_env(),
@@ -216,7 +216,8 @@ fn serve_helped<
         |scope| -> (Vec<WorkerEnd<N>>, Helpers<N>, bool)
             requires { (N.start.nodes ≡ setting.now.tree.now.nodes) × AreUnused (seats_of links.items)
                 × (spare.items ≡ []) × (length links.items ≤ vec_capacity spare) }
-            ensures { AreEndsOf tcp setting.entry.now.tree.now links.entry.items result.0.items }
+            ensures { AreEndsOf (tcp N.start.epoch) setting.entry.now.tree.now links.entry.items
+                result.0.items }
         {
             let Helpers { sweeper, sender } = helpers;
             let sweeping = scope.spawn(move || sweep_until(setting, shared, sweeper));
@@ -250,7 +251,7 @@ fn refuse_all<N: Naming, R, W>(
     requires unused { AreUnused (seats_of links.items) }
     requires empty { spare.items ≡ [] }
     requires room { vec_len links ≤ vec_capacity spare }
-    ensures { AreEndsOf tcp tree.now links.entry.items result.items }
+    ensures { AreEndsOf (tcp N.start.epoch) tree.now links.entry.items result.items }
 {
     let mut all = spare;
     for (_, seat) in links {
@@ -278,6 +279,8 @@ fn end<N: Naming>(
     ensures stand { AllStand result.0.journal.entries (receipts_back all.items) }
     ensures apart { AllApart (receipts_back all.items) }
     ensures counted { calls_in result.0.journal.entries ≡ receipts_in (receipts_back all.items) }
+    ensures in_time { AllInTime result.0.journal.lease result.0.journal.entries
+        (seats_back all.items) }
     ensures shifts { map (λ a. a.shift) result.1.items ≡ map (λ e. e.shift) all.items }
     ensures receipts { receipts_by_worker result.1.items ≡ receipts_back all.items }
 {

@@ -1,3 +1,4 @@
+ghost use Rattle.std.specs.Prelude.{ℕ};
 ghost use Rattle.nfs_server.specs.Exchange.{rules};
 ghost use Rattle.nfs_shared.specs.Seats.{SeatView};
 ghost use Rattle.nfs_threads.specs.Holding.{AreAlikeButRoom, GivenBySeat};
@@ -16,11 +17,11 @@ use nfs_shared::Naming;
 /// answers and in order, except those that were answered `NFS4ERR_RESOURCE`; that they bear the place of its seat; and
 /// that their numbers rise.
 pub fn receipts_are_questions<D: Duplex, R: Source, W: Sink, C: Clock>()
-    ensures together { (tree : Files) → ReceiptsAreQuestions D.device
-        (rules tree GivenBySeat AreAlikeButRoom C.tells) }
-    ensures apart { (tree : Files) → ReceiptsAreQuestions
+    ensures together { (tree : Files) (epoch : ℕ) → ReceiptsAreQuestions D.device
+        (rules tree (GivenBySeat epoch) AreAlikeButRoom C.tells) }
+    ensures apart { (tree : Files) (epoch : ℕ) → ReceiptsAreQuestions
         (device_of R.gives R.fails W.takes W.fails)
-        (rules tree GivenBySeat AreAlikeButRoom C.tells) }
+        (rules tree (GivenBySeat epoch) AreAlikeButRoom C.tells) }
 {}
 
 /// The law that the receipts which a worker gives back are the parts of its connections, one after the other, and that each
@@ -28,9 +29,11 @@ pub fn receipts_are_questions<D: Duplex, R: Source, W: Sink, C: Clock>()
 pub fn receipts_by_connection<N: Naming, L: Links>()
     ensures { (tree : Files) (links : L) (seat : SeatView) (end : WorkerEnd N)
         → IsEndOf
-        (linking L.opens L.stops L.Device.device L.Device.read_failures L.Device.write_failures L.Clock.tells)
+        (linking N.start.epoch L.opens L.stops L.Device.device L.Device.read_failures
+        L.Device.write_failures L.Clock.tells)
         tree links seat end
         → HasParts
-        (linking L.opens L.stops L.Device.device L.Device.read_failures L.Device.write_failures L.Clock.tells)
+        (linking N.start.epoch L.opens L.stops L.Device.device L.Device.read_failures
+        L.Device.write_failures L.Clock.tells)
         tree links seat end }
 {}

@@ -29,7 +29,8 @@ pub fn serve_all<N: Naming + Send + Sync, L: Links + Drop + Send, R: Threads + W
     requires tree { N.start.nodes ≡ tree.now.nodes }
     requires unused { AreUnused (seats_of links.items) }
     ensures ends { IfOk result (λ ends. AreEndsOf
-        (linking L.opens L.stops L.Device.device L.Device.read_failures L.Device.write_failures L.Clock.tells)
+        (linking N.start.epoch L.opens L.stops L.Device.device L.Device.read_failures
+        L.Device.write_failures L.Clock.tells)
         tree.now links.items ends.items) }
     ensures back { IfErr result (λ back. back ≡ links) }
 {
@@ -50,7 +51,8 @@ pub fn serve_all<N: Naming + Send + Sync, L: Links + Drop + Send, R: Threads + W
             requires { (length flags.now ≡ vec_len links) × (N.start.nodes ≡ common.now.tree.now.nodes)
                 × AreUnused (seats_of links.items) }
             ensures ends { IfOk result (λ ends. AreEndsOf
-                (linking L.opens L.stops L.Device.device L.Device.read_failures L.Device.write_failures L.Clock.tells)
+                (linking N.start.epoch L.opens L.stops L.Device.device L.Device.read_failures
+                L.Device.write_failures L.Clock.tells)
                 common.entry.now.tree.now links.items ends.items) }
             ensures back { IfErr result (λ back. back ≡ links) }
         { serve_in(scope, common, flags, links) },
@@ -76,7 +78,8 @@ fn serve_in<
     requires tree { N.start.nodes ≡ common.now.tree.now.nodes }
     requires unused { AreUnused (seats_of links.items) }
     ensures ends { IfOk result (λ ends. AreEndsOf
-        (linking L.opens L.stops L.Device.device L.Device.read_failures L.Device.write_failures L.Clock.tells)
+        (linking N.start.epoch L.opens L.stops L.Device.device L.Device.read_failures
+        L.Device.write_failures L.Clock.tells)
         common.now.tree.now links.items ends.items) }
     ensures back { IfErr result (λ back. back ≡ links) }
 {
@@ -118,10 +121,12 @@ fn finish_all<N: Naming, L: Links, R: Threads>(
     requires room { vec_len workers ≤ vec_capacity ends.old }
     ensures { (tree : Files) (links : List (L × SeatView))
         → AreWorkers
-        (linking L.opens L.stops L.Device.device L.Device.read_failures L.Device.write_failures L.Clock.tells)
+        (linking N.start.epoch L.opens L.stops L.Device.device L.Device.read_failures
+        L.Device.write_failures L.Clock.tells)
         tree links workers.items
         → AreEndsOf
-        (linking L.opens L.stops L.Device.device L.Device.read_failures L.Device.write_failures L.Clock.tells)
+        (linking N.start.epoch L.opens L.stops L.Device.device L.Device.read_failures
+        L.Device.write_failures L.Clock.tells)
         tree links ends.new.items }
 {
     for worker in workers {

@@ -31,7 +31,8 @@ pub(crate) struct ServicePromise<N: Naming, L> {
 
 impl<N: Naming, L: Links> Promise<WorkerEnd<N>> for ServicePromise<N, L> {
     ghost kept_by = { λ p end. IsEndOf
-        (linking L.opens L.stops L.Device.device L.Device.read_failures L.Device.write_failures L.Clock.tells)
+        (linking N.start.epoch L.opens L.stops L.Device.device L.Device.read_failures
+        L.Device.write_failures L.Clock.tells)
         p.tree.value p.links.value p.seat.value end };
 }
 
@@ -46,7 +47,8 @@ pub(crate) fn work<N: Naming, L: Links + Drop, R: Wait>(
     requires tree { N.start.nodes ≡ common.now.tree.now.nodes }
     requires unused { seat.receipts.given ≡ 0 }
     ensures { IsEndOf
-        (linking L.opens L.stops L.Device.device L.Device.read_failures L.Device.write_failures L.Clock.tells)
+        (linking N.start.epoch L.opens L.stops L.Device.device L.Device.read_failures
+        L.Device.write_failures L.Clock.tells)
         common.now.tree.now links seat result }
 {
     let mut desk = Desk::new(common.alloc, common.rt, common.shared, seat);
@@ -73,7 +75,8 @@ fn serve_each<N: Naming, L: Links, R: Wait>(
     requires tree { N.start.nodes ≡ common.now.tree.now.nodes }
     requires empty { connections.old.items ≡ [] }
     ensures connections { HasServed
-        (linking L.opens L.stops L.Device.device L.Device.read_failures L.Device.write_failures L.Clock.tells)
+        (linking N.start.epoch L.opens L.stops L.Device.device L.Device.read_failures
+        L.Device.write_failures L.Clock.tells)
         common.now.tree.now (stand links.old desk.old) connections.new.items result
         (stand links.new desk.new) }
     ensures refused { IsTrue refused → connections.new.items ≡ [] }

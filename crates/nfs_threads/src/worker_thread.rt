@@ -36,7 +36,8 @@ pub(crate) fn begin<
     requires tree { N.start.nodes ≡ common.now.tree.now.nodes }
     requires unused { seat.receipts.given ≡ 0 }
     ensures { IsWorker
-        (linking L.opens L.stops L.Device.device L.Device.read_failures L.Device.write_failures L.Clock.tells)
+        (linking N.start.epoch L.opens L.stops L.Device.device L.Device.read_failures
+        L.Device.write_failures L.Clock.tells)
         common.now.tree.now links seat result }
 {
     let promise = ServicePromise {
@@ -49,7 +50,8 @@ pub(crate) fn begin<
         move || -> WorkerEnd<N>
             requires { (N.start.nodes ≡ common.now.tree.now.nodes) × (seat.receipts.given ≡ 0) }
             ensures { IsEndOf
-                (linking L.opens L.stops L.Device.device L.Device.read_failures L.Device.write_failures L.Clock.tells)
+                (linking N.start.epoch L.opens L.stops L.Device.device L.Device.read_failures
+                L.Device.write_failures L.Clock.tells)
                 common.entry.now.tree.now links seat result }
         { work(common, refused, links, seat) },
     );
@@ -66,10 +68,12 @@ pub(crate) fn begin<
 pub(crate) fn finish<N: Naming, L: Links, R: Threads>(rt: &R, worker: Worker<N, L>) -> WorkerEnd<N>
     ensures { (tree : Files) (links : L) (seat : SeatView)
         → IsWorker
-        (linking L.opens L.stops L.Device.device L.Device.read_failures L.Device.write_failures L.Clock.tells)
+        (linking N.start.epoch L.opens L.stops L.Device.device L.Device.read_failures
+        L.Device.write_failures L.Clock.tells)
         tree links seat worker
         → IsEndOf
-        (linking L.opens L.stops L.Device.device L.Device.read_failures L.Device.write_failures L.Clock.tells)
+        (linking N.start.epoch L.opens L.stops L.Device.device L.Device.read_failures
+        L.Device.write_failures L.Clock.tells)
         tree links seat result }
 {
     match worker {

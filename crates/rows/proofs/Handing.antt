@@ -4,6 +4,7 @@ use Rattle.nfs_shared.specs.Ends.{AreKept, IsKept}
 use Rattle.nfs_shared.specs.Seats.{SeatView, fresh}
 use Rattle.nfs_shared.specs.declared.receipt.Receipt.{Receipt}
 use Rattle.nfs_threads.specs.Worker.{AreUnused}
+use Rattle.nfs_words.specs.Sitting.{Words}
 use Rattle.rows.specs.Places.{AreFreshFrom}
 
 -- what stands in a list with one element more
@@ -56,19 +57,19 @@ in_longer [] ys k x at = absurd cc
 in_longer (z ∷ xs) ys zero x at = at
 in_longer (z ∷ xs) ys (suc k) x at = in_longer xs ys k x at
 
-pub fresh_front : (first : ℕ) (front back : List SeatView) → AreFreshFrom first (front ++ back) → AreFreshFrom first front
-fresh_front first front back are k s at = are k s (in_longer front back k s at)
+pub fresh_front : (words : Words) (first : ℕ) (front back : List SeatView) → AreFreshFrom words first (front ++ back) → AreFreshFrom words first front
+fresh_front words first front back are k s at = are k s (in_longer front back k s at)
 
-pub fresh_later : (first : ℕ) (seat : SeatView) (seats : List SeatView) → AreFreshFrom first (seat ∷ seats) → AreFreshFrom (suc first) seats
-fresh_later first seat seats are k s at =
-    let moved : first + suc k ≡ suc first + k = omega arith in are (suc k) s at ∙ ap (λ n. fresh n) moved
+pub fresh_later : (words : Words) (first : ℕ) (seat : SeatView) (seats : List SeatView) → AreFreshFrom words first (seat ∷ seats) → AreFreshFrom words (suc first) seats
+fresh_later words first seat seats are k s at =
+    let moved : first + suc k ≡ suc first + k = omega arith in are (suc k) s at ∙ ap (λ n. fresh words n) moved
 
-pub fresh_back : (first : ℕ) (front back : List SeatView) → AreFreshFrom first (front ++ back) → AreFreshFrom (first + length front) back
-fresh_back first [] back are k s at =
-    let moved : first + k ≡ (first + zero) + k = omega arith in are k s at ∙ ap (λ n. fresh n) moved
-fresh_back first (seat ∷ front) back are k s at =
+pub fresh_back : (words : Words) (first : ℕ) (front back : List SeatView) → AreFreshFrom words first (front ++ back) → AreFreshFrom words (first + length front) back
+fresh_back words first [] back are k s at =
+    let moved : first + k ≡ (first + zero) + k = omega arith in are k s at ∙ ap (λ n. fresh words n) moved
+fresh_back words first (seat ∷ front) back are k s at =
     let moved : (suc first + length front) + k ≡ (first + suc (length front)) + k = omega arith in
-    fresh_back (suc first) front back (fresh_later first seat (front ++ back) are) k s at ∙ ap (λ n. fresh n) moved
+    fresh_back words (suc first) front back (fresh_later words first seat (front ++ back) are) k s at ∙ ap (λ n. fresh words n) moved
 
-pub unused_of_fresh : (first : ℕ) (seats : List SeatView) → AreFreshFrom first seats → AreUnused seats
-unused_of_fresh first seats are k s at = ap (λ (v : SeatView). v.receipts.given) (are k s at)
+pub unused_of_fresh : (words : Words) (first : ℕ) (seats : List SeatView) → AreFreshFrom words first seats → AreUnused seats
+unused_of_fresh words first seats are k s at = ap (λ (v : SeatView). v.receipts.given) (are k s at)

@@ -5,6 +5,7 @@ use Rattle.nfs_threads.specs.declared.worker_end.WorkerEnd.{WorkerEnd}
 use Rattle.nfs_shared.specs.Ends.{IsKept}
 use Rattle.nfs_shared.specs.Seats.{SeatView, fresh}
 use Rattle.nfs_shared.specs.declared.receipt.Receipt.{Receipt}
+use Rattle.nfs_words.specs.Sitting.{Words}
 
 -- what came back of a run
 pub record BackView : Type 0 where
@@ -13,10 +14,10 @@ pub record BackView : Type 0 where
   -- for each seat those that it was given, in order
   pub receipts : List (List Receipt)
 
--- seats that were given nothing yet, in the order of their places, of which the first is this one
-abbrev pub AreFreshFrom : ℕ → List SeatView → Type 0
-AreFreshFrom first seats =
-    (k : ℕ) (seat : SeatView) → slice_get seats k ≡ Some seat → seat ≡ fresh (first + k)
+-- seats at these lease words that were given nothing yet, in the order of their places, of which the first is this one
+abbrev pub AreFreshFrom : Words → ℕ → List SeatView → Type 0
+AreFreshFrom words first seats =
+    (k : ℕ) (seat : SeatView) → slice_get seats k ≡ Some seat → seat ≡ fresh words (first + k)
 
 -- seats with all of their receipts, in the order of their places, of which the first is this one
 abbrev pub AreBackFrom : {N : Type 0} → ℕ → List (WorkerEnd N) → Type 0
@@ -28,4 +29,5 @@ AreBackFrom {N = N} first ends =
 abbrev pub AreServed : {N L : Type 0} → List (L × SeatView) → List (WorkerEnd N) → Type 0
 AreServed links ends =
     (length ends ≡ length links)
-    × ((first : ℕ) → AreFreshFrom first (seats_of links) → AreBackFrom first ends)
+    × ((words : Words) (first : ℕ) → AreFreshFrom words first (seats_of links)
+    → AreBackFrom first ends)

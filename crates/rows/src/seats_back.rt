@@ -87,7 +87,7 @@ impl<N: Naming> SeatsBack<N> {
 
     /// The seats of the next places come back as they were made.
     pub(crate) fn hand_in_unused(&mut self, seats: IntoIter<Seat<N>>) -> Result<(), AllocError>
-        requires next { AreFreshFrom (length self.old.seats) (into_iter_items seats) }
+        requires next { AreFreshFrom N.run.words (length self.old.seats) (into_iter_items seats) }
         ensures { OnOk result
             (length self.new.seats ≡ length self.old.seats + length (into_iter_items seats)) }
     {

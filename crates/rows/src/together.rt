@@ -48,7 +48,7 @@ pub(crate) fn serve_together<R: Threads + Wait + Sync, I: Read + Drop, O: Write 
     requires empty { core.journal.entries ≡ [] }
     requires nobody { (number : ℕ) → IsFalse (is_live number core.stored.clients) }
 {
-    match Opened::new(session.alloc, seats) {
+    match Opened::new(session.alloc, core.journal().lease(), seats) {
         Ok(opened) => run::<Brand, R, I, O>(rt, session, opened, core, tree),
         Err(_) => {
             drop(core);
@@ -85,7 +85,7 @@ fn run_parts<N: Naming + Send + Sync, R: Threads + Wait + Sync, I: Read + Drop, 
     tree: &Tree,
 ) -> Result<Core, Failure>
     requires nodes { N.start.nodes ≡ tree.now.nodes }
-    requires fresh { AreFresh N.run.workers parts.seats.items }
+    requires fresh { AreFresh N.run.words N.run.workers parts.seats.items }
 {
     let SharedParts {
         shared,
@@ -130,7 +130,7 @@ impl<'a, N: Naming, R> Model for Together<'a, N, R> {
     ghost view = { λ t. length t.back.seats };
 
     ghost invariant = { λ t.
-        AreFreshFrom (length t.back.seats) (into_iter_items t.left)
+        AreFreshFrom N.run.words (length t.back.seats) (into_iter_items t.left)
         × (length t.back.seats + length (into_iter_items t.left) ≡ N.run.workers)
         × (N.start.nodes ≡ t.workers.tree.now.nodes) };
 }
@@ -143,7 +143,7 @@ impl<'a, N: Naming + Send + Sync, R: Threads + Wait + Sync> Together<'a, N, R> {
         sender: Sender<N>,
     ) -> Together<'a, N, R>
         requires nodes { N.start.nodes ≡ workers.tree.now.nodes }
-        requires fresh { AreFresh N.run.workers seats.items }
+        requires fresh { AreFresh N.run.words N.run.workers seats.items }
     {
         let back = SeatsBack::new(workers.alloc);
         Together {

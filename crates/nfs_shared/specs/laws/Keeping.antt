@@ -3,6 +3,7 @@ use Rattle.std.proofs.Common.{◌≡◌, ◌⊎◌, ℕ, zero, suc, ◌<◌, ◌
 use Rattle.nfs_shared.specs.Ends.{IsKept}
 use Rattle.nfs_shared.specs.Seats.{SeatReceipts, SeatView, fresh, Gives, KnowsTheSame}
 use Rattle.nfs_shared.specs.declared.receipt.Receipt.{Receipt}
+use Rattle.nfs_words.specs.Sitting.{Words}
 
 -- what stands in a list with one element more
 pub at_more : {A : Type 0} (xs : List A) (x : A) (k : ℕ) (y : A) → slice_get (xs ++ x ∷ []) k ≡ Some y → (slice_get xs k ≡ Some y) ⊎ ((k ≡ length xs) × (x ≡ y))
@@ -27,8 +28,8 @@ at_end [] x = refl
 at_end (y ∷ ys) x = at_end ys x
 
 -- A seat that was given nothing has no receipts.
-pub kept_fresh : (place : ℕ) → IsKept (fresh place) []
-kept_fresh place = record {
+pub kept_fresh : (words : Words) (place : ℕ) → IsKept (fresh words place) []
+kept_fresh words place = record {
   place = λ k r at. absurd cc;
   list = λ k r at. absurd cc;
   rising = λ j k q r less at_j at_k. absurd cc;

@@ -4,12 +4,15 @@ use Rattle.nfs_core.specs.Entered.{Answers, IsEntered, number_entered}
 use Rattle.nfs_core.specs.Recalls.{RecallsLeft}
 use Rattle.nfs_core.specs.Server.{Enters, Server}
 use Rattle.nfs_core.specs.declared.entered.Entered.{Entered}
+use Rattle.nfs_shared.proofs.Deeds.{all_happen_fits, deeds_of_call, deeds_same}
 use Rattle.nfs_shared.proofs.Giving.{above_all, counted, last_entry, one_call}
 use Rattle.nfs_shared.proofs.Holding.{KeepsRules, held_call}
 use Rattle.nfs_shared.proofs.RecallsOut.{queued_kept, queued_same}
 use Rattle.nfs_shared.proofs.Receipts.{calls_in_length, others_in_call}
-use Rattle.nfs_shared.proofs.Renewals.{told_named}
+use Rattle.nfs_shared.proofs.Telling.{told_from}
 use Rattle.nfs_shared.proofs.held.call_held.Goals as goal
+use Rattle.nfs_leases.specs.BookEvent.{AllHappen}
+use Rattle.nfs_leases.specs.BookOf.{events_entered, events_of_change}
 use Rattle.nfs_shared.specs.Held.{HeldView}
 use Rattle.nfs_shared.specs.Naming.{start_of}
 use Rattle.nfs_shared.specs.Receipts.{calls_in, receipts_of, others_in}
@@ -20,6 +23,9 @@ use Rattle.nfs_state.specs.State.{History}
 use Rattle.nfs_state.specs.declared.entry.Call.{Call}
 use Rattle.nfs_state.specs.declared.entry.Entry.{Entry}
 use Rattle.nfs_state.specs.declared.entry.Entry.TheVariants as entries
+use Rattle.nfs_words.specs.Calls.{FitsTable}
+use Rattle.nfs_words.specs.Desk.{Happens}
+use Rattle.nfs_words.specs.Sitting.{Sitting}
 
 pub answer_with_room-answer-requires-clause-node : goal.answer_with_room-answer-requires-clause-node
 answer_with_room-answer-requires-clause-node g c =
@@ -87,10 +93,13 @@ invariant_of-held-in-Some g c =
       put = held.put.recalls;
       hand = held.hand;
     } in
+    let happen : AllHappen Happens old.leases (events_of_change c.in-Some.entered.live request.moment) new.leases =
+    subst (λ (o : Option Entered). AllHappen Happens old.leases (events_entered o request.moment) new.leases) c.in-Some.is called.ensures.leases in
     let keeps : KeepsRules new = record {
       lawful = called.ensures.lawful;
       safe = c.lawful_is_safe.ensures.safe _ _ called.ensures.lawful;
       agrees = called.new.leased.agrees;
+      deeds = deeds_of_call old.server new.server call c.in-Some.entered old.leases new.leases c.held.invariant.0.deeds entered happen;
       recalls = c.recalls_are_left.ensures;
       queued =
           queued_kept c.recalls_stay.ensures.one c.recalls_stay.ensures.begin old new (entries.Call call ∷ [])
@@ -114,7 +123,8 @@ invariant_of-held-in-Some g c =
       c.held.invariant.5
           ∙ sym (others_in_call held.leased.core.journal.entries call)
           ∙ ap (λ (j : History). others_in j.entries) (sym entered.0.1),
-      c.held.invariant.6,
+      all_happen_fits g.N.Naming.run.words (events_of_change c.in-Some.entered.live request.moment) old.leases new.leases happen c.held.invariant.6,
+      c.held.invariant.7,
     )
 
 -- the answer is the core's, and the receipt has the number of its entry
@@ -155,14 +165,14 @@ pub returns-in-Some-clause-leases : goal.returns-in-Some-clause-leases
 returns-in-Some-clause-leases g c =
     let held = c.held.inside in
     let called = c.answer_with_room-answer in
-    let told = told_named g.N.Naming.start c.args.request called.result.0 held.leased.core c.args.held.now.server called.new.leased.core called.result.1 held.leased.book c.args.held.now.leases called.new.leased.book c.held.invariant.2 (ap (λ (h : HeldView). h.server) c.held.view_is) (ap (λ (h : HeldView). h.leases) c.held.view_is) called.ensures.answers called.ensures.leases in
+    let told = told_from c.args.request called.result.0 held.leased.core c.args.held.now.server called.new.leased.core called.result.1 held.leased.book c.args.held.now.leases called.new.leased.book (ap (λ (h : HeldView). h.server) c.held.view_is) (ap (λ (h : HeldView). h.leases) c.held.view_is) called.ensures.answers called.ensures.leases in
     (called.result.1, told.0, ap number_entered c.in-Some.is ∙ ap (λ (r : Receipt). Some r.number) (sym c.give-receipt.ensures.receipt), told.1)
 
 pub returns-in-None-clause-leases : goal.returns-in-None-clause-leases
 returns-in-None-clause-leases g c =
     let held = c.held.inside in
     let called = c.answer_with_room-answer in
-    let told = told_named g.N.Naming.start c.args.request called.result.0 held.leased.core c.args.held.now.server called.new.leased.core called.result.1 held.leased.book c.args.held.now.leases called.new.leased.book c.held.invariant.2 (ap (λ (h : HeldView). h.server) c.held.view_is) (ap (λ (h : HeldView). h.leases) c.held.view_is) called.ensures.answers called.ensures.leases in
+    let told = told_from c.args.request called.result.0 held.leased.core c.args.held.now.server called.new.leased.core called.result.1 held.leased.book c.args.held.now.leases called.new.leased.book (ap (λ (h : HeldView). h.server) c.held.view_is) (ap (λ (h : HeldView). h.leases) c.held.view_is) called.ensures.answers called.ensures.leases in
     (called.result.1, told.0, ap number_entered c.in-None.is, told.1)
 
 -- without a receipt the server is as it was, and so are the places
@@ -188,11 +198,14 @@ invariant_of-held g c =
       receipts = list_of held.register.writer;
       put = held.put.recalls;
       hand = held.hand;
-    } in (
+    } in
+    let happen : new.leases ≡ old.leases =
+    subst (λ (o : Option Entered). AllHappen Happens old.leases (events_entered o c.args.request.moment) new.leases) c.in-None.is called.ensures.leases in (
       record {
         lawful = called.ensures.lawful;
         safe = c.lawful_is_safe.ensures.safe _ _ called.ensures.lawful;
         agrees = called.new.leased.agrees;
+        deeds = deeds_same old.server new.server old.leases new.leases was.deeds alike.0 alike.1 happen;
         recalls = c.recalls_are_left.ensures;
         queued = queued_same old new was.queued alike.0 alike.2 (refl, refl);
         places = ap length called.ensures.places ∙ was.places ∙ ap calls_in (sym entries);
@@ -203,5 +216,6 @@ invariant_of-held g c =
       c.held.invariant.3,
       c.held.invariant.4,
       c.held.invariant.5 ∙ ap others_in (sym entries),
-      c.held.invariant.6,
+      subst (λ (s : Sitting). FitsTable s g.N.Naming.run.words) (sym happen) c.held.invariant.6,
+      c.held.invariant.7,
     )

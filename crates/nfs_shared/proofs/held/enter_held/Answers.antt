@@ -1,8 +1,9 @@
 -- An event enters no call.
-use Rattle.std.proofs.Common.{◌∙◌, ◌∷◌, [], List, ap, refl, subst, arith}
+use Rattle.std.proofs.Common.{◌∙◌, ◌∷◌, [], List, ap, refl, subst, sym, arith}
 use Rattle.nfs_core.specs.Events.{entry_by}
 use Rattle.nfs_core.specs.Server.{Enters}
 use Rattle.nfs_core.specs.Recalls.{RecallsLeft}
+use Rattle.nfs_shared.proofs.Deeds.{deeds_of_event}
 use Rattle.nfs_shared.proofs.Holding.{KeepsRules, gains_one, held_more}
 use Rattle.nfs_shared.proofs.RecallsOut.{queued_kept}
 use Rattle.nfs_shared.proofs.Receipts.{event_no_call, others_in_more}
@@ -12,6 +13,8 @@ use Rattle.nfs_shared.specs.Naming.{start_of}
 use Rattle.nfs_shared.specs.Receipts.{others_in}
 use Rattle.nfs_shared.specs.Roll.{list_of}
 use Rattle.nfs_state.specs.State.{History}
+use Rattle.nfs_words.specs.Calls.{FitsTable}
+use Rattle.nfs_words.specs.Sitting.{Sitting}
 use Rattle.nfs_state.specs.declared.entry.Entry.{Entry}
 
 pub invariant_of-held : goal.invariant_of-held
@@ -41,6 +44,7 @@ invariant_of-held g c =
       lawful = entered.ensures.lawful;
       safe = c.lawful_is_safe.ensures.safe _ _ entered.ensures.lawful;
       agrees = entered.new.self.agrees;
+      deeds = deeds_of_event old.server new.server c.args.event c.in-Ok.number old.leases new.leases c.held.invariant.0.deeds c.requires c.in-Ok.ensures.enters entered.ensures.book;
       recalls = c.recalls_are_left.ensures;
       queued =
           queued_kept c.recalls_stay.ensures.one c.recalls_stay.ensures.begin old new more c.held.invariant.0.recalls
@@ -59,7 +63,8 @@ invariant_of-held g c =
         ap (λ (j : History). others_in j.entries) gains.journal,
         others_in_more old.server.journal.entries more none,
       ),
-      c.held.invariant.6,
+      subst (λ (s : Sitting). FitsTable s g.N.Naming.run.words) (sym entered.ensures.book) c.held.invariant.6,
+      c.held.invariant.7,
     )
 
 pub returns-in-Ok-clause-enters : goal.returns-in-Ok-clause-enters

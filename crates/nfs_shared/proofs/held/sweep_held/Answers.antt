@@ -1,6 +1,7 @@
 -- A sweep enters no call: the ends of clients, and then those of delegations.
 use Rattle.std.proofs.Common.{◌∙◌, ap, refl, arith}
 use Rattle.nfs_core.specs.Recalls.{RecallsLeft}
+use Rattle.nfs_shared.proofs.Deeds.{all_happen_fits, deeds_of_sweep}
 use Rattle.nfs_shared.proofs.Holding.{KeepsRules, held_more}
 use Rattle.nfs_shared.proofs.RecallsOut.{queued_kept}
 use Rattle.nfs_shared.proofs.Receipts.{others_in_more, sweep_no_calls}
@@ -9,11 +10,11 @@ use Rattle.nfs_shared.specs.Held.{HeldView}
 use Rattle.nfs_shared.specs.Naming.{start_of}
 use Rattle.nfs_shared.specs.Roll.{list_of}
 use Rattle.nfs_shared.specs.Receipts.{others_in}
-use Rattle.nfs_leases.specs.PlainBook.{Happens}
-use Rattle.nfs_leases.specs.Sweeps.{entries_of_sweep, leased_server}
+use Rattle.nfs_leases.specs.Sweeps.{entries_of_sweep, events_of_all, leased_server}
 use Rattle.nfs_leases.specs.laws.Counting.{sweep_tally}
 use Rattle.nfs_leases.specs.laws.Gaining.{gains_of_sweep}
 use Rattle.nfs_state.specs.State.{History}
+use Rattle.nfs_words.specs.Desk.{Happens}
 
 pub invariant_of-held : goal.invariant_of-held
 invariant_of-held g c =
@@ -44,6 +45,7 @@ invariant_of-held g c =
       lawful = swept.ensures.lawful;
       safe = c.lawful_is_safe.ensures.safe _ _ swept.ensures.lawful;
       agrees = swept.new.self.agrees;
+      deeds = deeds_of_sweep now sweeps.visits sweeps.numbers old.server new.server old.leases new.leases c.held.invariant.0.deeds gains.journal gains.leads sweeps.ends.events;
       recalls = c.recalls_are_left.ensures;
       queued =
           queued_kept c.recalls_stay.ensures.one c.recalls_stay.ensures.begin old new more c.held.invariant.0.recalls
@@ -64,5 +66,6 @@ invariant_of-held g c =
         others_in_more old.server.journal.entries more none,
         sweep_tally now sweeps.visits sweeps.numbers swept.result sweeps.counts,
       ),
-      c.held.invariant.6,
+      all_happen_fits g.N.Naming.run.words (events_of_all now sweeps.visits) old.leases new.leases sweeps.ends.events c.held.invariant.6,
+      c.held.invariant.7,
     )

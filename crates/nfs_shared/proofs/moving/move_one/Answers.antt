@@ -1,5 +1,5 @@
 -- All that the lock guards stays, but for where the recalls are.
-use Rattle.std.proofs.Common.{◌≡◌, ◌∙◌, ap, refl, sym}
+use Rattle.std.proofs.Common.{◌≡◌, ◌∙◌, ap, refl, subst, sym}
 use Rattle.nfs_core.specs.Server.{Server}
 use Rattle.nfs_shared.proofs.Holding.{held_moved}
 use Rattle.nfs_shared.proofs.moving.move_one.Goals as goal
@@ -8,6 +8,8 @@ use Rattle.nfs_shared.specs.Naming.{start_of}
 use Rattle.nfs_shared.specs.Receipts.{others_in}
 use Rattle.nfs_shared.specs.Roll.{list_of}
 use Rattle.nfs_state.specs.State.{History}
+use Rattle.nfs_words.specs.Calls.{FitsTable}
+use Rattle.nfs_words.specs.Sitting.{Sitting}
 
 pub invariant_of-held : goal.invariant_of-held
 invariant_of-held g c =
@@ -30,11 +32,12 @@ invariant_of-held g c =
       hand = put.new.hand;
     } in
     let journal : put.new.leased.core.journal ≡ was.leased.core.journal = ap (λ (s : Server). s.journal) put.ensures.core in (
-      held_moved old new c.held.invariant.0 put.ensures.core refl refl put.new.leased.agrees c.recalls_are_left.ensures put.ensures.recalls,
+      held_moved old new c.held.invariant.0 put.ensures.core refl refl put.ensures.book put.new.leased.agrees c.recalls_are_left.ensures put.ensures.recalls,
       c.held.invariant.1,
       ap start_of journal ∙ c.held.invariant.2,
       c.held.invariant.3,
       c.held.invariant.4,
       c.held.invariant.5 ∙ ap (λ (j : History). others_in j.entries) (sym journal),
-      put.ensures.queue ∙ c.held.invariant.6,
+      subst (λ (s : Sitting). FitsTable s g.N.Naming.run.words) (sym put.ensures.book) c.held.invariant.6,
+      put.ensures.queue ∙ c.held.invariant.7,
     )

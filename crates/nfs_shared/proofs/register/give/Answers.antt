@@ -13,6 +13,7 @@ invariant_of-seat g c =
       (signed.token.0.0 ∙ c.requires.roll, c.requires.writer.0.1),
       signed.token.1,
       c.add.ensures.parts ∙ c.seat.invariant.2,
+      c.seat.invariant.3,
       last_added whole (list_of c.sign.new.token) receipt (Some c.args.number) signed.list refl,
     )
 
@@ -29,13 +30,15 @@ returns-clause-given g c =
         list = list_of c.sign.new.token;
         given = c.add.new.share.amount;
       };
+      leases = seat.leases;
     } in
     subst (λ (s : SeatView). Gives s receipt new) c.seat.view_is
     (record {
       place = refl;
       same = refl;
-      above = above_last whole (list_of seat.token) c.args.number seat.last signed.begins c.requires.above c.seat.invariant.3;
+      above = above_last whole (list_of seat.token) c.args.number seat.last signed.begins c.requires.above c.seat.invariant.4;
       last = refl;
       list = goes_on whole (list_of seat.token) receipt (list_of c.sign.new.token) signed.begins signed.list;
       given = c.add.ensures.amount;
+      leases = refl;
     })

@@ -1,7 +1,13 @@
-use Rattle.std.proofs.Common.{◌≡◌, ◌∙◌, [], ◌∷◌, ap, arith, length-append}
+use Rattle.std.proofs.Common.{◌≡◌, ◌∙◌, ℕ, [], ◌∷◌, List, Contains, ap, subst, sym, arith, length-append}
 use mathlib.Core.List.{IsPrefix}
 use Rattle.nfs_shared.specs.Roll.{list_of}
 use Rattle.nfs_shared.specs.Seats.{SeatView}
+use Rattle.nfs_words.specs.Deeds.{event}
+use Rattle.nfs_words.specs.SeatLaws.{NoneLate}
+use Rattle.nfs_words.specs.Sitting.{Sitting, Words}
+use Rattle.nfs_words.specs.declared.event.Deed.TheVariants.{Look}
+use Rattle.nfs_words.specs.declared.event.Event.{Event}
+use Rattle.nfs_shared.proofs.Meeting.{contains_more, met_more}
 use Rattle.nfs_shared.proofs.Ends.{begin_more, given_more}
 use Rattle.nfs_shared.proofs.shared.meet_each.Goals as goal
 
@@ -16,11 +22,23 @@ loop-seat-preserved g c =
     let all : list_of c.loop-seat.writer ≡ whole = ap (λ m. m.0.list) i.writer in
     let begins : IsPrefix seat.receipts.list whole = (met.begins.0, cc (here, all, met.begins.1)) in
     let merged = c.merge.ensures in
+    let conferred = c.confer.ensures.adds in
+    let looked = event 0 (Look conferred.1) in
+    let keeper = c.confer.new.first in
+    let its : c.seat.inside.leases ≡ seat.leases = ap (λ (s : SeatView). s.leases) c.seat.view_is in
+    let own : c.confer.new.second.view.own ≡ looked ∷ seat.leases.view.own = ap (λ (s : Sitting). s.view.own) conferred.2 ∙ ap (λ (s : Sitting). looked ∷ s.view.own) its in
+    let grown : keeper.view.own ≡ event 0 (Look conferred.0) ∷ c.loop-seat.keeper.view.own = ap (λ (s : Sitting). s.view.own) conferred.3 in
+    let more : (e : Event) → Contains c.args.keeper.now.view.own e → Contains keeper.view.own e = λ e h. subst (λ (l : List Event). Contains l e) (sym grown) (contains_more e (event 0 (Look conferred.0)) c.loop-seat.keeper.view.own (i.more e h)) in
+    let words = g.N.Naming.run.words in
+    let late = subst (λ (l : List Event). NoneLate words.lease l keeper.view.own) own (subst (λ (n : ℕ). NoneLate n c.confer.new.second.view.own keeper.view.own) (ap (λ (w : Words). w.lease) c.requires.words) c.confer.ensures.second_first) in
     record {
       can = tt;
       ends = tt;
       table = (met.writer.0.0 ∙ c.requires.roll, i.table.1);
       writer = met.writer.1 ∙ i.writer;
+      fits = (ap (λ (s : Sitting). s.table) conferred.3 ∙ i.fits.0, ap (λ (s : Sitting). s.view.lease) conferred.3 ∙ i.fits.1);
+      more = more;
+      met = met_more words.lease c.args.keeper.now.view.own seats seat looked keeper.view.own i.met late more;
       begin = begin_more seats seat whole i.begin begins;
       parts = omega (arith, merged.parts, i.parts, c.seat.invariant.2, length-append seats (seat ∷ []));
       amount = omega (arith, merged.amount, i.amount, ap (λ s. s.receipts.given) c.seat.view_is, given_more seats seat);

@@ -1,6 +1,8 @@
-use Rattle.std.proofs.Common.{◌≡◌, ◌+◌, length}
-use Rattle.nfs_shared.specs.Ends.{AllBegin, given_in}
+use Rattle.std.proofs.Common.{◌≡◌, ◌+◌, Contains, length}
+use Rattle.nfs_shared.specs.Ends.{AllBegin, AllMet, given_in}
 use Rattle.nfs_shared.specs.Roll.{IsOf, list_of}
+use Rattle.nfs_words.specs.Calls.{FitsTable}
+use Rattle.nfs_words.specs.declared.event.Event.{Event}
 use Rattle.nfs_shared.proofs.shared.meet_each.Given as goal
 
 abbrev pub invariant-loop-seat : goal.invariant-loop-seat
@@ -9,7 +11,10 @@ invariant-loop-seat g l = record {
   ends : (goal.iterator-loop-seat g).is_finite l.seat-iterator;
   table : IsOf g.N.Naming.run.roll l.writer;
   writer : l.writer.me ≡ l.initial.writer.me;
+  fits : FitsTable l.keeper g.N.Naming.run.words;
+  more : (e : Event) → Contains l.initial.keeper.view.own e → Contains l.keeper.view.own e;
   begin : AllBegin l.yielded (list_of l.initial.writer);
+  met : AllMet g.N.Naming.run.words.lease l.initial.keeper.view.own l.yielded;
   parts : l.rest.parts ≡ l.initial.rest.parts + length l.yielded;
   amount : l.rest.amount ≡ l.initial.rest.amount + given_in l.yielded;
 }

@@ -1,6 +1,7 @@
 use Rattle.std.proofs.Common.{List, map, ap, subst, sym, ◌∙◌}
 use Rattle.nfs_threads.specs.Worker.{seats_back}
-use Rattle.nfs_shared.specs.Ends.{AllApart, AllStand, AreKept, receipts_in}
+use Rattle.nfs_shared.specs.Ends.{AllApart, AllInTime, AllStand, AreKept, receipts_in}
+use Rattle.nfs_shared.specs.Seats.{SeatView}
 use Rattle.nfs_shared.specs.declared.receipt.Receipt.{Receipt}
 use Rattle.nfs_threads.proofs.Accounts.{items_of}
 use Rattle.nfs_threads.proofs.listening.end.Goals as goal
@@ -28,3 +29,8 @@ returns-clause-counted g c =
 pub returns-clause-receipts : goal.returns-clause-receipts
 returns-clause-receipts g c =
     c.pair.ensures.receipts ∙ ap (map (λ v. v.items)) c.take.ensures.receipts ∙ items_of c.args.all.items
+
+pub returns-clause-in_time : goal.returns-clause-in_time
+returns-clause-in_time g c =
+    let core = c.end-core.result in
+    subst (λ (s : List SeatView). AllInTime core.journal.lease core.journal.entries s) c.take.ensures.seats c.end-core.ensures.in_time

@@ -14,6 +14,6 @@ loop-seat-preserved g c =
       finite = tt;
       room = search rules;
       unused = rest.1;
-      ends = rw c.push_reserved.ensures.items (one_more_end tcp c.args.tree.now c.loop-seat.yielded c.loop-seat.all.items (link, seat) _ c.loop-seat.invariant.ends
-          (is_refused tcp c.args.tree.now link seat c.without_connections.result rest.0 c.without_connections.ensures.connections c.without_connections.ensures.end c.without_connections.ensures.seat c.without_connections.ensures.receipts));
+      ends = rw c.push_reserved.ensures.items (one_more_end (tcp g.N.Naming.start.epoch) c.args.tree.now c.loop-seat.yielded c.loop-seat.all.items (link, seat) _ c.loop-seat.invariant.ends
+          (is_refused (tcp g.N.Naming.start.epoch) c.args.tree.now link seat c.without_connections.result rest.0 c.without_connections.ensures.connections c.without_connections.ensures.end c.without_connections.ensures.seat c.without_connections.ensures.receipts));
     }

@@ -10,5 +10,5 @@ invariant-loop-seat g l = record {
   finite : (goal.iterator-loop-seat g).is_finite l.seat-iterator;
   room : vec_len l.all + into_iter_len l.seat-iterator ≤ vec_capacity l.all;
   unused : AreUnused (seats_of (into_iter_items l.seat-iterator));
-  ends : AreEndsOf tcp l.tree l.yielded l.all.items;
+  ends : AreEndsOf (tcp g.N.Naming.start.epoch) l.tree l.yielded l.all.items;
 }

@@ -4,4 +4,4 @@ use Rattle.nfs_threads.proofs.receipt_laws.receipts_by_connection.Goals as goal
 
 pub returns : goal.returns
 returns g c tree links seat end is =
-    has_parts (linking g.L.Links.opens g.L.Links.stops g.L.Device.Duplex.device g.L.Device.Duplex.read_failures g.L.Device.Duplex.write_failures g.L.Clock.Clock.tells) tree links seat end is
+    has_parts (linking g.N.Naming.start.epoch g.L.Links.opens g.L.Links.stops g.L.Device.Duplex.device g.L.Device.Duplex.read_failures g.L.Device.Duplex.write_failures g.L.Clock.Clock.tells) tree links seat end is

@@ -1,9 +1,11 @@
 use Rattle.std.proofs.Common.{◌≡◌, ◌++◌, ℕ, List, [], None, length, ap, rules, subst, sym, ◌∙◌, arith}
+use Rattle.std.specs.List.{All}
 use Rattle.nfs_core.specs.Recalls.{AreLeftOf, AreRecallsOf}
 use Rattle.nfs_core.specs.Safe.{IsSafe}
 use Rattle.nfs_core.specs.Server.{IsLawful, Server}
-use Rattle.nfs_leases.specs.PlainBook.{PlainBook}
+use Rattle.nfs_leases.specs.laws.Agreeing.{fresh_book_agrees}
 use Rattle.nfs_rpc.specs.declared.recall.Recall.{Recall}
+use Rattle.nfs_shared.specs.Deeds.{keeper_deeds}
 use Rattle.nfs_shared.specs.Ends.{AreFresh}
 use Rattle.nfs_shared.specs.Held.{waiting}
 use Rattle.nfs_shared.specs.Naming.{OpenedView, start_of}
@@ -11,54 +13,74 @@ use Rattle.nfs_shared.specs.Passes.{PassView}
 use Rattle.nfs_shared.specs.Receipts.{calls_in, others_in, receipts_of}
 use Rattle.nfs_shared.specs.Roll.{list_of, writer_of}
 use Rattle.nfs_shared.specs.declared.receipt.Receipt.{Receipt}
-use Rattle.nfs_shared.proofs.Beginning.{none_left, none_made}
+use Rattle.nfs_shared.proofs.Beginning.{none_done, none_left, none_made}
 use Rattle.nfs_state.specs.State.{History}
 use Rattle.nfs_state.specs.Stored.{meaning}
 use Rattle.nfs_state.specs.declared.entry.Entry.{Entry}
+use Rattle.nfs_words.specs.Calls.{FitsTable, worker_at}
+use Rattle.nfs_words.specs.Desk.{is_open_at, was_opened_at}
+use Rattle.nfs_words.specs.Sitting.{Sitting, Words}
 use Rattle.nfs_shared.proofs.shared.Shared.new.Goals as goal
 
-pub new-requires-3 : goal.new-requires-3
-new-requires-3 g c = record {
-  agrees = record {
-    lasts = ap (λ (b : PlainBook). b.lease) c.in-Ok.ensures.value ∙ c.lease.ensures.value ∙ ap (λ (h : History). h.lease) c.journal.ensures.journal;
-    live = λ client. c.in-Ok.ensures.closed client ∙ sym (c.requires.beginning.nobody client);
-    past = λ client was. absurd (cc (c.in-Ok.ensures.fresh client, was));
-  };
-}
+pub new_seats-requires-clause-leases : goal.new_seats-requires-clause-leases
+new_seats-requires-clause-leases g c =
+    subst (λ (w : Words). All (λ (seat : Sitting). seat ≡ worker_at w) c.opened.inside.lease_seats.items)
+    (ap (λ (o : OpenedView). o.words) (c.opened.view_is ∙ c.requires.beginning.run)) c.opened.invariant.8
+
+pub new-leased-requires : goal.new-leased-requires
+new-leased-requires g c =
+    let desk = c.new-desk.result in
+    let is = c.new-desk.ensures ∙ c.opened.invariant.9 in
+    record {
+      agrees =
+          fresh_book_agrees (is_open_at desk) (was_opened_at desk) desk.view.lease c.args.core
+          (ap (λ (s : Sitting). s.view.lease) is ∙ ap (λ (o : OpenedView). o.words.lease) c.opened.view_is ∙ c.requires.beginning.lease)
+          (λ client. ap (λ (s : Sitting). is_open_at s client) is)
+          (λ client. ap (λ (s : Sitting). was_opened_at s client) is)
+          c.requires.beginning.nobody;
+    }
 
 pub invariant_of-held : goal.invariant_of-held
 invariant_of-held g c =
-    let core = c.new-3.ensures.core in
-    let empty : c.new-3.result.core.journal.entries ≡ [] = ap (λ (s : Server). s.journal.entries) core ∙ c.requires.beginning.empty in
+    let leased = c.new-leased.result in
+    let core = c.new-leased.ensures.core in
+    let book = c.new-leased.ensures.book ∙ c.new-desk.ensures ∙ c.opened.invariant.9 in
+    let words : Words = g.N.Naming.run.words in
+    let empty : leased.core.journal.entries ≡ [] = ap (λ (s : Server). s.journal.entries) core ∙ c.requires.beginning.empty in
+    let lawful = subst IsLawful (sym core) c.journal.ensures.lawful in
     let left = subst (λ (s : Server). AreLeftOf s.journal s.recalls) (sym core) c.recalls_are_left.ensures in
     let put : c.opened.inside.put.recalls ≡ [] = ap (λ (p : PassView). p.recalls) c.opened.invariant.4 in
-    let pending = none_left c.new-3.result.core.journal c.new-3.result.core.recalls empty left in
-    let waits : c.opened.inside.put.recalls ++ waiting None c.new-3.result.core.recalls ≡ [] =
-    ap (λ (rs : List Recall). rs ++ waiting None c.new-3.result.core.recalls) put ∙ pending in
-    let writer = c.in-Ok-new_seats.ensures.writer in
+    let pending = none_left leased.core.journal leased.core.recalls empty left in
+    let waits : c.opened.inside.put.recalls ++ waiting None leased.core.recalls ≡ [] =
+    ap (λ (rs : List Recall). rs ++ waiting None leased.core.recalls) put ∙ pending in
+    let writer = c.in-Ok.ensures.writer in
     let list : list_of c.new_seats.new.writer ≡ [] = search (rules, writer.1) in
-    let items : c.new-2.result.items ≡ [] = c.new-2.ensures.items in (
+    let items : c.new.result.items ≡ [] = c.new.ensures.items in
+    let named = c.opened.view_is ∙ c.requires.beginning.run in (
       record {
-        lawful = subst IsLawful (sym core) c.journal.ensures.lawful;
+        lawful = lawful;
         safe = subst (λ (s : Server). IsSafe (meaning s.stored)) (sym core) c.journal.ensures.safe;
-        agrees = c.new-3.result.agrees;
+        agrees = leased.agrees;
+        deeds = none_done leased.core.journal (meaning leased.core.stored) (keeper_deeds leased.book.view.own) lawful empty (ap (λ (s : Sitting). keeper_deeds s.view.own) book);
         recalls = left;
-        queued = none_made c.new-3.result.core.journal (c.opened.inside.put.recalls ++ waiting None c.new-3.result.core.recalls) empty waits;
+        queued = none_made leased.core.journal (c.opened.inside.put.recalls ++ waiting None leased.core.recalls) empty waits;
         places = ap (λ (l : List ℕ). length l) items ∙ sym (ap (λ (es : List Entry). calls_in es) empty);
-        receipts = list ∙ sym (ap (λ (l : List ℕ). receipts_of 0 c.new-3.result.core.journal.entries l) items);
+        receipts = list ∙ sym (ap (λ (l : List ℕ). receipts_of 0 leased.core.journal.entries l) items);
       },
       record {
-        roll = ap (λ (o : OpenedView). o.roll) (c.opened.view_is ∙ c.requires.beginning.run);
+        roll = ap (λ (o : OpenedView). o.roll) named;
         writer = (writer.0, writer.1 ∙ ap (λ (l : List Receipt). (writer_of l, [])) (sym list));
         total = c.open-count.ensures.total ∙ sym (ap (λ (l : List Receipt). length l) list);
       },
       ap (λ (s : Server). start_of s.journal) core ∙ c.requires.beginning.start,
-      c.in-Ok-new_seats.ensures.rest.0,
-      c.in-Ok-new_seats.ensures.rest.1,
+      c.in-Ok.ensures.rest.0,
+      c.in-Ok.ensures.rest.1,
       c.open-other_count.ensures.total ∙ sym (ap (λ (es : List Entry). others_in es) empty),
-      ap (λ (p : PassView). p.queue) c.opened.invariant.4 ∙ ap (λ (o : OpenedView). o.queue) (c.opened.view_is ∙ c.requires.beginning.run),
+      subst (λ (s : Sitting). FitsTable s words) (sym book)
+          (ap (λ (o : OpenedView). o.words.table) named, ap (λ (o : OpenedView). o.words.lease) named),
+      ap (λ (p : PassView). p.queue) c.opened.invariant.4 ∙ ap (λ (o : OpenedView). o.queue) named,
     )
 
 pub returns-clause-seats : goal.returns-clause-seats
 returns-clause-seats g c =
-    subst (λ (n : ℕ). AreFresh n c.in-Ok-new_seats.seats.items) (ap (λ (o : OpenedView). o.workers) (c.opened.view_is ∙ c.requires.beginning.run)) c.in-Ok-new_seats.ensures.seats
+    subst (λ (n : ℕ). AreFresh g.N.Naming.run.words n c.in-Ok.seats.items) (ap (λ (o : OpenedView). o.workers) (c.opened.view_is ∙ c.requires.beginning.run)) c.in-Ok.ensures.seats

@@ -16,4 +16,4 @@ pub hand_in-requires-clause-kept : goal.hand_in-requires-clause-kept
 hand_in-requires-clause-kept g c =
     let whole = c.loop-seat.invariant.whole ∙ ap (λ xs. c.loop-seat.yielded ++ xs) c.in-Some.ensures.steps.0 in
     let is = c.requires.next (length c.loop-seat.yielded) c.in-Some.seat (next_at _ c.loop-seat.yielded _ c.in-Some.seat whole) in
-    subst (λ (xs : List Receipt). IsKept c.in-Some.seat xs) (sym c.new.ensures.items) (subst (λ (s : SeatView). IsKept s []) (sym is) (kept_fresh _))
+    subst (λ (xs : List Receipt). IsKept c.in-Some.seat xs) (sym c.new.ensures.items) (subst (λ (s : SeatView). IsKept s []) (sym is) (kept_fresh g.N.Naming.run.words _))
