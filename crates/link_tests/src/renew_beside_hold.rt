@@ -1,6 +1,6 @@
 //! Renewals beside a hold of the lock.
 
-ghost use Rattle.std.specs.Prelude.{◌≡◌, ◌<◌, [], IfSome, IsTrue};
+ghost use Rattle.std.specs.Prelude.{◌<◌, [], IfSome, IsTrue};
 ghost use Rattle.nfs_shared.specs.Ends.{AreFresh, IsKept};
 ghost use Rattle.nfs_shared.specs.Naming.{CanBegin};
 ghost use Rattle.nfs_xdr.specs.Op.{has_entry};
