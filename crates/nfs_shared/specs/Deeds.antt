@@ -31,8 +31,8 @@ keeper_deeds [] = []
 keeper_deeds (event ∷ events) = keeper_deeds events ++ deeds_by event.client event.deed
 
 -- How an entry began and ended leases, by what its effect does to who is live. By a call the lease of a client that
--- became live was opened at the call's moment, and then that of one that it replaces was retired; the end of a client is
--- the closing of its lease.
+-- became live was opened at the call's moment, and then that of one that it replaces was retired; the end of a client
+-- is the closing of its lease.
 abbrev pub deeds_at : Entry → LiveChange → List BookEvent
 deeds_at (entries.Call call) change = events_of_change change call.request.moment
 deeds_at (entries.Expire end) change = book.Close end.client end.seen end.now closing.Closed ∷ []

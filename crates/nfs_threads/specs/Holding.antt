@@ -39,9 +39,9 @@ IsReceived old request answer (Some receipt) new =
     × Gives (with_leases old.seat new.seat.leases) receipt new.seat
     × (new.receipts ≡ old.receipts ++ receipt ∷ [])
 
--- How a desk answers a question, in the run with this epoch. Of leases its seat gains just what one renewal adds: for an
--- operation that of the client that it names, if it names one of this run, also where it is answered NFS4ERR_RESOURCE;
--- for RENEW that of its client, and RENEW is answered NFS4_OK exactly where that lease was renewed.
+-- How a desk answers a question, in the run with this epoch. Of leases its seat gains just what one renewal adds: for
+-- an operation that of the client that it names, if it names one of this run, also where it is answered
+-- NFS4ERR_RESOURCE; for RENEW that of its client, and RENEW is answered NFS4_OK exactly where that lease was renewed.
 abbrev pub GivenBySeat : ℕ → Holding → Question → OpResult → Holding → Type 0
 GivenBySeat epoch old (Operation request) answer new =
     RenewsFor (renewed_by epoch request.op) request.moment old.seat.leases new.seat.leases
