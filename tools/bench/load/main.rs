@@ -50,7 +50,7 @@ struct Ran {
     end: Instant,
 }
 
-/// Makes the connections, and what the workloads need; then comes the load, of which a line of JSON tells for each side.
+/// Makes the connections, and what the workloads need; then comes the load. Of each side a line of JSON tells.
 fn run(options: &Options) -> Outcome<String> {
     let mut lanes = lanes(options)?;
     let pid = options.pid.as_deref();

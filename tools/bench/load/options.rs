@@ -110,8 +110,8 @@ impl Side {
         Ok(())
     }
 
-    /// After how many calls each connection ends at the latest. A journal of them has an end, and so has the memory that
-    /// it takes; null and renew aren't entered.
+    /// After how many calls each connection ends at the latest. A journal of them has an end, and so has the memory
+    /// that it takes; null and renew aren't entered.
     pub fn calls_of_one(&self) -> u64 {
         let calls = match self.plan.workload.as_str() {
             "read" | "write" => 100_000,
