@@ -218,17 +218,20 @@ fn come<S: Service>(alloc: Global, desk: &mut S, moment: Moment) -> Option<Clien
     Some(args.client)
 }
 
-// What is answered to an operation at this moment; none where memory was refused.
+// What is answered to an operation at this moment, in a batch, as a connection asks; none where memory was refused.
 fn ask<S: Service>(desk: &mut S, moment: Moment, op: Op) -> Option<OpResult>
     requires entry { IsTrue (has_entry op) }
 {
     desk.room(1).ok()?;
-    Some(desk.call(Request {
+    desk.begin_batch();
+    let answer = desk.call(Request {
         moment,
         principal: Principal::AuthSys(1),
         op,
         filehandle: None,
-    }))
+    });
+    desk.end_batch();
+    Some(answer)
 }
 
 // SETCLIENTID.
