@@ -1,5 +1,5 @@
 -- What contracts see of rows.
-use Rattle.std.specs.Prelude.{◌≡◌, ℕ, ◌+◌, ◌<◌, ◌==◌, Bool, ◌&&◌, not, if◌then◌else◌, List, [], ◌∷◌, filter, map, Option, refl, ⊤}
+use Rattle.std.specs.Prelude.{◌≡◌, ℕ, ◌+◌, ◌<◌, ◌==◌, Bool, ◌&&◌, nat_le, not, if◌then◌else◌, List, [], ◌∷◌, filter, map, Option, refl, ⊤}
 use Rattle.std.specs.Option.{option_map}
 use Rattle.std.specs.Borrow.{Bor}
 use Rattle.std.specs.Fn.{Shared}
@@ -48,6 +48,10 @@ module _ {V : Type 0} where
 
   abbrev pub is_numbered : ℕ → Row V → Bool
   is_numbered number r = r.number == number
+
+  -- the row's number isn't below this one
+  abbrev pub is_from : ℕ → Row V → Bool
+  is_from number r = nat_le number r.number
 
   -- the row is of the client, and its value passes the test
   abbrev pub is_of_client : ℕ → (V → Bool) → Row V → Bool

@@ -1,11 +1,11 @@
-ghost use Rattle.std.specs.Prelude.{◌≡◌, ◌<◌, ◌≤◌, ◌==◌, ◌+◌, [], ◌∷◌, ◌++◌, IsOk, OnErr, OnOk, Bool, find, length, map};
+ghost use Rattle.std.specs.Prelude.{◌≡◌, ◌<◌, ◌≤◌, ◌==◌, ◌+◌, [], ◌∷◌, ◌++◌, IsOk, OnErr, OnOk, Bool, filter, find, length, map};
 ghost use Rattle.std.specs.Option.{option_copied, option_copied_mut};
 ghost use Rattle.std.specs.Borrow.{sem};
-ghost use Rattle.nfs_rows.specs.Rows.{AnswersAs, IsAbove, StandInOrder, is_named, is_numbered, is_of_client, newest_of, numbered_after, pair_in, pair_of, pair_seen, value_in, without};
+ghost use Rattle.nfs_rows.specs.Rows.{AnswersAs, IsAbove, StandInOrder, is_from, is_named, is_numbered, is_of_client, newest_of, numbered_after, pair_in, pair_of, pair_seen, value_in, without};
 
 use crate::iter::Iter;
 use crate::parts::{has_row_of, named_among, stay_clashed, take};
-use crate::place::{Place, drop_marks, place_of, renumber};
+use crate::place::{Place, drop_marks, place_of, places_from, renumber};
 use indexmap::IndexMap;
 use slab::Slab;
 use std::alloc::{AllocError, Global};
@@ -132,6 +132,16 @@ impl<T> Rows<T> {
         Iter {
             slab: &self.slab,
             places: &self.places,
+        }
+    }
+
+    /// The same of those rows whose numbers aren't below this one. It finds the first of them by halving.
+    pub fn iter_from(&self, number: u64) -> Iter<'_, T>
+        ensures { result ≡ map pair_of (filter (is_from number) self.now.rows) }
+    {
+        Iter {
+            slab: &self.slab,
+            places: places_from(&self.places, number),
         }
     }
 

@@ -61,6 +61,13 @@ impl OpenState {
         self.owner == *owner
     }
 
+    /// Whether the owner with this name at this client has the open.
+    pub(crate) fn is_of_name(&self, client: ClientId, name: &[u8]) -> bool
+        ensures { result ≡ is_of (owner_named client name.now) self.now }
+    {
+        self.owner.client == client && self.owner.name.as_slice() == name
+    }
+
     /// Whether the stateid is one of the open's, no matter its seqid.
     pub fn is_named_by(&self, stateid: Stateid) -> bool
         ensures { result ≡ is_stateid_of stateid self.now }
