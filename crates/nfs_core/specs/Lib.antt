@@ -7,5 +7,6 @@ pub mod Entered
 pub mod CoreError
 pub mod Following
 pub mod Events
+pub mod Forgetting
 pub mod LiveClients
 pub mod Callbacks
