@@ -52,7 +52,7 @@ gains_more more others old mid new h k = record {
 }
 
 -- the last part of a sweep
-gains_of_forgettings : (halted : Bool) (now : ℕ) (owners : List OpenOwner) (stopped : Bool) (old new : Server)
+pub gains_of_forgettings : (halted : Bool) (now : ℕ) (owners : List OpenOwner) (stopped : Bool) (old new : Server)
     → ForgetsUnless halted now owners stopped old new → Gains (forgettings now owners) old new
 gains_of_forgettings true now owners stopped old new forgets =
     subst (λ (os : List OpenOwner). Gains (forgettings now os) old new) (sym forgets.0)
