@@ -10,7 +10,7 @@ use Rattle.nfs_core.specs.declared.core_error.CoreError.{CoreError}
 use Rattle.nfs_core.specs.declared.event.Event.TheVariants as events
 use Rattle.nfs_forms.specs.declared.open_owner.OpenOwner.{OpenOwner}
 use Rattle.nfs_leases.proofs.Books.{book_alike, book_kept}
-use Rattle.nfs_leases.proofs.RevokedDelegations.{clients_alike, clients_more, gains_alike, same_clients}
+use Rattle.nfs_leases.proofs.RevokedDelegations.{clients_more, gains_alike, same_clients}
 use Rattle.nfs_leases.specs.BookOf.{IsBookOf}
 use Rattle.nfs_leases.specs.Sweeps.{AreForgotten, ForgetsIdle, ForgetsUnless, RevokesDue, forgettings}
 use Rattle.nfs_leases.specs.Visit.{Gains}

@@ -1,5 +1,5 @@
 -- The loop goes one owner further, until none may be forgotten or one is refused.
-use Rattle.std.proofs.Common.{ℕ, [], ◌∷◌, ◌++◌, Option, refl, sym, subst, ◌∙◌, arith, length-append}
+use Rattle.std.proofs.Common.{[], ◌∷◌, ◌++◌, Option, refl, sym, subst, ◌∙◌, arith, length-append}
 use Rattle.nfs_core.specs.Events.{IsForgottenFrom, NoneIsDue}
 use Rattle.nfs_core.specs.Server.{Server}
 use Rattle.nfs_core.specs.declared.forgotten.Forgotten.{Forgotten}
