@@ -13,6 +13,12 @@ use Rattle.nfs_owners.proofs.owner_rows.OwnerRows.add.Goals as goal
 abbrev newcomer : (c : goal.After-add) → Row Owner
 newcomer c = record { number = c.from-row.result; hash = c.args.hash; client = c.args.owner.name.client.number; value = c.args.owner }
 
+pub add-requires-clause-newest : goal.add-requires-clause-newest
+add-requires-clause-newest c =
+    rows_before c.self.inside.names c.from-row.result c.self.inside.rows.rows c.self.invariant.0
+    (subst (λ n. AreBefore n (owners_in c.self.inside.rows.rows)) (sym c.from-row.ensures)
+    (subst (λ (o : RoomyOwnerRows). AreBefore c.args.owner.state.recorded (owners_in o.rows)) (sym c.self.view_is) c.requires.newest))
+
 above : (c : goal.After-add) → IsAbove c.from-row.result c.self.inside.rows.rows
 above c =
     rows_before c.self.inside.names c.from-row.result c.self.inside.rows.rows c.self.invariant.0
