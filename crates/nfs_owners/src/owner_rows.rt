@@ -1,6 +1,6 @@
-ghost use Rattle.std.specs.Prelude.{◌≡◌, ℕ, ◌<◌, ◌≤◌, ◌+◌, ◌&&◌, ◌++◌, ◌∷◌, [], Bool, IsOk, OnOk, Option, find, length};
+ghost use Rattle.std.specs.Prelude.{◌≡◌, ℕ, ◌<◌, ◌≤◌, ◌+◌, ◌&&◌, ◌++◌, ◌∷◌, [], Bool, IsOk, OnOk, Option, filter, find, length};
 ghost use Rattle.std.specs.Option.{option_copied};
-ghost use Rattle.nfs_rows.specs.Rows.{AnswersAs, is_numbered, without};
+ghost use Rattle.nfs_rows.specs.Rows.{AnswersAs, is_from as is_row_from, is_numbered, without};
 ghost use Rattle.nfs_owners.specs.Closers.{AreClosers, closed_at, closed_by, with_at};
 ghost use Rattle.nfs_owners.specs.Kept.{closes};
 ghost use Rattle.nfs_owners.specs.Owner.{has_client, owner_of, with_request};
@@ -131,14 +131,7 @@ impl OwnerRows {
     {
         // `len` tells that the rows stand in the order of their numbers.
         let _rows = self.rows.len();
-        match self
-            .rows
-            .iter_from(u64::from(entry))
-            .find(|row| test(row.1))
-        {
-            Some((_, owner)) => Some(owner),
-            None => None,
-        }
+        found_from(&self.rows, u64::from(entry), test)
     }
 
     // Makes room, so that the next row takes no memory.
@@ -231,6 +224,20 @@ fn closed_in_row(rows: &Rows<Owner>, row: u64) -> Option<u32>
         Some(owner) => owner.state.kept.closed(),
         None => None,
     }
+}
+
+// The first owner in the rows from this number on that passes the test, if there is one.
+fn found_from<F: Fn(&Owner) -> bool>(rows: &Rows<Owner>, number: u64, test: F) -> Option<&Owner>
+    requires { F.IsAlwaysCallable test }
+    ensures { (p : Owner → Bool) → AnswersAs F.Fn test p
+        → option_copied result ≡ find p (owners_in (filter (is_row_from number) rows.now.rows)) }
+{
+    for (_, owner) in rows.iter_from(number) {
+        if test(owner) {
+            return Some(owner);
+        }
+    }
+    None
 }
 
 // The first owner in these rows whose kept request closed the client's state with this number, if there is one.

@@ -50,12 +50,6 @@ number_at at places = slice_index_or (map (λ p. p.number) places) at 0
 abbrev pub key_at : ℕ → List Place → ℕ
 key_at at places = slice_index_or (map (λ p. p.key) places) at 0
 
--- the places in their order, with the numbers that follow this one
-abbrev pub placed_after : ℕ → List Place → List Place
-placed_after last [] = []
-placed_after last (p ∷ places) =
-    record p { number = last + 1 } ∷ placed_after (last + 1) places
-
 -- the places, with a mark at this one
 abbrev pub marked : ℕ → List Place → List Place
 marked at [] = []
