@@ -4,6 +4,7 @@ pub mod DueDelegations
 pub mod NextEntries
 pub mod FileBytes
 pub mod FileChanges
+pub mod Forgetting
 pub mod Journals
 pub mod LiveClients
 pub mod LiveLaws

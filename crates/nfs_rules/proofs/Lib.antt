@@ -6,3 +6,4 @@ pub mod OpeningLaws
 pub mod Uniqueness
 pub mod Judging
 pub mod FoundDelegations
+pub mod Forgetting

@@ -1,10 +1,11 @@
 //! The end of what is kept for an open owner that has no open, and whose last request that counted is older than a lease
 //! (RFC 7530, section 9.1.10).
 
-ghost use Rattle.std.specs.Prelude.{◌≡◌, ◌&&◌, ◌<◌, ◌≢◌, Err, IfErr, IfOk, find, IsTrue, IsFalse, OnErr};
+ghost use Rattle.std.specs.Prelude.{◌≡◌, ◌&&◌, Err, IfOk, IfSome, Some, find};
 ghost use Rattle.std.specs.Option.{option_copied};
+ghost use Rattle.nfs_owners.specs.Owner.{owner_of};
 ghost use Rattle.nfs_owners.specs.Owners.{StandInOrder, is_from};
-ghost use Rattle.nfs_rules.specs.entries.Forget.{IsForgetting, is_idle, is_open_owner};
+ghost use Rattle.nfs_rules.specs.entries.Forget.{IsForgetting, is_idle, is_past, kept_moment};
 ghost use Rattle.nfs_state.specs.Room.{state_of};
 ghost use Rattle.nfs_state.specs.Stored.{known_owner};
 ghost use Rattle.nfs_state.specs.declared.effect.Effect.{Effect};
@@ -27,6 +28,8 @@ pub fn next_idle(store: &Store, entry: u32, now: Moment) -> Option<&Owner>
     ensures idle { option_copied result ≡ find (λ o. is_from entry o
         && is_idle store.now.journal.history (state_of store.now.tables) now (known_owner o))
         store.now.tables.owners.owners }
+    ensures own { IfSome result (λ owner.
+        owner_of owner.now.name store.now.tables.owners.owners ≡ Some owner.now) }
     ensures order { StandInOrder store.now.tables.owners.owners }
 {
     store
@@ -47,12 +50,18 @@ pub fn forget(alloc: Global, store: &Store, forget: &Forget) -> Result<Effect, N
         effect }
 {
     let owner = OwnerRef::of_open(&forget.owner);
-    match next_idle(store, 0, forget.now) {
-        Some(next) if next.has_name(owner) => match owner.to_open_owner(alloc) {
-            Ok(owner) => Ok(Effect::change_alone(Change::Forgets(owner))),
-            Err(_) => Err(NotForgotten::Memory),
-        },
-        _ => Err(NotForgotten::NotDue),
+    let Some(known) = store.tables.owners.find(owner) else {
+        return Err(NotForgotten::NotDue);
+    };
+    let Some(next) = next_idle(store, 0, forget.now) else {
+        return Err(NotForgotten::NotDue);
+    };
+    if next.state.recorded != known.recorded {
+        return Err(NotForgotten::NotDue);
+    }
+    match owner.to_open_owner(alloc) {
+        Ok(owner) => Ok(Effect::change_alone(Change::Forgets(owner))),
+        Err(_) => Err(NotForgotten::Memory),
     }
 }
 
