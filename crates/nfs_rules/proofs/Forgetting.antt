@@ -1,14 +1,17 @@
 -- Which owner is forgotten next, among the owners as they are stored.
-use Rattle.std.proofs.Common.{◌≡◌, ℕ, ◌<◌, ◌≤◌, Bool, true, false, cond, find, map, option_map, Option, Some, None, List, [], ◌∷◌, refl, sym, ap, ◌∙◌, subst, arith}
-use Rattle.std.specs.Prelude.{◌&&◌, nat_le}
+use Rattle.std.proofs.Common.{◌≡◌, ℕ, ◌<◌, ◌≤◌, Bool, true, false, cond, find, map, option_copied, option_map, Option, Some, None, List, [], ◌∷◌, inl, inr, refl, sym, ap, ◌∙◌, subst, arith}
+use Rattle.std.specs.Borrow.{Bor}
+use Rattle.std.specs.Prelude.{◌&&◌, IfNone, IfSome, nat_le, not}
 use Rattle.std.specs.List.{AllByRecursion}
-use Rattle.std.proofs.lemmas.Bool.{and_from, and_parts, le-leb}
+use Rattle.std.proofs.lemmas.Bool.{and_from, and_parts, cases_lt, le-leb}
 use Rattle.nfs_owners.specs.Owner as stored
 use Rattle.nfs_owners.specs.Owners.{StandInOrder, is_from}
-use Rattle.nfs_owners.specs.StateOwner.{open_owner}
+use Rattle.nfs_owners.specs.StateOwner.{as_open_owner, is_same_kind, open_owner}
+use Rattle.nfs_owners.specs.declared.state_owner.OwnerKind.{OwnerKind}
+use Rattle.nfs_owners.specs.declared.state_owner.OwnerKind.TheVariants as kinds
 use Rattle.nfs_owners.specs.declared.owner.Owner.{Owner}
 use Rattle.nfs_owners.specs.declared.state_owner.StateOwner.{StateOwner}
-use Rattle.nfs_rules.specs.entries.Forget.{IsForgetting, IsNoneBefore, is_idle}
+use Rattle.nfs_rules.specs.entries.Forget.{IsForgetting, IsNoneBefore, NoneIdle, NoneIdleBefore, end_of, has_open, is_idle, is_open_owner, is_past, kept_moment}
 use Rattle.nfs_state.specs.Changes.{change_alone}
 use Rattle.nfs_state.specs.Owners.{KnownOwner}
 use Rattle.nfs_state.specs.Owners as known
@@ -101,6 +104,17 @@ known_found name (o ∷ owners) = by (stored.has_name name o) (known_found name 
     by true rest = refl
     by false rest = rest
 
+-- an owner that opens files is the open owner of its client and name
+open_again : (name : StateOwner) → is_open_owner name ≡ true → open_owner (as_open_owner name) ≡ name
+open_again name opens = by name.kind refl opens
+  where
+    by : (kind : OwnerKind) → name.kind ≡ kind → is_open_owner name ≡ true → open_owner (as_open_owner name) ≡ name
+    by kinds.Open is opens = λ i. record { kind = sym is i; client = name.client; name = name.name }
+    by kinds.Lock is opens = absurd (closed (ap (λ k. is_same_kind k kinds.Open) (sym is) ∙ opens))
+      where
+        closed : is_same_kind kinds.Lock kinds.Open ≡ true → ⊥
+        closed h = cc
+
 all_known : (P : KnownOwner → Type 0) (owners : List Owner) → AllByRecursion (λ o. P (known_owner o)) owners → AllByRecursion P (map known_owner owners)
 all_known P [] all = tt
 all_known P (o ∷ owners) all = (all.0, all_known P owners all.1)
@@ -170,3 +184,86 @@ module _ (journal : History) (state : State) (now : ℕ) (owners : List Owner) (
       let next_idle = is_idle_too 0 next (found_passes (passes 0) owners next found) in
       let last = (found_in (λ o. None_before (known_owner o)) (passes 0) owners next least found).0 (subst (λ n. is_idle journal state n (known_owner next) ≡ true) (sym at) next_idle) in
       differ (omega (arith, first, last, ap (λ (o : KnownOwner). o.recording_entry) one))
+
+  -- Where none may be that an earlier entry recorded.
+
+  Before : ℕ → KnownOwner → Type 0
+  Before entry o = o.recording_entry < entry → is_idle journal state now o ≡ false
+
+  before_stored : (entry : ℕ) → NoneIdleBefore entry journal state now → AllByRecursion (λ o. Before entry (known_owner o)) owners
+  before_stored entry before = all_stored (Before entry) owners (subst (AllByRecursion (Before entry)) seen before)
+
+  idle_from : (entry : ℕ) (o : Owner) → Before entry (known_owner o) → is_idle journal state now (known_owner o) ≡ true → passes entry o ≡ true
+  idle_from entry o before idle =
+      elim (cases_lt o.state.recorded entry) [
+        | inl less ↦ absurd (not_both (is_idle journal state now (known_owner o)) idle (before less))
+        | inr from ↦ and_from (is_from entry o) (is_idle journal state now (known_owner o)) (le-leb entry o.state.recorded from) idle
+      ]
+
+  -- the next one is the first of all
+  idle_least : (entry : ℕ) (x : Owner) → NoneIdleBefore entry journal state now → find (passes entry) owners ≡ Some x
+      → AllByRecursion (λ o. is_idle journal state now (known_owner o) ≡ true → x.state.recorded ≤ o.state.recorded) owners
+  idle_least entry x before found = both owners (before_stored entry before) (least_first (passes entry) owners x order found)
+    where
+      both : (os : List Owner) → AllByRecursion (λ o. Before entry (known_owner o)) os → AllByRecursion (λ o. passes entry o ≡ true → x.state.recorded ≤ o.state.recorded) os
+          → AllByRecursion (λ o. is_idle journal state now (known_owner o) ≡ true → x.state.recorded ≤ o.state.recorded) os
+      both [] b l = tt
+      both (o ∷ os) b l = (λ idle. l.0 (idle_from entry o b.0 idle), both os b.1 l.1)
+
+  pub next_may : (entry : ℕ) (x : Owner) → NoneIdleBefore entry journal state now → find (passes entry) owners ≡ Some x → stored.owner_of x.name owners ≡ Some x
+      → IsForgetting journal state (end_of x.name now) (change_alone (changes.Forgets (as_open_owner x.name)))
+  next_may entry x before found own =
+      let idle = is_idle_too entry x (found_passes (passes entry) owners x found) in
+      let opens : is_open_owner x.name ≡ true =
+      (and_parts (is_open_owner x.name) (is_past journal.lease now (kept_moment journal (known_owner x)))
+      (and_parts (is_open_owner x.name && is_past journal.lease now (kept_moment journal (known_owner x))) (not (has_open x.name state)) idle).0).0 in
+      record {
+        owner = known_owner x;
+        found = ap (λ n. known.owner_of n state.owners) (open_again x.name opens) ∙ ap (known.owner_of x.name) seen ∙ known_found x.name owners ∙ ap (option_map known_owner) own;
+        idle = idle;
+        least = subst (AllByRecursion (IsNoneBefore journal state now x.state.recorded)) (sym seen)
+            (all_known (IsNoneBefore journal state now x.state.recorded) owners (idle_least entry x before found));
+        removal = refl;
+      }
+
+  pub none_before : (entry : ℕ) (x : Owner) → NoneIdleBefore entry journal state now → find (passes entry) owners ≡ Some x → NoneIdleBefore x.state.recorded journal state now
+  none_before entry x before found =
+      subst (AllByRecursion (Before x.state.recorded)) (sym seen)
+      (all_known (Before x.state.recorded) owners
+      (weaken (λ o. is_idle journal state now (known_owner o) ≡ true → x.state.recorded ≤ o.state.recorded) (λ o. Before x.state.recorded (known_owner o))
+      (λ o least less. by o (is_idle journal state now (known_owner o)) refl least less) owners (idle_least entry x before found)))
+    where
+      by : (o : Owner) (b : Bool) → is_idle journal state now (known_owner o) ≡ b → (is_idle journal state now (known_owner o) ≡ true → x.state.recorded ≤ o.state.recorded) → o.state.recorded < x.state.recorded
+          → is_idle journal state now (known_owner o) ≡ false
+      by o true is least less = absurd (omega (arith, least is, less))
+      by o false is least less = is
+
+  pub none_next : (entry : ℕ) → NoneIdleBefore entry journal state now → find (passes entry) owners ≡ None → NoneIdle journal state now
+  none_next entry before none =
+      subst (AllByRecursion (λ o. is_idle journal state now o ≡ false)) (sym seen)
+      (all_known (λ o. is_idle journal state now o ≡ false) owners (both owners (before_stored entry before) (none_pass (passes entry) owners none)))
+    where
+      both : (os : List Owner) → AllByRecursion (λ o. Before entry (known_owner o)) os → AllByRecursion (λ o. passes entry o ≡ false) os
+          → AllByRecursion (λ o. is_idle journal state now (known_owner o) ≡ false) os
+      both [] b l = tt
+      both (o ∷ os) b l = (by (is_idle journal state now (known_owner o)) refl, both os b.1 l.1)
+        where
+          by : (c : Bool) → is_idle journal state now (known_owner o) ≡ c → is_idle journal state now (known_owner o) ≡ false
+          by true is = absurd (not_both (passes entry o) (idle_from entry o b.0 is) l.0)
+          by false is = is
+
+  -- The same of one that is lent, if there is one.
+
+  pub found_next : (entry : ℕ) (found : Option (Bor Owner)) → NoneIdleBefore entry journal state now → option_copied found ≡ find (passes entry) owners → IfSome found (λ o. stored.owner_of o.now.name owners ≡ Some o.now)
+      → IfSome found (λ o. IsForgetting journal state (end_of o.now.name now) (change_alone (changes.Forgets (as_open_owner o.now.name))))
+  found_next entry None before is own = tt
+  found_next entry (Some o) before is own = next_may entry o.now before (sym is) own
+
+  pub found_before : (entry : ℕ) (found : Option (Bor Owner)) → NoneIdleBefore entry journal state now → option_copied found ≡ find (passes entry) owners
+      → IfSome found (λ o. NoneIdleBefore o.now.state.recorded journal state now)
+  found_before entry None before is = tt
+  found_before entry (Some o) before is = none_before entry o.now before (sym is)
+
+  pub found_none : (entry : ℕ) (found : Option (Bor Owner)) → NoneIdleBefore entry journal state now → option_copied found ≡ find (passes entry) owners → IfNone found (NoneIdle journal state now)
+  found_none entry None before is = none_next entry before (sym is)
+  found_none entry (Some o) before is = tt
