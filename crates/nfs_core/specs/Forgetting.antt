@@ -15,5 +15,6 @@ IsFound journal state now None = NoneIdle journal state now
 IsFound journal state now (Some idle) =
     (length journal.entries < JOURNAL_LIMIT)
     × (idle.copy ≡ idle.owner)
-    × IsForgetting journal state (forget_of idle.owner now) (change_alone (changes.Forgets idle.owner))
+    × IsForgetting journal state (forget_of idle.owner now)
+    (change_alone (changes.Forgets idle.owner))
     × NoneIdleBefore idle.recorded journal state now

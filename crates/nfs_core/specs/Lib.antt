@@ -8,5 +8,6 @@ pub mod CoreError
 pub mod Following
 pub mod Events
 pub mod Forgetting
+pub mod ForgetLaws
 pub mod LiveClients
 pub mod Callbacks

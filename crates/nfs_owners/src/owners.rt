@@ -1,4 +1,4 @@
-ghost use Rattle.std.specs.Prelude.{◌≡◌, ◌<◌, ◌≤◌, ◌+◌, ◌↔◌, ◌&&◌, Bool, true, false, [], find, IsErrOf, IsFalse, IsOk, IsTrue, OnOk, length, option_map};
+ghost use Rattle.std.specs.Prelude.{◌≡◌, ◌<◌, ◌≤◌, ◌+◌, ◌↔◌, ◌&&◌, Bool, Some, IfSome, true, false, [], find, IsErrOf, IsFalse, IsOk, IsTrue, OnOk, length, option_map};
 ghost use Rattle.std.specs.Option.{option_copied};
 ghost use Rattle.nfs_rows.specs.Rows.{AnswersAs};
 ghost use Rattle.nfs_owners.specs.Kept.{closes, request_of};
@@ -92,6 +92,8 @@ impl Owners {
         requires { F.IsAlwaysCallable test }
         ensures found { (p : Owner → Bool) → AnswersAs F.Fn test p
             → option_copied result ≡ find (λ o. is_from entry o && p o) self.now.owners }
+        ensures own { (p : Owner → Bool) → AnswersAs F.Fn test p → IfSome result
+            (λ owner. owner_of owner.now.name self.now.owners ≡ Some owner.now) }
         ensures order { StandInOrder self.now.owners }
     {
         self.owners.find_from(entry, test)

@@ -57,6 +57,10 @@ pub record IsForgetting (journal : History) (state : State) (forget : Forget)
       (IsNoneBefore journal state forget.now owner.recording_entry) state.owners
   pub removal : effect ≡ change_alone (changes.Forgets forget.owner)
 
+-- the end of what is kept for this owner
+abbrev pub end_of : StateOwner → ℕ → Forget
+end_of name now = record { owner = as_open_owner name; now = now }
+
 -- no owner may be forgotten at this moment
 abbrev pub NoneIdle : History → State → ℕ → Type 0
 NoneIdle journal state now =

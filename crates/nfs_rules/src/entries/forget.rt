@@ -1,12 +1,16 @@
 //! The end of what is kept for an open owner that has no open, and whose last request that counted is older than a lease
 //! (RFC 7530, section 9.1.10).
 
-ghost use Rattle.std.specs.Prelude.{◌≡◌, ◌&&◌, ◌<◌, ◌≢◌, Err, IfErr, IfOk, find, IsTrue, IsFalse, OnErr};
+ghost use Rattle.std.specs.Prelude.{◌≡◌, ◌&&◌, Err, IfNone, IfOk, IfSome, Some, find};
 ghost use Rattle.std.specs.Option.{option_copied};
+ghost use Rattle.nfs_owners.specs.Owner.{owner_of};
 ghost use Rattle.nfs_owners.specs.Owners.{StandInOrder, is_from};
-ghost use Rattle.nfs_rules.specs.entries.Forget.{IsForgetting, is_idle, is_open_owner};
+ghost use Rattle.nfs_owners.specs.StateOwner.{as_open_owner};
+ghost use Rattle.nfs_rules.specs.entries.Forget.{IsForgetting, NoneIdle, NoneIdleBefore, end_of, is_idle, is_past, kept_moment};
+ghost use Rattle.nfs_state.specs.Changes.{change_alone};
 ghost use Rattle.nfs_state.specs.Room.{state_of};
 ghost use Rattle.nfs_state.specs.Stored.{known_owner};
+ghost use Rattle.nfs_state.specs.declared.change.Change.TheVariants as changes;
 ghost use Rattle.nfs_state.specs.declared.effect.Effect.{Effect};
 
 use nfs_owners::{Owner, OwnerKind, OwnerRef};
@@ -22,11 +26,28 @@ pub enum NotForgotten {
     Memory,
 }
 
-/// The first owner, of those that this entry recorded or a later one, that may be forgotten at this moment.
+/// The owner that may be forgotten at this moment and that the least entry recorded, if there is one. None may that an
+/// entry before this one recorded: only the others are looked at.
 pub fn next_idle(store: &Store, entry: u32, now: Moment) -> Option<&Owner>
+    requires { NoneIdleBefore entry store.now.journal.history (state_of store.now.tables) now }
+    ensures next { IfSome result (λ owner. IsForgetting store.now.journal.history
+        (state_of store.now.tables) (end_of owner.now.name now)
+        (change_alone (changes.Forgets (as_open_owner owner.now.name)))) }
+    ensures before { IfSome result (λ owner. NoneIdleBefore owner.now.state.recorded
+        store.now.journal.history (state_of store.now.tables) now) }
+    ensures none { IfNone result
+        (NoneIdle store.now.journal.history (state_of store.now.tables) now) }
+{
+    first_idle(store, entry, now)
+}
+
+// The first owner, of those that this entry recorded or a later one, that may be forgotten at this moment.
+fn first_idle(store: &Store, entry: u32, now: Moment) -> Option<&Owner>
     ensures idle { option_copied result ≡ find (λ o. is_from entry o
         && is_idle store.now.journal.history (state_of store.now.tables) now (known_owner o))
         store.now.tables.owners.owners }
+    ensures own { IfSome result (λ owner.
+        owner_of owner.now.name store.now.tables.owners.owners ≡ Some owner.now) }
     ensures order { StandInOrder store.now.tables.owners.owners }
 {
     store
@@ -47,12 +68,18 @@ pub fn forget(alloc: Global, store: &Store, forget: &Forget) -> Result<Effect, N
         effect }
 {
     let owner = OwnerRef::of_open(&forget.owner);
-    match next_idle(store, 0, forget.now) {
-        Some(next) if next.has_name(owner) => match owner.to_open_owner(alloc) {
-            Ok(owner) => Ok(Effect::change_alone(Change::Forgets(owner))),
-            Err(_) => Err(NotForgotten::Memory),
-        },
-        _ => Err(NotForgotten::NotDue),
+    let Some(known) = store.tables.owners.find(owner) else {
+        return Err(NotForgotten::NotDue);
+    };
+    let Some(next) = first_idle(store, 0, forget.now) else {
+        return Err(NotForgotten::NotDue);
+    };
+    if next.state.recorded != known.recorded {
+        return Err(NotForgotten::NotDue);
+    }
+    match owner.to_open_owner(alloc) {
+        Ok(owner) => Ok(Effect::change_alone(Change::Forgets(owner))),
+        Err(_) => Err(NotForgotten::Memory),
     }
 }
 

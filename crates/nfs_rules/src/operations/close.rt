@@ -6,7 +6,7 @@ ghost use Rattle.nfs_rules.specs.declared.passage.Passage.{Passage};
 ghost use Rattle.nfs_rules.specs.Deciding.{ByOwnRule, IsTargetOf};
 ghost use Rattle.nfs_rules.specs.Finding.{target_seen};
 ghost use Rattle.nfs_share.specs.OpenFound.{open_seen};
-ghost use Rattle.nfs_rules.specs.operations.Close.{own, unless_held};
+ghost use Rattle.nfs_rules.specs.operations.Close.{closing, own, unless_held};
 ghost use Rattle.nfs_xdr.specs.Names.{names_of};
 
 use crate::demand::Demand;
@@ -35,15 +35,22 @@ pub(super) fn rule(
 {
     match open_verdict(tables, Demand::confirmed_open(node), args.stateid, target) {
         Err(refusal) => Ruling::refusal(Opnum::Close, refusal),
-        Ok(found) if is_held(tables, policy, found) => {
-            Ruling::refusal(Opnum::Close, Refusal::LocksHeld)
-        }
-        Ok(found) => Ruling {
-            answer: OpResult::Close(Answer::Done(found.state.next_stateid())),
-            change: Change::Closes {
-                node: found.node,
-                number: found.state.number,
-            },
+        Ok(found) => closing(tables, policy, found),
+    }
+}
+
+// Frees the open that was found, unless bytes that are locked under it are in the way.
+fn closing(tables: &Tables, policy: CloseLocks, found: OpenFound<'_>) -> Ruling
+    ensures { result ≡ closing (unless_held policy (state_of tables.now) (open_seen found.entry)) }
+{
+    if is_held(tables, policy, found) {
+        return Ruling::refusal(Opnum::Close, Refusal::LocksHeld);
+    }
+    Ruling {
+        answer: OpResult::Close(Answer::Done(found.state.next_stateid())),
+        change: Change::Closes {
+            node: found.node,
+            number: found.state.number,
         },
     }
 }

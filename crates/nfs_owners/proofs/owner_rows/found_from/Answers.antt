@@ -1,4 +1,4 @@
-use Rattle.std.proofs.Common.{◌∙◌, ℕ, Bool, List, ap, filter, find, option_map}
+use Rattle.std.proofs.Common.{◌∙◌, ℕ, List, ap, filter, find, option_map}
 use Rattle.nfs_rows.specs.Rows.{is_from}
 use Rattle.nfs_owners.specs.declared.owner.Owner.{Owner}
 use Rattle.nfs_owners.proofs.Leaving.{pairs_found}

@@ -1,4 +1,4 @@
-use Rattle.std.proofs.Common.{◌≡◌, ◌∙◌, ◌&&◌, ap, filter, find, subst}
+use Rattle.std.proofs.Common.{◌∙◌, ◌&&◌, ap, filter, find, subst}
 use Rattle.nfs_rows.specs.Rows.{is_from as is_row_from}
 use Rattle.nfs_owners.specs.OwnerRows.{RoomyOwnerRows, owners_in}
 use Rattle.nfs_owners.specs.Owners.{StandInOrder, is_from}
