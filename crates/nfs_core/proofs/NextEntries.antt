@@ -227,6 +227,7 @@ next_follows server (entries.Call call) effect next =
 next_follows server (entries.Expire expire) effect next = ((next.allowed.live, next.allowed.due), next.below)
 next_follows server (entries.Revoke revoke) effect next = ((effect, next.allowed), next.below)
 next_follows server (entries.Path path) effect next = (next.allowed.live, next.below)
+next_follows server (entries.Forget forget) effect next = ((effect, next.allowed), next.below)
 
 -- where no delegation may be taken away with this entry, it may not happen
 pub revocation_refused : (server : Server) (revoke : Revoke) (found : Option Effect) → IfNone found ((effect : Effect) → IsRevocation server.journal (meaning server.stored) revoke effect → ⊥)

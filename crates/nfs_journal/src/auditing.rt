@@ -15,12 +15,13 @@ pub fn audit(alloc: Global, journal: FiledJournal, seeds: Seeds) -> Result<Core,
         tree,
         entries,
     } = journal;
+    let start = opening.start();
     let Ok(mut core) = Core::new(
         alloc,
         &tree,
-        opening.lease,
-        opening.epoch,
-        opening.policy,
+        start.lease,
+        start.epoch,
+        start.policy,
         seeds,
     ) else {
         return Err(AuditError::Memory);

@@ -118,6 +118,9 @@ with_state_change (changes.Releases owner) old = record old {
   owners = without_owner (lock_owner owner) old.owners;
   locks = map (locks.without (locks.is_lock_of owner)) old.locks;
 }
+-- the owner has no open, and so there is nothing else of it (section 9.1.10)
+with_state_change (changes.Forgets owner) old =
+    record old { owners = without_owner (open_owner owner) old.owners }
 with_state_change (changes.Expires client) old =
     let left = without_client client old in
     record left { clients = registry.without_client client.number old.clients }
