@@ -1,7 +1,7 @@
 -- Which owner is forgotten next, among the owners as they are stored.
 use Rattle.std.proofs.Common.{◌≡◌, ℕ, ◌<◌, ◌≤◌, Bool, true, false, cond, find, map, option_copied, option_map, Option, Some, None, List, [], ◌∷◌, inl, inr, refl, sym, ap, ◌∙◌, subst, arith}
 use Rattle.std.specs.Borrow.{Bor}
-use Rattle.std.specs.Prelude.{◌&&◌, IfNone, IfSome, nat_le, not}
+use Rattle.std.specs.Prelude.{◌&&◌, IfNone, IfSome, not}
 use Rattle.std.specs.List.{AllByRecursion}
 use Rattle.std.proofs.lemmas.Bool.{and_from, and_parts, cases_lt, le-leb}
 use Rattle.nfs_owners.specs.Owner as stored
