@@ -6,7 +6,7 @@ from dataclasses import dataclass, field
 from entries import Call
 from journal import Recorder
 from states import OpenState
-from wire import Opnum, READ, WRITE
+from wire import Opnum, READ, Status, WRITE
 
 # The operations by which a state may end, beside the end of its client.
 ENDING = {Opnum.OPEN, Opnum.CLOSE, Opnum.RELEASE_LOCKOWNER, Opnum.DELEGRETURN}
@@ -33,8 +33,10 @@ class History(Recorder):
     moved: dict = field(default_factory=dict)
     recalled: dict = field(default_factory=dict)
     ended: dict = field(default_factory=dict)
-    # Of opens, by their numbers: of each pair of access and deny, which entry brought it.
+    # Of opens, by their numbers: of each pair of access and deny, which entry brought it; and which entry forgot the
+    # owner whose kept request closed it.
     pairs: dict = field(default_factory=dict)
+    forgotten: dict = field(default_factory=dict)
     # The numbers of the states that there are.
     present: set = field(default_factory=set)
 
@@ -81,6 +83,12 @@ class History(Recorder):
         entry = super().revoke(now)
         if entry is not None:
             self.note_ends(entry)
+        return entry
+
+    def forget_owner(self, owner, now):
+        entry, request = super().forget_owner(owner, now), owner.kept.request
+        if request.opnum == Opnum.CLOSE and owner.kept.answer.status == Status.OK:
+            self.forgotten[request.arguments.stateid.number] = entry
         return entry
 
     def open_confirm(self, arguments, file):

@@ -88,7 +88,7 @@ class Session:
             raise Invalid from None
 
     def run(self):
-        orders = [self.serve, self.sweep, self.mark, self.revoke, self.take, self.pending, self.probe]
+        orders = [self.serve, self.sweep, self.mark, self.revoke, self.take, self.pending, self.probe, self.forget]
         while (number := self.input.next_order()) is not None:
             orders[limited(number - 1, len(orders))]()
         data = journal_bytes(self.server.journal())
@@ -123,17 +123,24 @@ class Session:
 
     def sweep(self):
         swept = self.server.sweep(self.input.moment())
-        answer(swept.expired, swept.kept, 0, swept.refused, swept.revoked, swept.is_stopped)
+        answer(swept.expired, swept.kept, 0, swept.refused, swept.revoked, swept.forgotten, swept.is_stopped)
 
     def mark(self):
         client, is_up = self.input.u32(), limited(self.input.u32(), 2)
         answer(error_of(lambda: self.server.mark_path(client, is_up))[0])
 
     def revoke(self):
+        self.change_alone(self.server.revoke)
+
+    def forget(self):
+        self.change_alone(self.server.forget)
+
+    def change_alone(self, change):
+        """Makes what is due at the moment that is read; only where no state is shared."""
         moment = self.input.moment()
         if self.way != ALONE:
             raise Invalid
-        error, entry = error_of(lambda: self.server.revoke(moment))
+        error, entry = error_of(lambda: change(moment))
         answer(error, entry is not None, entry or 0)
 
     def take(self):
