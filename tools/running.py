@@ -117,7 +117,8 @@ def may_come_first(step, got):
         case Swept(expired, kept, 0, refused, revoked, forgotten, stopped):
             wanted, came = (step.revoked, step.forgotten), (revoked, forgotten)
             is_stopped = stopped == 1 and came < wanted and (revoked == step.revoked or forgotten == 0)
-            is_ended = stopped == 0 and revoked == step.revoked and forgotten - step.forgotten in range(refused + 1)
+            is_more = refused > 0 and revoked == step.revoked and forgotten > step.forgotten
+            is_ended = stopped == 0 and (came == wanted or is_more)
             return expired + kept + refused == step.expired + step.kept and (is_stopped or is_ended)
         case Marked(error) | Revoked(error, 0, 0) | Forgotten(error, 0, 0):
             return error == MEMORY

@@ -388,26 +388,17 @@ def reply(kind, text):
 
 # Lines.
 
+# What is counted of a sweep: the first two always.
+COUNTED = [["expired", "kept", *more] for more in ([], ["revoked"], ["forgotten"], ["revoked", "forgotten"])]
+
+
 def sweep_of(text):
     """The sweep that is written as SECONDS expired COUNT kept COUNT, and maybe revoked COUNT and forgotten COUNT."""
-    seconds, rest = split_word(text)
-    expired, rest = count_of("expired", rest)
-    kept, rest = count_of("kept", rest)
-    revoked, rest = count_of("revoked", rest, 0)
-    forgotten, rest = count_of("forgotten", rest, 0)
-    expect_end(rest)
-    return Sweep(decimal(seconds, MOMENT_LIMIT, NO_NUMBER), expired, kept, revoked, forgotten)
-
-
-def count_of(keyword, text, default=None):
-    """The number after this word, and what follows it; where the word may be left out, the default instead."""
-    found, rest = split_word(text.lstrip(SPACES))
-    if found != keyword and default is not None:
-        return default, text
-    digits, rest = split_word(rest.lstrip(SPACES))
-    if found != keyword:
+    seconds, *counts = [*words_of(text)] or [""]
+    if counts[::2] not in COUNTED or len(counts) % 2:
         raise Wrong(NO_SWEEP)
-    return decimal(digits, 2**32, NO_SWEEP), rest
+    numbers = [decimal(digits, 2**32, NO_SWEEP) for digits in counts[1::2]]
+    return Sweep(decimal(seconds, MOMENT_LIMIT, NO_NUMBER), **dict(zip(counts[::2], numbers)))
 
 
 def mark_of(text):
