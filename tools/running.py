@@ -26,8 +26,8 @@ Outcome = namedtuple("Outcome", "wrong journal")
 def run(row, way, piece, is_again=False, **program):
     """Runs a row on a server of its own. Its parts are served one after another; with `is_again`, one that goes wrong
     is sent once more to the same server, as by a client that asks again where it was refused memory; a sweep is made
-    once more, which removes the clients, takes the delegations and forgets the owners for whose ends there was none; and
-    so is a mark, a revocation or a forgetting for which there was none."""
+    once more, which removes the clients, takes the delegations and forgets the owners for whose ends there was none;
+    and so is a mark, a revocation or a forgetting for which there was none."""
     # In the first way nobody looks at them.
     seats = 0 if way == ALONE else sum(isinstance(step, Part) for step in row.steps) * (2 if is_again else 1)
     document = DEFAULT if row.document is None else row.document

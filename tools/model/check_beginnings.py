@@ -90,7 +90,8 @@ def check_faults():
     cases = [("no kind of entry", data + u32(9), "entry 3: no kind of entry"),
              ("more than its number", journal_bytes(small()) + u32(1), "entry 3: bytes after the last one"),
              ("padding", with_words(data, first + 44, 0x63310001), "entry 0: padding that isn't zero"),
-             ("a Forget in the earlier version", beginning_of(earlier(small())) + FORGOTTEN, "entry 3: no kind of entry")]
+             ("a Forget in the earlier version", beginning_of(earlier(small())) + FORGOTTEN,
+              "entry 3: no kind of entry")]
     for name, file, fault in cases:
         growing = Growing()
         growing.take(file)

@@ -524,14 +524,16 @@ def whole_files():
     yield "all kinds of the earlier version", journal_bytes(earlier(journal_of(kinds)))
     last, late = OpenOwner(LAST, LAST, bytes(1024)), MOMENT_LIMIT - 1
     yield "the last moment", file_of([Expire(1, late, late), Revoke(1, late), Forget(OpenOwner(0, 0, b""), late)])
-    yield "the last number of everything", file_of([Expire(LAST, 0, 0), Revoke(LAST, 0), Path(LAST, 0), Forget(last, 0)])
+    ends = [Expire(LAST, 0, 0), Revoke(LAST, 0), Path(LAST, 0), Forget(last, 0)]
+    yield "the last number of everything", file_of(ends)
     for which in (journal_of([]), earlier(journal_of([]))):
         for lease in (1, 86400):
             yield f"lease {lease}", with_words(journal_bytes(which), 12, lease)
     for words in itertools.product(DELEGATIONS, CALLBACKS, CLOSE_LOCKS):
         yield f"the policy {words}", file_of([], [file(0)], Policy(*words))
     for words in itertools.product(DELEGATIONS, CALLBACKS, ["free"]):
-        yield f"the policy {words} of the earlier version", journal_bytes(earlier(journal_of([], [file(0)], Policy(*words))))
+        journal = earlier(journal_of([], [file(0)], Policy(*words)))
+        yield f"the policy {words} of the earlier version", journal_bytes(journal)
     lists = {
         "no nodes": [], "eight names": chain(7) + [file(7)], "64 files": many(64, file),
         "64 directories": many(64, directory), "64 directories, the last after a file": [

@@ -141,7 +141,8 @@ def verdicts_on_forgets():
         "a CLOSE that is answered too late": ([Forget(a, 191), again], 1), "one that is kept": ([stale], 0),
         "one that comes again": ([Forget(a, 191), begun], None),
         "one that comes again as a known one": ([Forget(a, 191), known], 1), "one that is known": ([known], None),
-        "one that comes again too early": ([begun], 0), "one with an open": ([Forget(a, 191), begun, Forget(a, 400)], 2),
+        "one that comes again too early": ([begun], 0),
+        "one with an open": ([Forget(a, 191), begun, Forget(a, 400)], 2),
         "one that went with its client": ([Expire(1, 0, 91), Forget(a, 191)], 1),
         "one before its client goes": ([Forget(a, 191), Expire(1, 101, 192)], None),
         "one before the other of an earlier moment": ([Forget(a, 400), Forget(b, 192)], None)}
