@@ -74,7 +74,7 @@ class Sweeping:
         self.record_where(True, lambda it: it.number == number).path = UP if is_up else DOWN
         return self.enter()
 
-    # Open owners without opens (section 9.1.11). How long they are known is the server's choice: a lease after the last
+    # Open owners without opens (section 9.1.10). How long they are known is the server's choice: a lease after the last
     # request that counted. One that comes again for its kept answer doesn't count.
 
     def idle(self, now):
