@@ -1,15 +1,16 @@
 #!/usr/bin/env python3
 """fuzz.py [PROGRAM] [--seed N] [--changes N] [--calls N] [--jobs N] [--ids N]: random calls to a built `rows`, and
-between them orders: sweeps, marks of paths, revocations, owners that are forgotten, and recalls that are taken. Replies,
-outcomes and the journal are compared with the model's, until so many LOCKs and LOCKUs were OK.
+between them orders: sweeps, marks of paths, revocations, owners that are forgotten, and recalls that are taken.
+Replies, outcomes and the journal are compared with the model's, until so many LOCKs and LOCKUs were OK.
 
 Each run is one server and one connection. In a third of the runs most operations are LOCK, LOCKU and LOCKT, of a few
 lock owners of two clients, at the first and the last bytes; in another third most are OPEN, CLOSE and DELEGRETURN of
 three clients, which get delegations and are called back; and in the last READ and WRITE, by special stateids and by
 those of what these clients have, at the first bytes, round the size, and at the most that a file has. In half of the
-runs a CLOSE is refused where bytes are locked. The other operations with a rule come too. Each operation is made when the model comes to it, so that most of them name what is
-there by then; some are a little off, and some are an earlier one again. At a difference the steps that lead to it are
-printed as a row, without those that it needs not, and the status is 1.
+runs a CLOSE is refused where bytes are locked. The other operations with a rule come too. Each operation is made when
+the model comes to it, so that most of them name what is there by then; some are a little off, and some are an earlier
+one again. At a difference the steps that lead to it are printed as a row, without those that it needs not, and the
+status is 1.
 
 With --ids clients of so many ids come, of which many aren't confirmed: with 300 all slots of clients are taken, again
 and again."""
@@ -54,8 +55,8 @@ DATA_ROOM = 150_000
 LETTERS = 2000
 # What most operations of a run are.
 LOCKING, LENDING, WRITING = range(3)
-# What is counted besides the operations: delegations by their type, entries of the journal, slots of clients, and owners
-# that come again after they were forgotten.
+# What is counted besides the operations: delegations by their type, entries of the journal, slots of clients, and
+# owners that come again after they were forgotten.
 LENT = {1: "delegations for reading", 2: "delegations for writing"}
 WHAT = {Expire: "clients removed", Revocation: "delegations revoked", Path: "paths marked",
         Forgetting: "owners forgotten"}

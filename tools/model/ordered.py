@@ -6,8 +6,8 @@ program:
     tools/rows --program tools/model/ordered.py FILE.rows
 
 It takes the orders of connections one after the other, also where a state is to be shared, sweeps at each new moment
-where it is to sweep meanwhile, and never is out of memory; it doesn't look at pieces and rooms. Where the input isn't as it should be it ends with status 2 and
-`rows: invalid input`."""
+where it is to sweep meanwhile, and never is out of memory; it doesn't look at pieces and rooms. Where the input isn't
+as it should be it ends with status 2 and `rows: invalid input`."""
 import os
 import sys
 
