@@ -33,9 +33,9 @@ class History(Recorder):
     moved: dict = field(default_factory=dict)
     recalled: dict = field(default_factory=dict)
     ended: dict = field(default_factory=dict)
-    # Of opens, by their numbers: of each pair of access and deny, which entry brought it; and which entry forgot the
-    # owner whose kept request closed it.
+    # Of opens, by their numbers: of each pair of access and deny, which entry brought it.
     pairs: dict = field(default_factory=dict)
+    # Of opens, by their stateids without the seqid: which entry forgot the owner whose kept request closed it.
     forgotten: dict = field(default_factory=dict)
     # The numbers of the states that there are.
     present: set = field(default_factory=set)
@@ -88,7 +88,7 @@ class History(Recorder):
     def forget_owner(self, owner, now):
         entry, request = super().forget_owner(owner, now), owner.kept.request
         if request.opnum == Opnum.CLOSE and owner.kept.answer.status == Status.OK:
-            self.forgotten[request.arguments.stateid.number] = entry
+            self.forgotten[request.arguments.stateid[1:]] = entry
         return entry
 
     def open_confirm(self, arguments, file):

@@ -652,20 +652,26 @@ def owners_that_are_forgotten():
     story = begun("owners that are forgotten")
     story.close(3, state(1, 2))
     story.server.forget(91)
-    ended = f"state 1, an {OPEN_A}, was ended by entry 4 (CLOSE), and its owner was forgotten by entry 5"
-    story.close(3, state(1, 2), (ended, OWNERS))
-    story.confirm(4, state(1, 3), (ended, OWNERS))
-    # Entries 8 to 12: it comes again, by another open.
+    closed = f"state 1, an {OPEN_A}, was ended by entry 4 (CLOSE)"
+    ended = (f"{closed}, and its owner was forgotten by entry 5", "Idle owners")
+    story.close(3, state(1, 2), ended)
+    story.confirm(4, state(1, 3), ended)
+    # Entries 8 to 11: where no owner is asked for it is no matter; and the stateid of another client.
+    story.read(state(1, 2), (closed, STATEIDS))
+    story.introduce(b"c2")
+    story.confirm_client(2, 2)
+    story.close(3, state(1, 2, client=2), ("state 1 was given to client 1, and the stateid is one of client 2", OWNERS))
+    # Entries 12 to 16: it comes again, by another open.
     story.open(7)
-    unconfirmed = ('open owner "A" of client 1 isn\'t confirmed: it has opened the file in entry 8, and no '
+    unconfirmed = ('open owner "A" of client 1 isn\'t confirmed: it has opened the file in entry 12, and no '
                    "OPEN_CONFIRM has followed")
     story.close(8, state(2), (unconfirmed, STATEIDS))
-    story.close(3, state(1, 2), (ended, OWNERS))
+    story.close(3, state(1, 2), ended)
     story.confirm(8, state(2))
     story.close(9, state(2, 2))
     story.open(10, ('directory "/" has no "e"', "OPEN"), name=b"e")
     story.server.forget(91)
-    story.close(9, state(2, 2), (f"state 2, an {OPEN_A}, was ended by entry 12 (CLOSE)", OWNERS))
+    story.close(9, state(2, 2), (f"state 2, an {OPEN_A}, was ended by entry 16 (CLOSE)", OWNERS))
     return story
 
 

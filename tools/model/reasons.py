@@ -25,9 +25,9 @@ Reason = namedtuple("Reason", "status text heading again", defaults=[None])
 # A kept answer that is given again: the owner that it is kept for, and its entry.
 Again = namedtuple("Again", "owner entry")
 
-OWNERS, STATEIDS, CLIENT_IDS, SHARE, RANGES, DELEGATIONS = (
-    "Owners and sequenced operations", "Stateids", "Client ids", "Share reservations", "Byte-range locks",
-    "Delegations")
+OWNERS, IDLE, STATEIDS, CLIENT_IDS, SHARE, RANGES, DELEGATIONS = (
+    "Owners and sequenced operations", "Idle owners", "Stateids", "Client ids", "Share reservations",
+    "Byte-range locks", "Delegations")
 
 MODES = {0: "nothing", READ: "READ", WRITE: "WRITE", BOTH: "READ and WRITE"}
 KINDS = {OpenState: "an open", LockState: "a lock state", Delegation: "a delegation"}
@@ -187,8 +187,6 @@ class Causes:
                     f"{client_words(stateid.client)}")
         else:
             text = f"{self.state_words(state)}, was ended by {self.end_words(self.server.ended[state.number])}"
-            forgotten = self.server.forgotten.get(state.number)
-            text += "" if forgotten is None else f", and its owner was forgotten by {self.entry_words(forgotten)}"
         return Reason(Status.BAD_STATEID, text, STATEIDS)
 
     def of_stateid(self, stateid, kind, file, of_unconfirmed=False):
@@ -260,10 +258,18 @@ class Causes:
         yield from self.of_stateid_client(stateid)
         owners, found = self.server.open_owners.values(), self.server.looked_up(stateid)
         if found is None and not any(closed_by(owner.kept, stateid) for owner in owners):
-            yield self.missing_state(stateid)._replace(heading=OWNERS)
+            yield self.missing_owner(stateid)
         if isinstance(found, Delegation):
             text = f"the stateid is that of {self.state_words(found)}, and a delegation has no owner"
             yield Reason(Status.BAD_STATEID, text, OWNERS)
+
+    def missing_owner(self, stateid):
+        """A stateid without a state, and without an owner whose kept request closed it."""
+        reason, forgotten = self.missing_state(stateid), self.server.forgotten.get(stateid[1:])
+        if forgotten is None:
+            return reason._replace(heading=OWNERS)
+        text = f"{reason.text}, and its owner was forgotten by {self.entry_words(forgotten)}"
+        return reason._replace(text=text, heading=IDLE)
 
     def due_words(self, owner):
         kept = owner.kept
