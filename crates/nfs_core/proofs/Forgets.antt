@@ -3,7 +3,7 @@ use Rattle.std.proofs.Common.{◌≡◌, ◌≢◌, ℕ, Bool, true, false, cond
 use Rattle.std.specs.Prelude.{◌&&◌, IsFalse, not}
 use Rattle.std.specs.List.{AllByRecursion}
 use Rattle.std.proofs.lemmas.Bool.{and_parts, not-true}
-use Rattle.nfs_core.proofs.Forgetting.{idle_no_open, name_found}
+use Rattle.nfs_core.proofs.IdleOwners.{idle_no_open, name_found}
 use Rattle.nfs_core.proofs.SafeLists.{all_find}
 use Rattle.nfs_core.proofs.Sound.{equal_names, same_name_self}
 use Rattle.nfs_core.specs.ForgetLaws.{ForgetsTakeAway, ForgottenAreAsNew, IsAsNew, OpenersStay, TakesAway}
