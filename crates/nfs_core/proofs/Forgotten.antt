@@ -3,6 +3,8 @@ use Rattle.std.proofs.Common.{◌≡◌, ◌<◌, ◌≤◌, ℕ, zero, suc, Boo
 use Rattle.std.specs.Prelude.{◌&&◌, IsFalse, not, option_and_then, option_map, slice_get}
 use Rattle.std.specs.List.{AllByRecursion, list_any}
 use Rattle.nfs_core.proofs.SafeLists.{all_find, all_filter}
+use Rattle.nfs_core.specs.Events.{IsForgottenFrom, NoneIsIdleBefore, forget_of}
+use Rattle.nfs_core.specs.Server.{Enters, Server}
 use Rattle.nfs_forms.specs.declared.open_owner.OpenOwner.{OpenOwner}
 use Rattle.nfs_owners.specs.StateOwner.{as_open_owner, open_owner}
 use Rattle.nfs_owners.specs.declared.kept.Kept.{Kept}
@@ -11,7 +13,7 @@ use Rattle.nfs_owners.specs.declared.state_owner.OwnerKind.{OwnerKind}
 use Rattle.nfs_rules.specs.entries.Forget.{IsForgetting, NoneIdle, NoneIdleBefore, is_idle, is_open_owner, is_past}
 use Rattle.nfs_share.specs.Opens.{is_of}
 use Rattle.nfs_state.specs.Kept.{Agrees, IsKeptIn, kept_in}
-use Rattle.nfs_state.specs.Stored.{known_owner}
+use Rattle.nfs_state.specs.Stored.{known_owner, meaning}
 use Rattle.nfs_state.specs.declared.entry.Call.{Call}
 use Rattle.nfs_state.specs.Changes.{after, change_alone}
 use Rattle.nfs_state.specs.Entries.{call_of, with_entry}
@@ -20,6 +22,7 @@ use Rattle.nfs_state.specs.State.{History, State}
 use Rattle.nfs_state.specs.declared.change.Change.TheVariants as changes
 use Rattle.nfs_state.specs.declared.effect.Effect.{Effect}
 use Rattle.nfs_state.specs.declared.entry.Entry.{Entry}
+use Rattle.nfs_state.specs.declared.entry.Entry.TheVariants as entries
 use Rattle.nfs_state.specs.declared.entry.Forget.{Forget}
 
 not_both : (b : Bool) → b ≡ true → b ≡ false → ⊥
@@ -74,3 +77,13 @@ forgotten_before old new state after owner entry recorded now owners longer is s
     subst (AllByRecursion Is) (sym seen) (still_before old entry state fewer recorded now owners agrees refl (subst (AllByRecursion Was) seen before)) in
     let left : NoneIdleBefore recorded (with_entry entry old) fewer now = all_filter Is Is (λ o. not (has_name (open_owner owner) o)) (λ o is_so _. is_so) state.owners all in
     subst (λ (j : History). NoneIdleBefore recorded j after now) (sym longer) (subst (λ (s : State). NoneIdleBefore recorded (with_entry entry old) s now) (sym is) left)
+
+-- The owner that was found, and whose end was entered, is forgotten.
+pub forgotten_one : (old new : Server) (owner : OpenOwner) (effect : Effect) (recorded now number : ℕ) (entered : Enters old new (entries.Forget (forget_of owner now)) number) → entered.2.effect ≡ effect
+    → effect ≡ change_alone (changes.Forgets owner) → Agrees old.journal old.stored.owners → NoneIsIdleBefore recorded old now → IsForgottenFrom old new now (Some (record { number = number; recorded = recorded }))
+forgotten_one old new owner effect recorded now number entered is_effect is agrees before =
+    let state : meaning new.stored ≡ record (meaning old.stored) { owners = without_owner (open_owner owner) (meaning old.stored).owners } =
+    entered.2.state ∙ ap (λ (e : Effect). after (length old.journal.entries) e (meaning old.stored)) (is_effect ∙ is) in (
+      (owner, entered),
+      forgotten_before old.journal new.journal (meaning old.stored) (meaning new.stored) owner (entries.Forget (forget_of owner now)) recorded now old.stored.owners entered.1 state refl agrees before,
+    )

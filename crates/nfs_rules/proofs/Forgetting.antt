@@ -1,7 +1,7 @@
 -- Which owner is forgotten next, among the owners as they are stored.
 use Rattle.std.proofs.Common.{◌≡◌, ℕ, ◌<◌, ◌≤◌, Bool, true, false, cond, find, map, option_copied, option_map, Option, Some, None, List, [], ◌∷◌, inl, inr, refl, sym, ap, ◌∙◌, subst, arith}
 use Rattle.std.specs.Borrow.{Bor}
-use Rattle.std.specs.Prelude.{◌&&◌, IfNone, IfSome, nat_le, not}
+use Rattle.std.specs.Prelude.{◌&&◌, IfNone, IfSome, not}
 use Rattle.std.specs.List.{AllByRecursion}
 use Rattle.std.proofs.lemmas.Bool.{and_from, and_parts, cases_lt, le-leb}
 use Rattle.nfs_owners.specs.Owner as stored
@@ -10,6 +10,7 @@ use Rattle.nfs_owners.specs.StateOwner.{as_open_owner, is_same_kind, open_owner}
 use Rattle.nfs_owners.specs.declared.state_owner.OwnerKind.{OwnerKind}
 use Rattle.nfs_owners.specs.declared.state_owner.OwnerKind.TheVariants as kinds
 use Rattle.nfs_owners.specs.declared.owner.Owner.{Owner}
+use Rattle.nfs_owners.specs.declared.owner.OwnerState.{OwnerState}
 use Rattle.nfs_owners.specs.declared.state_owner.StateOwner.{StateOwner}
 use Rattle.nfs_rules.specs.entries.Forget.{IsForgetting, IsNoneBefore, NoneIdle, NoneIdleBefore, end_of, has_open, is_idle, is_open_owner, is_past, kept_moment}
 use Rattle.nfs_state.specs.Changes.{change_alone}
@@ -104,6 +105,15 @@ known_found name (o ∷ owners) = by (stored.has_name name o) (known_found name 
     by true rest = refl
     by false rest = rest
 
+-- what is found of an owner by its name is an owner's state
+pub no_state : (k : Option Owner) → None ≡ option_map (λ (o : Owner). o.state) k → k ≡ None
+no_state None is = refl
+no_state (Some o) is = absurd cc
+
+pub has_state : (k : Option Owner) (s : OwnerState) → Some s ≡ option_map (λ (o : Owner). o.state) k → (o : Owner) × (k ≡ Some o) × (o.state ≡ s)
+has_state None s is = absurd cc
+has_state (Some o) s is = (o, refl, cc)
+
 -- an owner that opens files is the open owner of its client and name
 open_again : (name : StateOwner) → is_open_owner name ≡ true → open_owner (as_open_owner name) ≡ name
 open_again name opens = by name.kind refl opens
@@ -123,7 +133,23 @@ all_stored : (P : KnownOwner → Type 0) (owners : List Owner) → AllByRecursio
 all_stored P [] all = tt
 all_stored P (o ∷ owners) all = (all.0, all_stored P owners all.1)
 
+-- a known owner is stored
+stored_known : (state : State) (owners : List Owner) (name : StateOwner) (o : KnownOwner) (k : Option Owner) → state.owners ≡ map known_owner owners → stored.owner_of name owners ≡ k
+    → known.owner_of name state.owners ≡ Some o → option_map known_owner k ≡ Some o
+stored_known state owners name o k seen named found = sym (ap (option_map known_owner) named) ∙ sym (known_found name owners) ∙ sym (ap (known.owner_of name) seen) ∙ found
+
+-- where none has the name, it may not be forgotten
+pub not_known : (journal : History) (state : State) (owners : List Owner) (forget : Forget) (effect : Effect) → state.owners ≡ map known_owner owners → stored.owner_of (open_owner forget.owner) owners ≡ None
+    → IsForgetting journal state forget effect → ⊥
+not_known journal state owners forget effect seen none is = no_one is.owner (stored_known state owners (open_owner forget.owner) is.owner None seen none is.found)
+  where
+    no_one : (o : KnownOwner) → None ≡ Some o → ⊥
+    no_one o same = cc
+
 module _ (journal : History) (state : State) (now : ℕ) (owners : List Owner) (seen : state.owners ≡ map known_owner owners) (order : StandInOrder owners) where
+  stored_one : (name : StateOwner) (o : KnownOwner) (k : Option Owner) → stored.owner_of name owners ≡ k → known.owner_of name state.owners ≡ Some o → option_map known_owner k ≡ Some o
+  stored_one name o k named found = stored_known state owners name o k seen named found
+
   -- the owner may be forgotten, and this entry recorded it or a later one
   abbrev pub passes : ℕ → Owner → Bool
   passes entry o = is_from entry o && is_idle journal state now (known_owner o)
@@ -153,20 +179,10 @@ module _ (journal : History) (state : State) (now : ℕ) (owners : List Owner) (
         removal = is;
       }
 
-  -- an owner that may be forgotten is stored, and may be
-  stored_one : (name : StateOwner) (o : KnownOwner) (k : Option Owner) → stored.owner_of name owners ≡ k → known.owner_of name state.owners ≡ Some o → option_map known_owner k ≡ Some o
-  stored_one name o k named found = sym (ap (option_map known_owner) named) ∙ sym (known_found name owners) ∙ sym (ap (known.owner_of name) seen) ∙ found
-
   idle_now : (forget : Forget) (effect : Effect) → forget.now ≡ now → (is : IsForgetting journal state forget effect) → is_idle journal state now is.owner ≡ true
   idle_now forget effect at is = subst (λ n. is_idle journal state n is.owner ≡ true) at is.idle
 
-  -- where none has the name, or none may be forgotten, or another one comes first, this one may not be
-  pub not_known : (forget : Forget) (effect : Effect) → stored.owner_of (open_owner forget.owner) owners ≡ None → IsForgetting journal state forget effect → ⊥
-  not_known forget effect none is = no_one is.owner (stored_one (open_owner forget.owner) is.owner None none is.found)
-    where
-      no_one : (o : KnownOwner) → None ≡ Some o → ⊥
-      no_one o same = cc
-
+  -- where none may be forgotten, or another one comes first, this one may not be
   pub none_may : (forget : Forget) (effect : Effect) (k : Owner) → forget.now ≡ now → stored.owner_of (open_owner forget.owner) owners ≡ Some k → find (passes 0) owners ≡ None → IsForgetting journal state forget effect → ⊥
   none_may forget effect k at named none is =
       let one : known_owner k ≡ is.owner = one_known (known_owner k) is.owner (stored_one (open_owner forget.owner) is.owner (Some k) named is.found) in
@@ -187,7 +203,7 @@ module _ (journal : History) (state : State) (now : ℕ) (owners : List Owner) (
 
   -- Where none may be that an earlier entry recorded.
 
-  Before : ℕ → KnownOwner → Type 0
+  abbrev Before : ℕ → KnownOwner → Type 0
   Before entry o = o.recording_entry < entry → is_idle journal state now o ≡ false
 
   before_stored : (entry : ℕ) → NoneIdleBefore entry journal state now → AllByRecursion (λ o. Before entry (known_owner o)) owners

@@ -45,7 +45,7 @@ returns-in-Close c =
     let turn = c.args.turn in
     let named : Op → Type 0 = λ op. IsTargetOf (names_of op) journal state (target_seen turn.target) in
     rules_of request.op (ops.Close c.in-Close.args) journal state request turn.node turn.passage (Ok c.rule-in-Close.result) c.in-Close.is
-    (c.rule-in-Close.ensures journal request turn.passage (ap (λ (p : Policy). p.close_locks) (sym c.policy.ensures)) (subst named c.in-Close.is c.requires.target))
+    (c.rule-in-Close.ensures journal request turn.passage (ap (λ (p : Policy). p.close_locks) (sym c.policy-policy.ensures)) (subst named c.in-Close.is c.requires.target))
 
 pub returns-in-Lock : goal.returns-in-Lock
 returns-in-Lock c =

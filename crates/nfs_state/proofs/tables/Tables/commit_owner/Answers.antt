@@ -25,8 +25,8 @@ returns-in-KeepsBoth-clause-state c change kept update place =
     keeps_both_seen (stored_of c.args.self.now) (stored_of c.keep-in-KeepsBoth.new.self) (stored_of c.keep-in-KeepsBoth-2.new.self) c.in-KeepsBoth.keeping c.in-KeepsBoth.newcomer c.args.number
     c.keep-in-KeepsBoth.ensures.stored c.keep-in-KeepsBoth-2.ensures.stored change kept (sym c.in-KeepsBoth.is ∙ update) place
 
-pub keep-in-Restarts-requires-clause-newest : goal.keep-in-Restarts-requires-clause-newest
-keep-in-Restarts-requires-clause-newest c = λ _.
+pub keep-requires-in-Restarts-clause-newest : goal.keep-requires-in-Restarts-clause-newest
+keep-requires-in-Restarts-clause-newest c = λ _.
     let stored_before : Stored → Type 0 = λ stored. AreBefore c.args.number stored.owners in
     subst stored_before (sym c.remove_owner.ensures.stored)
     (before_filter c.args.number (λ o. not (has_name (open_owner c.in-Restarts.owner) o)) c.args.self.now.owners.owners c.requires.newest)
