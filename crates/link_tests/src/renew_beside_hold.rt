@@ -49,7 +49,9 @@ fn seen_beside<R: Threads + Wait + Sleeper + RandomSource + Sync>(
     alloc: Global,
 ) -> Option<Seen> {
     let tree = Tree::from_toml(alloc, "file = [{ path = \"a\" }]").ok()?;
-    let opened = Opened::new(alloc, 90, 1).ok()?;
+    let Ok(opened) = Opened::new(alloc, 90, 1) else {
+        return None;
+    };
     let Ok(seeds) = Seeds::new(rt) else {
         return None;
     };
@@ -165,21 +167,33 @@ fn is_reached<R: Sleeper>(rt: &R, stage: &AtomicU32, wanted: u32) -> bool {
     false
 }
 
-// A client comes to a desk. While another thread has the lock, the desk answers RENEW, alone and twice in a batch; then it
-// is asked for an operation, when the lease would be over had nobody asked.
+// A client is at a desk, while another thread has the lock.
 fn ask_at_desk<'a, N: Naming, R: Wait + Sleeper>(
     rt: &'a R,
     alloc: Global,
     shared: &'a Shared<N>,
     seat: Seat<N>,
     stage: &AtomicU32,
-) -> Option<()>
+)
     requires unused { IsKept seat [] }
 {
+    let mut desk = Desk::new(alloc, rt, shared, seat);
+    let _ = ask_beside_hold(rt, alloc, &mut desk, stage);
+    drop(desk.into_parts());
+}
+
+// A client comes to a desk. While another thread has the lock, the desk answers RENEW, alone and twice in a batch; then it
+// is asked for an operation, when the lease would be over had nobody asked.
+fn ask_beside_hold<S: Service, R: Sleeper>(
+    rt: &R,
+    alloc: Global,
+    desk: &mut S,
+    stage: &AtomicU32,
+) -> Option<()> {
     let moment = Moment::new(100)?;
     let behind_the_end = Moment::new(191)?;
-    let mut desk = Desk::new(alloc, rt, shared, seat);
-    let client = come(alloc, &mut desk, moment)?;
+    let client = come(alloc, desk, moment)?;
+    let release = release_of(alloc, client)?;
     stage.store(CLIENT_IS_THERE, Ordering::SeqCst);
     if !is_reached(rt, stage, LOCK_IS_HELD) {
         return None;
@@ -189,9 +203,8 @@ fn ask_at_desk<'a, N: Naming, R: Wait + Sleeper>(
     drop(desk.renew(moment, client));
     drop(desk.renew(moment, client));
     desk.end_batch();
-    let release = release_of(alloc, client)?;
     stage.store(RENEW_IS_ANSWERED, Ordering::SeqCst);
-    drop(ask(&mut desk, behind_the_end, release));
+    drop(ask(desk, behind_the_end, release));
     Some(())
 }
 
@@ -205,17 +218,20 @@ fn come<S: Service>(alloc: Global, desk: &mut S, moment: Moment) -> Option<Clien
     Some(args.client)
 }
 
-// What is answered to an operation at this moment; none where memory was refused.
+// What is answered to an operation at this moment, in a batch, as a connection asks; none where memory was refused.
 fn ask<S: Service>(desk: &mut S, moment: Moment, op: Op) -> Option<OpResult>
     requires entry { IsTrue (has_entry op) }
 {
     desk.room(1).ok()?;
-    Some(desk.call(Request {
+    desk.begin_batch();
+    let answer = desk.call(Request {
         moment,
         principal: Principal::AuthSys(1),
         op,
         filehandle: None,
-    }))
+    });
+    desk.end_batch();
+    Some(answer)
 }
 
 // SETCLIENTID.

@@ -166,6 +166,7 @@ fn answer_with_room(
     ensures places { places.new.items ≡ places.old.items }
     ensures room { IfSome result.1 (λ _. vec_len places.new < vec_capacity places.new) }
 {
+    // That the journal leads to what is stored is known of a core that was looked at.
     leased.core.journal();
     if places.reserve(1).is_err() {
         let opnum = request.op.opnum();
@@ -187,9 +188,10 @@ fn call_at(core: &Core, number: u32) -> SeenCall
     SeenCall::of(call)
 }
 
-/// Goes through the live clients, and removes each whose lease is over at `now`. Then it revokes the delegations that are
-/// due, and then forgets the open owners that may be forgotten, until none is left of both, or there is no room for an
-/// entry. No receipt is made: the entries are the sweeper's.
+/// Goes through the live clients, and removes each whose lease is over at `now`, but for those that are renewed between
+/// the look and the closing, and those for whose entry there is no room. Then it revokes the delegations that are due, and
+/// then forgets the open owners that may be forgotten, until none is left of both, or there is no room for an entry. No
+/// receipt is made: the entries are the sweeper's.
 pub fn sweep_held<N: Naming>(held: &mut Held<N>, sweeper: &mut Sweeper<N>, now: Moment) -> Swept
     ensures sweeps { Sweeps Happens now (leased_server held.old.server held.old.leases) result
         (leased_server held.new.server held.new.leases) }
