@@ -1,16 +1,16 @@
 -- What goes with the end of an owner, and what stays.
-use Rattle.std.proofs.Common.{◌≡◌, ◌≢◌, ℕ, Bool, true, false, cond, filter, find, Option, Some, None, List, [], ◌∷◌, length, refl, sym, ap, ◌∙◌, subst}
+use Rattle.std.proofs.Common.{◌≡◌, Bool, true, false, cond, Some, None, List, [], ◌∷◌, length, refl, sym, ap, ◌∙◌, subst}
 use Rattle.std.specs.Prelude.{◌&&◌, IsFalse, not}
 use Rattle.std.specs.List.{AllByRecursion}
-use Rattle.std.proofs.lemmas.Bool.{and_parts, not-true}
-use Rattle.nfs_core.proofs.Forgetting.{idle_no_open, name_found}
+use Rattle.std.proofs.lemmas.Bool.{and_parts}
+use Rattle.nfs_core.proofs.IdleOwners.{idle_no_open, name_found}
 use Rattle.nfs_core.proofs.SafeLists.{all_find}
 use Rattle.nfs_core.proofs.Sound.{equal_names, same_name_self}
-use Rattle.nfs_core.specs.ForgetLaws.{ForgetsTakeAway, ForgottenAreAsNew, IsAsNew, OpenersStay, TakesAway}
+use Rattle.nfs_core.specs.ForgetLaws.{ForgetsTakeAway, ForgottenAreAsNew, IsAsNew, OpenersStay}
 use Rattle.nfs_core.specs.Step.{Step}
 use Rattle.nfs_owners.specs.StateOwner.{is_same_state_owner, open_owner}
 use Rattle.nfs_owners.specs.declared.state_owner.StateOwner.{StateOwner}
-use Rattle.nfs_rules.specs.Sequences.{IsOfOwner, IsOfUnknown, IsSequence, Owner, SequenceStep, has_closed}
+use Rattle.nfs_rules.specs.Sequences.{IsOfOwner, has_closed}
 use Rattle.nfs_rules.specs.entries.Forget.{IsForgetting, has_open, is_open_owner, is_past, kept_moment}
 use Rattle.nfs_state.specs.Changes.{after}
 use Rattle.nfs_state.specs.Kept.{kept_for}
@@ -19,7 +19,6 @@ use Rattle.nfs_state.specs.State.{History, State}
 use Rattle.nfs_state.specs.declared.effect.Effect.{Effect}
 use Rattle.nfs_state.specs.declared.entry.Entry.TheVariants as entries
 use Rattle.nfs_state.specs.declared.entry.Forget.{Forget}
-use Rattle.nfs_state.specs.declared.request.Request.{Request}
 
 not_both : (b : Bool) → b ≡ true → b ≡ false → ⊥
 not_both true is other = cc

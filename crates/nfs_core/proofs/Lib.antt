@@ -4,8 +4,8 @@ pub mod DueDelegations
 pub mod NextEntries
 pub mod FileBytes
 pub mod FileChanges
-pub mod Forgetting
-pub mod Forgotten
+pub mod IdleOwners
+pub mod StillIdle
 pub mod Forgets
 pub mod Journals
 pub mod LiveClients

@@ -1,5 +1,5 @@
 -- A try to forget an owner: an entry that may come next, or nothing.
-use Rattle.std.proofs.Common.{◌≡◌, ℕ, ◌<◌, Bool, false, Option, Some, None, Result, Ok, Err, List, [], ◌∷◌, refl, subst, sym, arith}
+use Rattle.std.proofs.Common.{◌≡◌, ℕ, ◌<◌, false, Option, Some, None, Result, Ok, Err, List, [], ◌∷◌, refl, subst, sym, arith}
 use Rattle.std.specs.Prelude.{IfOk, OnErr}
 use Rattle.std.specs.List.{AllByRecursion}
 use Rattle.nfs_core.specs.Events.{IsForgottenFrom, forget_of, path_of}

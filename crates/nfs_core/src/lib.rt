@@ -24,7 +24,8 @@ pub use following::FollowError;
 pub use forgotten::Forgotten;
 pub use laws::{
     at_most_one_state, at_most_one_step, forgets_take_away, forgotten_are_as_new, lawful_is_safe,
-    live_clients_follow, newcomers_find_slots, openers_stay, others_recall_nothing, recalls_are_one_list, recalls_begin, recalls_follow, recalls_rise,
+    live_clients_follow, newcomers_find_slots, openers_stay, others_recall_nothing,
+    recalls_are_one_list, recalls_begin, recalls_follow, recalls_rise,
 };
 pub use nfs_rpc::Recall;
 pub use nfs_state::{

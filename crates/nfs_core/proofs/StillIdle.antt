@@ -1,6 +1,6 @@
 -- After an owner is forgotten, the others stand as they did.
-use Rattle.std.proofs.Common.{◌≡◌, ◌<◌, ◌≤◌, ℕ, zero, suc, Bool, true, false, cond, filter, length, map, Option, Some, None, List, [], ◌∷◌, ◌++◌, refl, sym, ap, ◌∙◌, subst, arith}
-use Rattle.std.specs.Prelude.{◌&&◌, IsFalse, not, option_and_then, option_map, slice_get}
+use Rattle.std.proofs.Common.{◌≡◌, ◌<◌, ℕ, zero, suc, Bool, true, false, length, map, Some, List, [], ◌∷◌, ◌++◌, refl, sym, ap, ◌∙◌, subst, arith}
+use Rattle.std.specs.Prelude.{◌&&◌, not, option_and_then, option_map, slice_get}
 use Rattle.std.specs.List.{AllByRecursion, list_any}
 use Rattle.nfs_core.proofs.SafeLists.{all_find, all_filter}
 use Rattle.nfs_core.specs.Events.{IsForgottenFrom, NoneIsIdleBefore, forget_of}
@@ -17,7 +17,7 @@ use Rattle.nfs_state.specs.Stored.{known_owner, meaning}
 use Rattle.nfs_state.specs.declared.entry.Call.{Call}
 use Rattle.nfs_state.specs.Changes.{after, change_alone}
 use Rattle.nfs_state.specs.Entries.{call_of, with_entry}
-use Rattle.nfs_state.specs.Owners.{KnownOwner, has_name, owner_of, without_owner}
+use Rattle.nfs_state.specs.Owners.{KnownOwner, has_name, without_owner}
 use Rattle.nfs_state.specs.State.{History, State}
 use Rattle.nfs_state.specs.declared.change.Change.TheVariants as changes
 use Rattle.nfs_state.specs.declared.effect.Effect.{Effect}

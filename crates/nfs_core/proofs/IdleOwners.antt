@@ -1,14 +1,13 @@
 -- Owners that are forgotten have no open.
-use Rattle.std.proofs.Common.{◌≡◌, ℕ, Bool, true, false, cond, find, Option, Some, None, List, [], ◌∷◌, refl, sym, ap, ◌∙◌, subst}
+use Rattle.std.proofs.Common.{◌≡◌, ℕ, Bool, true, false, cond, Some, List, [], ◌∷◌, refl, sym, ap, ◌∙◌}
 use Rattle.std.specs.Prelude.{◌&&◌, ◌||◌, not}
 use Rattle.std.specs.List.{AllByRecursion, list_any}
 use Rattle.std.proofs.lemmas.Bool.{and_parts, not-true}
-use Rattle.nfs_core.proofs.SafeLists.{all_find}
 use Rattle.nfs_core.proofs.Sound.{equal_names}
 use Rattle.nfs_core.proofs.SoundSteps.{HasNoOpen}
 use Rattle.nfs_forms.specs.OpenOwner.{is_same_owner}
 use Rattle.nfs_forms.specs.declared.open_owner.OpenOwner.{OpenOwner}
-use Rattle.nfs_owners.specs.StateOwner.{as_open_owner, open_owner}
+use Rattle.nfs_owners.specs.StateOwner.{open_owner}
 use Rattle.nfs_owners.specs.declared.state_owner.StateOwner.{StateOwner}
 use Rattle.nfs_rules.specs.entries.Forget.{IsForgetting, has_open, is_idle, is_open_owner, is_past, kept_moment}
 use Rattle.nfs_share.specs.Opens.{is_of}
