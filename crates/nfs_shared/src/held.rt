@@ -189,9 +189,9 @@ fn call_at(core: &Core, number: u32) -> SeenCall
 }
 
 /// Goes through the live clients, and removes each whose lease is over at `now`, but for those that are renewed between
-/// the look and the closing, and those for whose entry there is no room. Then it revokes the delegations that are due,
-/// and then forgets the open owners that may be forgotten, until none is left of both, or there is no room for an entry.
-/// No receipt is made: the entries are the sweeper's.
+/// the look and the closing, and those for whose entry there is no room. Then it revokes the delegations that are due, and
+/// then forgets the open owners that may be forgotten, until none is left of both, or there is no room for an entry. No
+/// receipt is made: the entries are the sweeper's.
 pub fn sweep_held<N: Naming>(held: &mut Held<N>, sweeper: &mut Sweeper<N>, now: Moment) -> Swept
     ensures sweeps { Sweeps Happens now (leased_server held.old.server held.old.leases) result
         (leased_server held.new.server held.new.leases) }
