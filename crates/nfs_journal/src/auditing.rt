@@ -16,14 +16,7 @@ pub fn audit(alloc: Global, journal: FiledJournal, seeds: Seeds) -> Result<Core,
         entries,
     } = journal;
     let start = opening.start();
-    let Ok(mut core) = Core::new(
-        alloc,
-        &tree,
-        start.lease,
-        start.epoch,
-        start.policy,
-        seeds,
-    ) else {
+    let Ok(mut core) = Core::new(alloc, &tree, start.lease, start.epoch, start.policy, seeds) else {
         return Err(AuditError::Memory);
     };
     let mut number = 0;

@@ -1,4 +1,4 @@
-ghost use Rattle.std.specs.Prelude.{◌≡◌};
+ghost use Rattle.std.specs.Prelude.{◌≡◌, not};
 ghost use Rattle.std.specs.List.{list_all};
 ghost use Rattle.nfs_journal.specs.Journals.{Accepts, Reads, WritesFile, are_of_edition, is_entry, is_forget};
 
@@ -83,13 +83,20 @@ fn are_of_edition(opening: Opening, entries: &[Entry]) -> bool
     ensures { result ≡ are_of_edition opening entries.now }
 {
     match opening {
-        Opening::Second(_) => entries.iter().all(|e| !is_forget(e)),
+        Opening::Second(_) => have_no_forget(entries),
         Opening::Third(_) => true,
     }
 }
 
-fn is_forget(entry: &Entry) -> bool
-    ensures { result ≡ is_forget entry.now }
+// Whether none of the entries is the end of what is kept for an owner.
+fn have_no_forget(entries: &[Entry]) -> bool
+    ensures { result ≡ list_all (λ e. not (is_forget e)) entries.now }
 {
-    matches!(entry, Entry::Forget(_))
+    entries.iter().all(|e| is_no_forget(e))
+}
+
+fn is_no_forget(entry: &Entry) -> bool
+    ensures { result ≡ not (is_forget entry.now) }
+{
+    !matches!(entry, Entry::Forget(_))
 }

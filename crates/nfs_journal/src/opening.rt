@@ -8,7 +8,9 @@ ghost use Rattle.xdr.specs.Switch.{case_at};
 use nfs_state::Journal;
 use nfs_tree::{Callbacks, CloseLocks, Delegations, Policy};
 use std::alloc::Global;
-use xdr::{Wire, WireError, read_constant, read_u32, write_four, write_three, write_two, write_u32};
+use xdr::{
+    Wire, WireError, read_constant, read_u32, write_four, write_three, write_two, write_u32,
+};
 
 /// The first four letters of each file, `NFSJ`.
 const FIRST_LETTERS: u32 = 0x4e46_534a;
@@ -62,7 +64,7 @@ impl Opening {
 
     /// What the server began with. Before the third edition CLOSE freed what was locked.
     pub fn start(self) -> Start
-        ensures { result ≡ start_of self.entry }
+        ensures { result ≡ start_of self }
     {
         match self {
             Opening::Second(start) => Start {
