@@ -10,7 +10,7 @@ use Rattle.nfs_owners.specs.StateOwner.{as_open_owner, open_owner}
 use Rattle.nfs_owners.specs.declared.kept.Kept.{Kept}
 use Rattle.nfs_owners.specs.declared.owner.Owner.{Owner}
 use Rattle.nfs_owners.specs.declared.state_owner.OwnerKind.{OwnerKind}
-use Rattle.nfs_rules.specs.entries.Forget.{IsForgetting, NoneIdle, NoneIdleBefore, is_idle, is_open_owner, is_past}
+use Rattle.nfs_rules.specs.entries.Forget.{IsForgetting, NoneIdle, NoneIdleBefore, is_idle, is_open_owner, is_past, recording_entry_of}
 use Rattle.nfs_share.specs.Opens.{is_of}
 use Rattle.nfs_state.specs.Kept.{Agrees, IsKeptIn, kept_in}
 use Rattle.nfs_state.specs.Stored.{known_owner, meaning}
@@ -80,10 +80,11 @@ forgotten_before old new state after owner entry recorded now owners longer is s
 
 -- The owner that was found, and whose end was entered, is forgotten.
 pub forgotten_one : (old new : Server) (owner : OpenOwner) (effect : Effect) (recorded now number : ℕ) (entered : Enters old new (entries.Forget (forget_of owner now)) number) → entered.2.effect ≡ effect
-    → effect ≡ change_alone (changes.Forgets owner) → Agrees old.journal old.stored.owners → NoneIsIdleBefore recorded old now → IsForgottenFrom old new now (Some (record { number = number; recorded = recorded }))
-forgotten_one old new owner effect recorded now number entered is_effect is agrees before =
+    → effect ≡ change_alone (changes.Forgets owner) → Agrees old.journal old.stored.owners → NoneIsIdleBefore recorded old now → recording_entry_of owner (meaning old.stored) ≡ Some recorded → IsForgottenFrom old new now (Some (record { number = number; recorded = recorded }))
+forgotten_one old new owner effect recorded now number entered is_effect is agrees before by =
     let state : meaning new.stored ≡ record (meaning old.stored) { owners = without_owner (open_owner owner) (meaning old.stored).owners } =
     entered.2.state ∙ ap (λ (e : Effect). after (length old.journal.entries) e (meaning old.stored)) (is_effect ∙ is) in (
       (owner, entered),
       forgotten_before old.journal new.journal (meaning old.stored) (meaning new.stored) owner (entries.Forget (forget_of owner now)) recorded now old.stored.owners entered.1 state refl agrees before,
+      by,
     )

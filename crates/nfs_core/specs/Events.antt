@@ -9,7 +9,7 @@ use Rattle.nfs_core.specs.declared.event.Event.TheVariants as events
 use Rattle.nfs_core.specs.declared.forgotten.Forgotten.{Forgotten}
 use Rattle.nfs_forms.specs.declared.open_owner.OpenOwner.{OpenOwner}
 use Rattle.nfs_rules.specs.entries.Expire.{is_due as is_over, is_live}
-use Rattle.nfs_rules.specs.entries.Forget.{IsForgetting, NoneIdle, NoneIdleBefore}
+use Rattle.nfs_rules.specs.entries.Forget.{IsForgetting, NoneIdle, NoneIdleBefore, recording_entry_of}
 use Rattle.nfs_rules.specs.entries.Revoke.{IsRevocation}
 use Rattle.nfs_share.specs.Delegations.{is_due}
 use Rattle.nfs_state.specs.State.{History}
@@ -150,8 +150,9 @@ IsForgotten old new now (Some number) =
 abbrev pub IsForgottenFrom : Server → Server → ℕ → Option Forgotten → Type 0
 IsForgottenFrom old new now None = new ≡ old
 IsForgottenFrom old new now (Some forgotten) =
-    IsForgotten old new now (Some forgotten.number)
+    (forgets : IsForgotten old new now (Some forgotten.number))
     × NoneIsIdleBefore forgotten.recorded new now
+    × (recording_entry_of forgets.0 (meaning old.stored) ≡ Some forgotten.recorded)
 
 -- An owner may be forgotten, but there is no room for the entry of its end, or no memory.
 abbrev pub IsNotForgottenFor : Server → ℕ → CoreError → Type 0

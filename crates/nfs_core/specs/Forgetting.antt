@@ -2,7 +2,7 @@
 use Rattle.std.specs.Prelude.{◌≡◌, ℕ, ◌<◌, length, Option, Some, None}
 use Rattle.nfs_core.specs.Events.{forget_of}
 use Rattle.nfs_core.specs.declared.forgetting.IdleOwner.{IdleOwner}
-use Rattle.nfs_rules.specs.entries.Forget.{IsForgetting, NoneIdle, NoneIdleBefore}
+use Rattle.nfs_rules.specs.entries.Forget.{IsForgetting, NoneIdle, NoneIdleBefore, recording_entry_of}
 use Rattle.nfs_state.specs.Changes.{change_alone}
 use Rattle.nfs_state.specs.State.{State, History}
 use Rattle.nfs_state.specs.declared.change.Change.TheVariants as changes
@@ -18,3 +18,4 @@ IsFound journal state now (Some idle) =
     × IsForgetting journal state (forget_of idle.owner now)
     (change_alone (changes.Forgets idle.owner))
     × NoneIdleBefore idle.recorded journal state now
+    × (recording_entry_of idle.owner state ≡ Some idle.recorded)

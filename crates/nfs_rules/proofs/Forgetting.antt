@@ -12,7 +12,7 @@ use Rattle.nfs_owners.specs.declared.state_owner.OwnerKind.TheVariants as kinds
 use Rattle.nfs_owners.specs.declared.owner.Owner.{Owner}
 use Rattle.nfs_owners.specs.declared.owner.OwnerState.{OwnerState}
 use Rattle.nfs_owners.specs.declared.state_owner.StateOwner.{StateOwner}
-use Rattle.nfs_rules.specs.entries.Forget.{IsForgetting, IsNoneBefore, NoneIdle, NoneIdleBefore, end_of, has_open, is_idle, is_open_owner, is_past, kept_moment}
+use Rattle.nfs_rules.specs.entries.Forget.{IsForgetting, IsNoneBefore, NoneIdle, NoneIdleBefore, end_of, has_open, is_idle, is_open_owner, is_past, kept_moment, recording_entry_of}
 use Rattle.nfs_state.specs.Changes.{change_alone}
 use Rattle.nfs_state.specs.Owners.{KnownOwner}
 use Rattle.nfs_state.specs.Owners as known
@@ -274,6 +274,13 @@ module _ (journal : History) (state : State) (now : ℕ) (owners : List Owner) (
       → IfSome found (λ o. IsForgetting journal state (end_of o.now.name now) (change_alone (changes.Forgets (as_open_owner o.now.name))))
   found_next entry None before is own = tt
   found_next entry (Some o) before is own = next_may entry o.now before (sym is) own
+
+  pub found_recorded : (entry : ℕ) (found : Option (Bor Owner)) → NoneIdleBefore entry journal state now → option_copied found ≡ find (passes entry) owners → IfSome found (λ o. stored.owner_of o.now.name owners ≡ Some o.now)
+      → IfSome found (λ o. recording_entry_of (as_open_owner o.now.name) state ≡ Some o.now.state.recorded)
+  unfolding next_may
+  found_recorded entry None before is own = tt
+  found_recorded entry (Some o) before is own =
+      ap (option_map (λ (k : KnownOwner). k.recording_entry)) (next_may entry o.now before (sym is) own).found
 
   pub found_before : (entry : ℕ) (found : Option (Bor Owner)) → NoneIdleBefore entry journal state now → option_copied found ≡ find (passes entry) owners
       → IfSome found (λ o. NoneIdleBefore o.now.state.recorded journal state now)

@@ -2,6 +2,7 @@
 -- (RFC 7530, section 9.1.10).
 use Rattle.std.specs.Prelude.{◌≡◌, ◌<◌, ◌≤◌, ℕ, Bool, false, not, ◌&&◌, IsFalse, IsTrue, Option, Some, None, option_and_then, option_map, slice_get}
 use Rattle.std.specs.List.{AllByRecursion, list_any}
+use Rattle.nfs_forms.specs.declared.open_owner.OpenOwner.{OpenOwner}
 use Rattle.nfs_owners.specs.StateOwner.{as_open_owner, is_same_kind, open_owner}
 use Rattle.nfs_owners.specs.declared.state_owner.OwnerKind.TheVariants as kinds
 use Rattle.nfs_owners.specs.declared.state_owner.StateOwner.{StateOwner}
@@ -56,6 +57,11 @@ pub record IsForgetting (journal : History) (state : State) (forget : Forget)
   pub least : AllByRecursion
       (IsNoneBefore journal state forget.now owner.recording_entry) state.owners
   pub removal : effect ≡ change_alone (changes.Forgets forget.owner)
+
+-- which entry recorded the open owner, if it is known
+abbrev pub recording_entry_of : OpenOwner → State → Option ℕ
+recording_entry_of owner state =
+    option_map (λ (o : KnownOwner). o.recording_entry) (owner_of (open_owner owner) state.owners)
 
 -- the end of what is kept for this owner
 abbrev pub end_of : StateOwner → ℕ → Forget

@@ -6,7 +6,7 @@ ghost use Rattle.std.specs.Option.{option_copied};
 ghost use Rattle.nfs_owners.specs.Owner.{owner_of};
 ghost use Rattle.nfs_owners.specs.Owners.{StandInOrder, is_from};
 ghost use Rattle.nfs_owners.specs.StateOwner.{as_open_owner};
-ghost use Rattle.nfs_rules.specs.entries.Forget.{IsForgetting, NoneIdle, NoneIdleBefore, end_of, is_idle, is_past, kept_moment};
+ghost use Rattle.nfs_rules.specs.entries.Forget.{IsForgetting, NoneIdle, NoneIdleBefore, end_of, is_idle, is_past, kept_moment, recording_entry_of};
 ghost use Rattle.nfs_state.specs.Changes.{change_alone};
 ghost use Rattle.nfs_state.specs.Room.{state_of};
 ghost use Rattle.nfs_state.specs.Stored.{known_owner};
@@ -33,6 +33,9 @@ pub fn next_idle(store: &Store, entry: u32, now: Moment) -> Option<&Owner>
     ensures next { IfSome result (λ owner. IsForgetting store.now.journal.history
         (state_of store.now.tables) (end_of owner.now.name now)
         (change_alone (changes.Forgets (as_open_owner owner.now.name)))) }
+    ensures recorded { IfSome result (λ owner.
+        recording_entry_of (as_open_owner owner.now.name) (state_of store.now.tables)
+        ≡ Some owner.now.state.recorded) }
     ensures before { IfSome result (λ owner. NoneIdleBefore owner.now.state.recorded
         store.now.journal.history (state_of store.now.tables) now) }
     ensures none { IfNone result

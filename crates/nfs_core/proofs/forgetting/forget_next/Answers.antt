@@ -16,7 +16,7 @@ returns-in-Ok-clause-forgotten c =
     let found : IsFound store.journal.history (state_of store.tables) c.args.now (Some idle) = subst (IsFound store.journal.history (state_of store.tables) c.args.now) c.in-Ok-Some.field-0-is c.in-Ok-Some.ensures.found in
     let entered = c.in-Ok.ensures.entered in
     forgotten_one (server_of c.args.held.now) (server_of c.commit.new.held) idle.owner c.change_alone-effect.result idle.recorded c.args.now c.in-Ok.number entered.0 entered.1
-    (c.change_alone-effect.ensures ∙ ap (λ (o : OpenOwner). change_alone (changes.Forgets o)) found.1) c.requires.store.owners found.3
+    (c.change_alone-effect.ensures ∙ ap (λ (o : OpenOwner). change_alone (changes.Forgets o)) found.1) c.requires.store.owners found.3 found.4
 
 pub returns-in-Ok-clause-none : goal.returns-in-Ok-clause-none
 returns-in-Ok-clause-none c =

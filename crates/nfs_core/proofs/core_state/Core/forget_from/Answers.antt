@@ -1,10 +1,10 @@
-use Rattle.std.proofs.Common.{◌∙◌, ap, subst, sym}
+use Rattle.std.proofs.Common.{◌∙◌, IfOk, ap, subst, sym}
 use Rattle.nfs_core.proofs.Journals.{Lawful-tried}
 use Rattle.nfs_core.proofs.RecallsLeft.{Left-other, Left-tried}
 use Rattle.nfs_core.proofs.Storing.{store_agrees}
 use Rattle.nfs_core.proofs.Trying.{tried}
 use Rattle.nfs_core.proofs.core_state.Core.forget_from.Goals as goal
-use Rattle.nfs_core.specs.Events.{NoneIsIdleBefore}
+use Rattle.nfs_core.specs.Events.{IsForgottenFrom, NoneIsIdleBefore}
 use Rattle.nfs_core.specs.Server.{Server, server_of}
 
 pub forget_next-requires-clause-store : goal.forget_next-requires-clause-store
@@ -24,6 +24,12 @@ invariant_of-self c =
       c.forget_next.ensures.kept,
       Left-tried c.recalls_follow.ensures old new t.entry t.result c.self.invariant.0 c.self.invariant.2 t.entered t.same,
     )
+
+pub returns-clause-forgotten : goal.returns-clause-forgotten
+returns-clause-forgotten c =
+    let new = server_of c.forget_next.new.held in
+    subst (λ (old : Server). IfOk c.forget_next.result (IsForgottenFrom old new c.args.now)) c.self.view_is
+    c.forget_next.ensures.forgotten
 
 pub returns-clause-lawful : goal.returns-clause-lawful
 returns-clause-lawful c = (invariant_of-self c).0
