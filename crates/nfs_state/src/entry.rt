@@ -58,7 +58,8 @@ pub struct Path {
     pub up: bool,
 }
 
-/// The end of what is kept for an open owner that has no open, and sent nothing for a lease (RFC 7530, section 9.1.10).
+/// The end of what is kept for an open owner that has no open, and whose kept request is older than a lease (RFC 7530,
+/// section 9.1.10).
 #[derive(Drop)]
 pub struct Forget {
     pub owner: OpenOwner,
