@@ -5,7 +5,9 @@ ghost use Rattle.nfs_tree.specs.Document.{Reads, callbacks_of, close_locks_of, d
 ghost use Rattle.toml.specs.Data.{as_str, get_member};
 ghost use Rattle.toml.specs.View.{items_view, table_view, view};
 
-use crate::{Callbacks, CloseLocks, DEFAULT_POLICY, Delegations, NodeKind, Policy, TreeEntry, TreeError};
+use crate::{
+    Callbacks, CloseLocks, DEFAULT_POLICY, Delegations, NodeKind, Policy, TreeEntry, TreeError,
+};
 use std::alloc::Global;
 use toml::{Table, Value};
 use xdr::{Bytes, Sequence};
