@@ -101,12 +101,21 @@ def renewals_of(calls):
     return found
 
 
+def live_clients(journal):
+    """Who is live before the first entry, and after each. States that are alike have one set."""
+    found = [frozenset()]
+    for server in states(journal):
+        live = server.renewals.keys()
+        found.append(found[-1] if found[-1] == live else frozenset(live))
+    return found[1:]
+
+
 class Judge:
     """Judges what links got beside the journal of their server, which is lawful; and at last how leases ended."""
 
     def __init__(self, journal):
         self.journal = journal
-        self.lives = [frozenset(server.renewals) for server in states(journal)]
+        self.lives = live_clients(journal)
         # Of each RENEW, whether it could be answered only as it was; and those that were OK.
         self.renews, self.renewals = [], []
         # Of each entry of a link, the earliest state in which its call may have renewed: behind the link's entry before it.

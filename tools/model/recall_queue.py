@@ -11,7 +11,7 @@ ROOM = 1024
 @dataclass
 class Queuing(Recorder):
     """At the end of each hold of the lock the recalls go into the queue, in order, as far as that has room. The others
-    wait for the next hold."""
+    wait for the next hold. RENEW takes no lock."""
     # How many of the run's recalls went into the queue.
     queued: int = 0
 
@@ -24,9 +24,6 @@ class Queuing(Recorder):
 
     def apply(self, *given):
         return self.hold(super().apply, *given)
-
-    def renew(self, arguments):
-        return self.hold(super().renew, arguments)
 
     def sweep(self, now):
         return self.hold(super().sweep, now)

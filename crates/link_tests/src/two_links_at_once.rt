@@ -33,7 +33,9 @@ fn serve_links<R: Threads + Wait + Sleeper + RandomSource + Sync>(
     links: u32,
 ) -> Option<Outcome> {
     let tree = Tree::from_toml(alloc, "file = [{ path = \"a\" }]").ok()?;
-    let opened = Opened::new(alloc, 90, links).ok()?;
+    let Ok(opened) = Opened::new(alloc, 90, links) else {
+        return None;
+    };
     let Ok(seeds) = Seeds::new(rt) else {
         return None;
     };

@@ -1,5 +1,5 @@
 -- What holds of a run that begins: its journal has no entries, no recall waits, and nothing was done to leases.
-use Rattle.std.proofs.Common.{◌≡◌, ℕ, ◌+◌, List, [], ◌∷◌, length, sym, subst, refl, ap, ◌∙◌, arith}
+use Rattle.std.proofs.Common.{◌≡◌, List, [], ◌∷◌, length, sym, subst, refl, ap, arith}
 use Rattle.nfs_core.specs.Lawful.{Lawful, Leads}
 use Rattle.nfs_core.specs.Recalls.{AreLeftOf, AreRecallsOf, Recalls, RecallsLeft}
 use Rattle.nfs_rpc.specs.declared.recall.Recall.{Recall}

@@ -1,5 +1,5 @@
 -- What a call of the locked state did, seen from the value that it began with.
-use Rattle.std.proofs.Common.{◌≡◌, ℕ, List, Option, subst}
+use Rattle.std.proofs.Common.{◌≡◌, Option, subst}
 use Rattle.nfs_core.specs.Entered.{Answers}
 use Rattle.nfs_core.specs.Server.{Server}
 use Rattle.nfs_core.specs.declared.entered.Entered.{Entered}

@@ -1,5 +1,5 @@
--- What was done to leases for good, by their keeper and by the journal: openings, closings that were done, and retirings,
--- the first one first. Each is the call on a book of leases.
+-- How leases began and ended, as their keeper's events have it and as the journal has it: openings, closings that were
+-- done, and retirings, the first one first. Each is told as that call on a book of leases.
 use Rattle.std.specs.Prelude.{◌≡◌, ℕ, true, false, List, [], ◌∷◌, ◌++◌}
 use Rattle.nfs_core.specs.Step.{Step}
 use Rattle.nfs_leases.specs.BookEvent.{BookEvent}
@@ -16,7 +16,7 @@ use Rattle.nfs_words.specs.declared.event.Deed.{Deed}
 use Rattle.nfs_words.specs.declared.event.Deed.TheVariants.{Look, Renew, Open, Close, Retire}
 use Rattle.nfs_words.specs.declared.event.Event.{Event}
 
--- what an event of the keeper did to the client's lease for good
+-- how an event of the keeper began or ended the client's lease, if it did
 abbrev pub deeds_by : ℕ → Deed → List BookEvent
 deeds_by client (Look part) = []
 deeds_by client (Renew moment found) = []
@@ -30,13 +30,15 @@ abbrev pub keeper_deeds : List Event → List BookEvent
 keeper_deeds [] = []
 keeper_deeds (event ∷ events) = keeper_deeds events ++ deeds_by event.client event.deed
 
--- What an entry did to leases, by what its effect does to who is live. By a call the lease of a client that became live
--- was opened, and that of one that was replaced was retired; the end of a client is the closing of its lease.
+-- How an entry began and ended leases, by what its effect does to who is live. By a call the lease of a client that
+-- became live was opened at the call's moment, and then that of one that it replaces was retired; the end of a client
+-- is the closing of its lease.
 abbrev pub deeds_at : Entry → LiveChange → List BookEvent
 deeds_at (entries.Call call) change = events_of_change change call.request.moment
 deeds_at (entries.Expire end) change = book.Close end.client end.seen end.now closing.Closed ∷ []
 deeds_at (entries.Revoke revoke) change = []
 deeds_at (entries.Path path) change = []
+deeds_at (entries.Forget forget) change = []
 
 -- Starting in the state old with this journal, the entries lead one after the other to the state new, and these are their
 -- deeds, in order.

@@ -73,8 +73,9 @@ abbrev pub given_in : List SeatView → ℕ
 given_in [] = 0
 given_in (seat ∷ rest) = seat.receipts.given + given_in rest
 
--- Among these events each renewal that was answered comes in time for the journal: where the journal has the end of its
--- client, the moment of the renewal isn't above the one that was seen last, and the lease was over since.
+-- Each renewal among these events that was answered comes in time for the journal: where the journal has the end of its
+-- client, the renewal's moment isn't above the one that this end saw, and at the end's own moment the lease was over
+-- since the renewal.
 abbrev pub InTime : ℕ → List Entry → List Event → Type 0
 InTime lease journal events =
     (client moment found seen now : ℕ)
@@ -82,7 +83,7 @@ InTime lease journal events =
     → Contains journal (entries.Expire (expire_of client seen now))
     → (moment ≤ seen) × IsTrue (is_over moment lease now)
 
--- each renewal that was answered to one of these seats
+-- each renewal that was answered to one of these seats comes in time for the journal
 abbrev pub AllInTime : ℕ → List Entry → List SeatView → Type 0
 AllInTime lease journal seats =
     (k : ℕ) (seat : SeatView) → slice_get seats k ≡ Some seat

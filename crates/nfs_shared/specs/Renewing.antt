@@ -16,7 +16,7 @@ RenewsAs (Some client) moment (Some answer) old new = Renews old client moment a
 abbrev pub RenewsFor : Option ℕ → ℕ → Sitting → Sitting → Type 0
 RenewsFor number moment old new = (answer : Option Renewal) × RenewsAs number moment answer old new
 
--- there was a lease to be renewed, and it was
+-- there is an answer, and it says that the lease was renewed
 abbrev pub was_renewed : Option Renewal → Bool
 was_renewed None = false
 was_renewed (Some answer) = is_renewed answer

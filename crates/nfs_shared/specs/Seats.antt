@@ -28,7 +28,7 @@ fresh words place = record {
   leases = worker_at words;
 }
 
--- the seat with this of leases
+-- the seat, with this in the place of its seat at the lease words
 abbrev pub with_leases : SeatView → Sitting → SeatView
 with_leases seat leases = record {
   place = seat.place;

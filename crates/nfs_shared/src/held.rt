@@ -166,6 +166,7 @@ fn answer_with_room(
     ensures places { places.new.items ≡ places.old.items }
     ensures room { IfSome result.1 (λ _. vec_len places.new < vec_capacity places.new) }
 {
+    // That the journal leads to what is stored is known of a core that was looked at.
     leased.core.journal();
     if places.reserve(1).is_err() {
         let opnum = request.op.opnum();
@@ -187,13 +188,16 @@ fn call_at(core: &Core, number: u32) -> SeenCall
     SeenCall::of(call)
 }
 
-/// Goes through the live clients, and removes each whose lease is over at `now`. Then it revokes the delegations that are
-/// due, until none is, or there is no room for an entry. No receipt is made: the entries are the sweeper's.
+/// Goes through the live clients, and removes each whose lease is over at `now`, but for those that are renewed between
+/// the look and the closing, and those for whose entry there is no room. Then it revokes the delegations that are due, and
+/// then forgets the open owners that may be forgotten, until none is left of both, or there is no room for an entry. No
+/// receipt is made: the entries are the sweeper's.
 pub fn sweep_held<N: Naming>(held: &mut Held<N>, sweeper: &mut Sweeper<N>, now: Moment) -> Swept
     ensures sweeps { Sweeps Happens now (leased_server held.old.server held.old.leases) result
         (leased_server held.new.server held.new.leases) }
     ensures known { SweeperMayFind N.start sweeper.old held.old }
-    ensures count { sweeper.new.count ≡ sweeper.old.count + result.expired + result.revoked }
+    ensures count { sweeper.new.count
+        ≡ sweeper.old.count + result.expired + result.revoked + result.forgotten }
     ensures queue { HasQueued held.old held.new }
     ensures places { held.new.places ≡ held.old.places }
     ensures receipts { held.new.receipts ≡ held.old.receipts }
@@ -203,7 +207,7 @@ pub fn sweep_held<N: Naming>(held: &mut Held<N>, sweeper: &mut Sweeper<N>, now: 
     held.other_count.audit(&mut sweeper.share);
     let swept = held.leased.sweep(now);
     recalls_are_left(&held.leased.core);
-    let entries = swept.expired as u64 + swept.revoked as u64;
+    let entries = swept.expired as u64 + swept.revoked as u64 + swept.forgotten as u64;
     held.other_count.add(&mut sweeper.share, entries);
     swept
 }

@@ -29,8 +29,8 @@ abbrev pub HoldsTheSame : Holding → Holding → Type 0
 HoldsTheSame old new = KnowsTheSame old.seat new.seat × (new.receipts ≡ old.receipts)
 
 -- The receipt for an operation, if there is one. Without a receipt the answer is NFS4ERR_RESOURCE. A receipt is for
--- this request with this answer, it is the seat's, and it comes after those that it was given before. It changes nothing
--- of what the seat knows of leases since the renewal before it.
+-- this request with this answer, it is the seat's, and it comes after those that it was given before. What the seat
+-- knows of leases isn't compared here.
 abbrev pub IsReceived : Holding → Request → OpResult → Option Receipt → Holding → Type 0
 IsReceived old request answer None new = (answer ≡ resource request.op) × HoldsTheSame old new
 IsReceived old request answer (Some receipt) new =
@@ -39,8 +39,9 @@ IsReceived old request answer (Some receipt) new =
     × Gives (with_leases old.seat new.seat.leases) receipt new.seat
     × (new.receipts ≡ old.receipts ++ receipt ∷ [])
 
--- How a desk answers a question, in the run with this epoch. The lease of the client that an operation names is renewed,
--- once, and no other; RENEW renews the lease of its client, and is answered NFS4_OK exactly where that was renewed.
+-- How a desk answers a question, in the run with this epoch. Of leases its seat gains just what one renewal adds: for
+-- an operation that of the client that it names, if it names one of this run, also where it is answered
+-- NFS4ERR_RESOURCE; for RENEW that of its client, and RENEW is answered NFS4_OK exactly where that lease was renewed.
 abbrev pub GivenBySeat : ℕ → Holding → Question → OpResult → Holding → Type 0
 GivenBySeat epoch old (Operation request) answer new =
     RenewsFor (renewed_by epoch request.op) request.moment old.seat.leases new.seat.leases

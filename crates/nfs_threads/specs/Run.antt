@@ -15,8 +15,8 @@ use Rattle.nfs_threads.specs.declared.worker_account.WorkerAccount.{WorkerAccoun
 use Rattle.nfs_threads.specs.declared.tcp_links.TcpLinks.{TcpLinks}
 use Rattle.nfs_words.specs.Sitting.{Words}
 
--- Each of these accounts is of a shift of the links at an unused seat, which became this one. The places of the seats go
--- up from this one, and they are at these lease words.
+-- Each of these accounts is of a shift of the links at an unused seat, which the shift left as the seat here. The seats
+-- are at these lease words, and their places go up from this place.
 abbrev pub AreAccounts : {L D C : Type 0} → Linking L D C → Files → L → Words → ℕ
     → List WorkerAccount → List SeatView → Type 0
 AreAccounts linking tree links words place [] [] = Unit {0}

@@ -19,8 +19,8 @@ use std::sync::Wait;
 pub struct Desk<'a, N: Naming, R: Wait> {
     rt: &'a R,
     shared: &'a Shared<N>,
-    // Whether a batch is under way, and the hold of the lock in which it is answered. What asks for no operation takes
-    // none.
+    // Whether a batch is under way, and the hold of the lock in which it is answered. A batch that asks nothing but
+    // RENEW takes none.
     is_batch: bool,
     hold: Option<Hold<'a, 'a, N, R>>,
     seat: Seat<N>,
@@ -110,7 +110,7 @@ impl<'a, N: Naming, R: Wait> Service for Desk<'a, N, R> {
     }
 
     fn call(&mut self, request: Request) -> OpResult {
-        // The lease is renewed before the lock is waited for.
+        // The lease is renewed before the lock is waited for, unless the batch has it already.
         self.shared
             .renew_named(&mut self.seat, &request.op, request.moment);
         let hold = hold_in(&mut self.hold, self.rt, self.shared);
@@ -131,7 +131,8 @@ impl<'a, N: Naming, R: Wait> Service for Desk<'a, N, R> {
     }
 }
 
-// The hold in which an operation is answered: that of the batch, which takes the lock at its first operation.
+// The hold in which an operation other than RENEW is answered: that of the batch, which takes the lock at the first
+// such operation.
 fn hold_in<'h, 'a, N: Naming, R: Wait>(
     hold: &'h mut Option<Hold<'a, 'a, N, R>>,
     rt: &'a R,

@@ -1,4 +1,4 @@
-ghost use Rattle.std.specs.Prelude.{◌≡◌, ◌≤◌, IfOk, List, length, map};
+ghost use Rattle.std.specs.Prelude.{◌≡◌, IfOk, length, map};
 ghost use Rattle.nfs_threads.specs.Rooms.{AllHaveRoom, HaveRoom};
 ghost use Rattle.nfs_threads.specs.Worker.{seats_back};
 

@@ -1,5 +1,4 @@
-ghost use Rattle.std.specs.Prelude.{◌≡◌, ◌≤◌, ℕ, List, [], length, vec_capacity, vec_len, IfOk, IfErr};
-ghost use Rattle.std.specs.List.{AllByRecursion};
+ghost use Rattle.std.specs.Prelude.{◌≡◌, ◌≤◌, List, [], length, vec_capacity, vec_len, IfOk, IfErr};
 ghost use Rattle.nfs_threads.specs.WorkerThread.{AreWorkers};
 ghost use Rattle.nfs_threads.specs.Worker.{AreEndsOf, AreUnused, linking, seats_of};
 ghost use Rattle.nfs_shared.specs.Seats.{SeatView};

@@ -179,10 +179,11 @@ resting_word (suc generation) = word_with generation closed_part
 abbrev pub resting_word_of : ℕ → List Event → ℕ
 resting_word_of slot events = resting_word (count_opened slot events)
 
--- by the events, the client's lease is open; it, or that of a later generation of its slot, was opened
+-- by the events, the client's lease is open
 abbrev pub is_open_by : List Event → ℕ → Bool
 is_open_by events client = is_standing (phase_of (deeds_of client events))
 
+-- by the events, the client's lease, or that of a later generation of its slot, was opened
 abbrev pub was_opened_by : List Event → ℕ → Bool
 was_opened_by events client = was_opened (phase_of (deeds_of client events))
 

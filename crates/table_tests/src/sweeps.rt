@@ -1,11 +1,11 @@
-//! A sweep between whose look and closing the lease is renewed. Its other answers are in rows.
+//! A sweep between whose look and closing a worker renews the lease. Its other answers are in rows.
 
 ghost use Rattle.std.specs.Prelude.{IfSome, IsTrue};
 ghost use Rattle.nfs_xdr.specs.Op.{has_entry};
 
 use crate::renewing::Renewing;
 use nfs_core::Core;
-use nfs_leases::{LeaseBook, LeasedCore, PlainLeases, Swept};
+use nfs_leases::{LeaseBook, LeasedCore, Swept};
 use nfs_operations::setclientid::Setclientid;
 use nfs_operations::setclientid_confirm::SetclientidConfirm;
 use nfs_state::{Moment, Request, Seeds};
@@ -44,18 +44,17 @@ fn introduction(alloc: Global, id: &[u8]) -> Option<Op>
     Some(Op::Setclientid(arguments))
 }
 
-/// A core that no client has come to, with a book of leases that are renewed behind the sweep's back; none where memory
+/// A core that no client has come to, with lease words in which a worker renews behind the sweep's back; none where memory
 /// was refused.
 fn start(alloc: Global, seeds: Seeds) -> Option<LeasedCore<Renewing>> {
     let tree = Tree::from_toml(alloc, "file = [{ path = \"a\" }]").ok()?;
-    let Ok(leases) = PlainLeases::new(alloc, 90) else {
+    let Ok(book) = Renewing::new(alloc, 90) else {
         return None;
     };
     let Ok(core) = Core::new(alloc, &tree, 90, 7, tree.policy(), seeds) else {
         return None;
     };
-    let moment = Moment::new(100).unwrap();
-    Some(LeasedCore::new(core, Renewing { leases, moment }))
+    Some(LeasedCore::new(core, book))
 }
 
 /// The same, asked for once more where memory was refused.
@@ -129,10 +128,8 @@ fn is_confirmed(answer: &OpResult) -> bool {
 /// The client's lease is renewed after the look, and so the client stays. Without room for its end it isn't asked to
 /// close, and the next sweep comes when the lease is over again.
 fn change(rt: &impl Abort, leased: &mut LeasedCore<Renewing>) {
-    leased.book.moment = Moment::new(150).unwrap();
     let mut swept = leased.sweep(Moment::new(191).unwrap());
     if swept.refused == 1 {
-        leased.book.moment = Moment::new(250).unwrap();
         swept = leased.sweep(Moment::new(300).unwrap());
     }
     assert!(rt;

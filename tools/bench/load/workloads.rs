@@ -199,6 +199,7 @@ impl Workload for LockUnlock {
 pub const WORKLOADS: [&str; 7] = ["null", "getattr", "renew", "open", "lock", "read", "write"];
 
 /// What the connections of a load do.
+#[derive(Clone)]
 pub struct Plan {
     pub workload: String,
     pub path: Vec<Vec<u8>>,
@@ -210,11 +211,6 @@ pub struct Plan {
 }
 
 impl Plan {
-    /// Whether each call has bytes of a file, which a server may keep in its journal.
-    pub fn has_bytes(&self) -> bool {
-        matches!(self.workload.as_str(), "read" | "write")
-    }
-
     /// The workload of one connection, with what it needs made before.
     pub fn prepare(&self, connection: &mut Connection, number: usize) -> Outcome<Box<dyn Workload>> {
         let name = format!("load-{number}");

@@ -1,5 +1,5 @@
 -- The next seat at the lease words is the first of those that are left.
-use Rattle.std.proofs.Common.{◌≡◌, List, ◌∷◌, arith, rules, subst}
+use Rattle.std.proofs.Common.{◌≡◌, List, arith, rules, subst}
 use Rattle.std.proofs.lemmas.List.Elements.{All-head, All-tail}
 use Rattle.std.specs.List.{All}
 use Rattle.std.specs.Vec.Iter.{into_iter_items}

@@ -1,6 +1,6 @@
-use Rattle.std.proofs.Common.{◌≡◌, ◌++◌, ℕ, List, [], None, length, ap, rules, subst, sym, ◌∙◌, arith}
+use Rattle.std.proofs.Common.{◌≡◌, ◌++◌, ℕ, List, [], None, length, ap, rules, subst, sym, ◌∙◌}
 use Rattle.std.specs.List.{All}
-use Rattle.nfs_core.specs.Recalls.{AreLeftOf, AreRecallsOf}
+use Rattle.nfs_core.specs.Recalls.{AreLeftOf}
 use Rattle.nfs_core.specs.Safe.{IsSafe}
 use Rattle.nfs_core.specs.Server.{IsLawful, Server}
 use Rattle.nfs_leases.specs.laws.Agreeing.{fresh_book_agrees}
@@ -14,7 +14,6 @@ use Rattle.nfs_shared.specs.Receipts.{calls_in, others_in, receipts_of}
 use Rattle.nfs_shared.specs.Roll.{list_of, writer_of}
 use Rattle.nfs_shared.specs.declared.receipt.Receipt.{Receipt}
 use Rattle.nfs_shared.proofs.Beginning.{none_done, none_left, none_made}
-use Rattle.nfs_state.specs.State.{History}
 use Rattle.nfs_state.specs.Stored.{meaning}
 use Rattle.nfs_state.specs.declared.entry.Entry.{Entry}
 use Rattle.nfs_words.specs.Calls.{FitsTable, worker_at}

@@ -1,7 +1,6 @@
 -- A receipt that the seat is given is kept after those before. Without one the seat keeps those.
-use Rattle.std.proofs.Common.{◌≡◌, ◌∙◌, Option, Some, ap, refl, subst, sym}
+use Rattle.std.proofs.Common.{◌≡◌, Option, Some, ap, subst, sym}
 use Rattle.std.specs.Prelude.{IfNone, IfSome}
-use Rattle.nfs_shared.specs.Ends.{IsKept}
 use Rattle.nfs_shared.specs.Renewing.{RenewsFor}
 use Rattle.nfs_shared.specs.Seats.{Gives, KnowsTheSame, SeatView, with_leases}
 use Rattle.nfs_shared.specs.declared.receipt.Receipt.{Receipt}
