@@ -156,13 +156,13 @@ due_alike now mid new alike none =
 true_not_false : (b : Bool) → b ≡ true → IsFalse b → ⊥
 true_not_false b h k = cc
 
--- A sweep that doesn't stop leaves no delegation that is due.
+-- A sweep that doesn't stop at a delegation leaves none that is due.
 pub due_after : (halted : Bool) (now : ℕ) (numbers : List ℕ) (owners : List OpenOwner) (stopped : Bool)
     (old mid new : Server)
     → RevokesDue now numbers halted old mid → ForgetsUnless halted now owners stopped mid new
     → (NoneIsDue mid now → NoneIsDue new now)
-    → IsFalse stopped → NoneIsDue new now
-due_after true now numbers owners stopped old mid new revokes forgets stay going = absurd (true_not_false stopped forgets.1 going)
+    → IsFalse halted → NoneIsDue new now
+due_after true now numbers owners stopped old mid new revokes forgets stay going = absurd (true_not_false true refl going)
 due_after false now numbers owners stopped old mid new revokes forgets stay going = stay revokes.last.0
 
 -- The book stays that of the core's clients where an owner is forgotten, and where none is.

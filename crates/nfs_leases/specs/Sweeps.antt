@@ -154,8 +154,8 @@ pub record Sweeps {Book : Type 0} (happens : Book → BookEvent → Book → Typ
   pub ends : EndsClients happens now visits old (leased_server ended new.book)
   pub revokes : RevokesDue now numbers halted ended revoked
   pub forgets : ForgetsUnless halted now owners swept.stopped revoked new.core
-  -- at the end no delegation is due, unless it stopped
-  pub due : IsFalse swept.stopped → NoneIsDue new.core now
+  -- at the end no delegation is due, unless it stopped at one
+  pub due : IsFalse halted → NoneIsDue new.core now
   pub counts : swept ≡ record (tally none_swept visits) {
     revoked = length numbers;
     forgotten = length owners;
