@@ -9,6 +9,7 @@ from between_calls import ANSWERED, Call, Reply, is_same_but_for_xid, name_of
 from between_owners import Owners
 from between_plan import STATUSES, Rule
 from serving import say
+from wire import Opnum, Status
 from words import STATUS_NAMES
 
 # The sections of RFC 7530 that say what a client and a server have to do.
@@ -34,7 +35,9 @@ class Case:
     status: int = None
     is_moving: bool = None
     has_come: bool = False
-    begun: float = field(default_factory=time.monotonic)
+    # When the call came, and when the fault was done.
+    came: float = field(default_factory=time.monotonic)
+    begun: float = 0
 
     @property
     def head(self):
@@ -55,10 +58,11 @@ class Missed:
 
 
 class Tale:
-    """What is told, and what is known for that: the calls that may come again, and the owners."""
+    """What is told, and what is known for that: the calls that may come again, the owners, and the seconds of the
+    server's lease."""
 
-    def __init__(self, rules):
-        self.rules, self.owners, self.missed = rules, Owners(), []
+    def __init__(self, rules, lease):
+        self.rules, self.lease, self.owners, self.missed = rules, lease, Owners(), []
         self.connections = self.calls = self.faults = self.wrong = 0
         self.is_over = False
 
@@ -207,8 +211,16 @@ class Tale:
             self.say_of(case, f"{answered}, without its {call.request.name}")
         elif first == now:
             self.say_of(case, f"{answered}, the kept answer")
+        elif self.may_be_forgotten(case, reply):
+            self.say_of(case, f"{answered}, as of an owner that is forgotten")
         else:
             self.say_wrong(case, f"{answered}, another answer than {case.reply.words()} {KEPT}")
+
+    def may_be_forgotten(self, case, reply):
+        """Whether this may be the answer to the call since the server has forgotten its owner meanwhile: as it may one
+        without opens, when a lease has passed since its last request (RFC 7530, section 9.1.10)."""
+        return (case.call.request.number == Opnum.CLOSE and reply.status == Status.BAD_STATEID
+                and time.monotonic() - case.came > self.lease)
 
     # The end.
 

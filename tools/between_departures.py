@@ -1,18 +1,20 @@
 """What clients and servers make of faults, also where they don't do as RFC 7530 says, and what `tools/between` has to
 tell of it. Each case has rules, separated by |, a client and its peer, and what a server answers to calls that come
 again, if it isn't what it should; then the words of the lines that are told as WRONG, each of which has one here, words
-that come in others, and a status, if it isn't 1 where something is wrong and else 0."""
+that come in others, a status, if it isn't 1 where something is wrong and else 0, and options."""
 from collections import namedtuple
 
-from between_peers import (Ahead, GivingUp, Hurrying, Impatient, Patient, Renumbering, Resender, Resetting, Respelling,
-                           Stuck, Wandering, forgets_a_close, gives_another_stateid)
+from between_peers import (Ahead, Content, GivingUp, Hurrying, Impatient, Late, Patient, Renumbering, Resender,
+                           Resetting, Respelling, Stuck, Wandering, forgets_a_close, gives_another_stateid)
 
-Case = namedtuple("Case", "name rules client peer change wrong told status", defaults=(
-    Patient, Resender, None, (), (), None))
+Case = namedtuple("Case", "name rules client peer change wrong told status options", defaults=(
+    Patient, Resender, None, (), (), None, ()))
 AGAIN, ORDER, KEPT = (rf" \(RFC 7530, section {section}\)$" for section in (r"3\.1\.1", r"9\.1\.7", r"9\.1\.8"))
 FORGOTTEN = rf"WRONG 1: answered \S*BAD_STATEID, another answer than \S*OK{KEPT}"
+ANOTHER = rf"^WRONG 1: answered \S*OK, another answer than \S*OK{KEPT}"
 STANDS = rf"comes again on .*connection.*, which stands{AGAIN}"
 IN_ITS_PLACE = rf"^WRONG 1: in its place comes OPEN_DOWNGRADE.* s later, on connection 2{ORDER}"
+A_SECOND = "--lease", "1"
 CASES = [
     Case("no rule", "", told=["11 calls, 0 faults, 0 wrong"]),
     Case("faults one after the other",
@@ -60,6 +62,8 @@ CASES = [
     Case("ends a connection", "hold 8 READ each 1", peer=Impatient, told=["^1: comes again", r"\b1 faults, 0 wrong"]),
     Case("resets a connection", "hold 8 READ each 1", peer=Resetting, told=["^1: comes again", r"\b1 faults, 0 wrong"]),
     Case("resets one at a LOCK", "hold 8 LOCK 2", peer=Resetting, told=["^1: answered .*OK, the kept answer"]),
+    Case("an owner that is forgotten", "lose-reply CLOSE 1", Content, Late, forgets_a_close, options=A_SECOND,
+         told=[r"^1: answered \S*BAD_STATEID, as of an owner that is forgotten$", r"\b1 faults, 0 wrong"]),
     Case("moves on", "lose-reply CLOSE 1", Wandering, GivingUp, wrong=[IN_ITS_PLACE]),
     Case("moves on behind a cut reply", "cut-reply CLOSE 1", Wandering, GivingUp, wrong=[IN_ITS_PLACE]),
     Case("moves on behind a lost call", "lose-call CLOSE 1", Wandering, GivingUp, wrong=[IN_ITS_PLACE]),
@@ -77,7 +81,10 @@ CASES = [
          wrong=[rf"^WRONG 1: its LOCK wasn't run, and the sequence id moves on: .*{ORDER}"]),
     Case("forgetful", "lose-reply CLOSE 1", change=forgets_a_close, wrong=[FORGOTTEN]),
     Case("forgetful, of a cut reply", "cut-reply CLOSE 1", change=forgets_a_close, wrong=[FORGOTTEN]),
+    Case("forgetful within a lease", "lose-reply CLOSE 1", peer=Late, change=forgets_a_close, wrong=[FORGOTTEN]),
     Case("forgetful, twice", "twice CLOSE 1", change=forgets_a_close, wrong=[FORGOTTEN]),
     Case("another stateid", "lose-reply LOCK 2", change=gives_another_stateid,
-         wrong=[rf"^WRONG 1: answered \S*OK, another answer than \S*OK{KEPT}"]),
+         wrong=[ANOTHER]),
+    Case("another stateid a lease later", "lose-reply LOCK 2", peer=Late, change=gives_another_stateid,
+         wrong=[ANOTHER], options=A_SECOND),
 ]

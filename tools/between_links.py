@@ -398,8 +398,8 @@ class Link:
 class Between:
     """All connections, what is told of them, and the addresses of callbacks that stand for those of clients."""
 
-    def __init__(self, rules):
-        self.tale, self.lock, self.live, self.away_until = Tale(rules), threading.RLock(), set(), 0
+    def __init__(self, rules, lease):
+        self.tale, self.lock, self.live, self.away_until = Tale(rules, lease), threading.RLock(), set(), 0
         self.addresses, self.is_called = {}, any(rule.is_of_callbacks for rule in rules)
         # How many connections there are, with those that begin; and how many links there were, by whether of callbacks.
         self.there = 0

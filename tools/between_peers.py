@@ -79,6 +79,14 @@ class GivingUp(Resender):
         raise GaveUp
 
 
+class Late(Resender):
+    """Sends a call again only when a lease of a second has passed."""
+
+    def send_again(self):
+        time.sleep(1.2)
+        super().send_again()
+
+
 class Renumbering(Resender):
     """Sends a call again by another xid."""
 
@@ -231,6 +239,13 @@ class Ahead(Patient):
 
     def moves_on(self, status, is_run):
         return True
+
+
+class Content(Patient):
+    """Takes any answer to its CLOSE that doesn't put it off."""
+
+    def close(self):
+        self.attempt(lambda last: self.at_file(self.close_words(last)), "last")
 
 
 class Wandering(Patient):

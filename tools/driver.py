@@ -18,7 +18,7 @@ PROGRAM = os.path.join(TOP, "crates/rows/out/rows")
 # The ways to keep the state: each connection is served alone, with a core of its own; or each by a thread and a seat of
 # its own, with a state that they share.
 ALONE, SHARED = 0, 1
-SERVE, SWEEP, MARK, REVOKE, TAKE, PENDING, PROBE = range(1, 8)
+SERVE, SWEEP, MARK, REVOKE, TAKE, PENDING, PROBE, FORGET = range(1, 9)
 # The seconds in which an order has to be answered, on however busy a machine.
 PATIENCE = 300
 # By the number of an error: the fault with which a connection ends.
@@ -30,11 +30,12 @@ Ended = namedtuple("Ended", "fault replies receipts")
 # What came of those that were served at once; and of the sweeps meanwhile: how many they were, and how many clients
 # they removed.
 Served = namedtuple("Served", "ended sweeps expired")
-# What came of a sweep; of a mark, the number of an error, or 0; and of a revocation this, how many delegations were
-# revoked (0 or 1), and the number of the entry, or 0.
-Swept = namedtuple("Swept", "expired kept changed refused revoked stopped")
+# What came of a sweep; of a mark, the number of an error, or 0; of a revocation this, how many delegations were revoked
+# (0 or 1), and the number of the entry, or 0; and the same of a forgetting, with how many owners were forgotten.
+Swept = namedtuple("Swept", "expired kept changed refused revoked forgotten stopped")
 Marked = namedtuple("Marked", "error")
 Revoked = namedtuple("Revoked", "error revoked entry")
+Forgotten = namedtuple("Forgotten", "error forgotten entry")
 # The errors of changes that no call asks for: the client isn't live, the journal is full, memory is refused.
 NOT_LIVE, FULL, MEMORY = 1, 3, 4
 
@@ -127,6 +128,11 @@ class Driver:
         """Takes the delegation that is due at this moment, if one is; only where each connection is served alone."""
         self.send(u32(REVOKE) + u64(moment))
         return Revoked(*[self.word() for _ in Revoked._fields])
+
+    def forget(self, moment):
+        """Forgets the open owner that is due at this moment, if one is; only where each connection is served alone."""
+        self.send(u32(FORGET) + u64(moment))
+        return Forgotten(*[self.word() for _ in Forgotten._fields])
 
     def take_recall(self, xid):
         """The record of the first recall that waits, with this xid; or nothing where none waits. Where threads share

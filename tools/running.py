@@ -3,12 +3,13 @@ wrong."""
 from collections import namedtuple
 from functools import partial
 
-from driver import ALONE, Driver, Ended, Failed, MEMORY, Marked, NOT_LIVE, Revoked, SHARED, Swept
-from entries import Call, Revoke as Entry
+from driver import ALONE, Driver, Ended, Failed, Forgotten, MEMORY, Marked, NOT_LIVE, Revoked, SHARED, Swept
+from entries import Call, Forget as OwnerForgotten, Revoke as DelegationRevoked
 from journal import NotJournal, read_journal
 from tree import DEFAULT
+from wire import OpenOwner
 
-from rows import Mark, ORDERS, Part, Pending, Probe, Revoke, Sweep, Take, order_line, words_beside
+from rows import Forget, Mark, ORDERS, Part, Pending, Probe, Revoke, Sweep, Take, order_line, words_beside
 
 # A read of the server asks for less than this, so that such pieces don't cut an input.
 WHOLE = 1 << 20
@@ -25,8 +26,8 @@ Outcome = namedtuple("Outcome", "wrong journal")
 def run(row, way, piece, is_again=False, **program):
     """Runs a row on a server of its own. Its parts are served one after another; with `is_again`, one that goes wrong
     is sent once more to the same server, as by a client that asks again where it was refused memory; a sweep is made
-    once more, which removes the clients and takes the delegations for whose ends there was none; and so is a mark or a
-    revocation for which there was none."""
+    once more, which removes the clients, takes the delegations and forgets the owners for whose ends there was none;
+    and so is a mark, a revocation or a forgetting for which there was none."""
     # In the first way nobody looks at them.
     seats = 0 if way == ALONE else sum(isinstance(step, Part) for step in row.steps) * (2 if is_again else 1)
     document = DEFAULT if row.document is None else row.document
@@ -41,7 +42,7 @@ def run(row, way, piece, is_again=False, **program):
         entries = entries_of(journal)
         if entries is not None:
             expect_receipts(driver.receipts, entries, way)
-        return Outcome(wrong or wrongly_revoked(row.steps, came, entries), journal)
+        return Outcome(wrong or wrongly_ended(row, came, entries), journal)
 
 
 def entries_of(journal):
@@ -59,13 +60,19 @@ def expect_receipts(receipts, entries, way):
         raise Failed(f"the receipts {receipts} aren't those of the journal's calls")
 
 
-def wrongly_revoked(steps, came, entries):
-    """The first revocation whose entry is another one than the row wants, if one is."""
-    for place, (step, got) in enumerate(zip(steps, came)):
-        if isinstance(step, Revoke) and got.revoked and entries is not None:
-            if entries[got.entry:got.entry + 1] != [Entry(step.state, step.moment)]:
+def wrongly_ended(row, came, entries):
+    """The first revocation or forgetting whose entry is another one than the row wants, if one is."""
+    for place, (step, got) in enumerate(zip(row.steps, came)):
+        if isinstance(step, (Revoke, Forget)) and got[1] and entries is not None:
+            if entries[got.entry:got.entry + 1] != [entry_wanted(step, row.epoch)]:
                 return Wrong(place, got)
     return None
+
+
+def entry_wanted(step, epoch):
+    if isinstance(step, Revoke):
+        return DelegationRevoked(step.state, step.moment)
+    return OwnerForgotten(OpenOwner(epoch, *step.owner), step.moment)
 
 
 def first_wrong(driver, steps, piece, is_again, came):
@@ -75,7 +82,7 @@ def first_wrong(driver, steps, piece, is_again, came):
         if is_again and not is_right(step, got):
             if not may_come_first(step, got):
                 return Wrong(place, got)
-            got = after(got, take(driver, step, piece, is_again))
+            got = after(step, got, take(driver, step, piece, is_again))
         if not is_right(step, got):
             return Wrong(place, got)
         came.append(got)
@@ -91,6 +98,8 @@ def take(driver, step, piece, has_room):
             return driver.mark(client, is_up)
         case Revoke(moment):
             return driver.revoke(moment)
+        case Forget(moment):
+            return driver.forget(moment)
         case Take():
             return driver.take_recall(step.xid)
         case Pending():
@@ -102,29 +111,36 @@ def take(driver, step, piece, has_room):
 
 def may_come_first(step, got):
     """Whether this may come of a step, instead of what is wanted, where memory was refused to it. Of a sweep each
-    client that is live was removed, kept, or refused; and where delegations are left that are due, it has stopped."""
+    client that is live was removed, kept, or refused. Where delegations are left that are due, it has stopped, and has
+    forgotten nobody; and also where owners are left that are. Those of a client that was refused may be among these."""
     match got:
-        case Swept(expired, kept, 0, refused, revoked, stopped):
-            is_stopped = stopped == 1 and revoked < step.revoked
-            return expired + kept + refused == step.expired + step.kept and (is_stopped or revoked == step.revoked)
-        case Marked(error) | Revoked(error, 0, 0):
+        case Swept(expired, kept, 0, refused, revoked, forgotten, stopped):
+            wanted, came = (step.revoked, step.forgotten), (revoked, forgotten)
+            is_stopped = stopped == 1 and came < wanted and (revoked == step.revoked or forgotten == 0)
+            is_more = refused > 0 and revoked == step.revoked and forgotten > step.forgotten
+            is_ended = stopped == 0 and (came == wanted or is_more)
+            return expired + kept + refused == step.expired + step.kept and (is_stopped or is_ended)
+        case Marked(error) | Revoked(error, 0, 0) | Forgotten(error, 0, 0):
             return error == MEMORY
     return isinstance(step, Part)
 
 
-def after(first, second):
-    """What came of a step that was taken twice: what a sweep removed and took is that of both times."""
+def after(step, first, second):
+    """What came of a step that was taken twice: what a sweep removed, took and forgot is that of both times. The owners
+    of a client that was refused at first don't count, as they go with it where nothing is."""
     if not isinstance(second, Swept):
         return second
-    return second._replace(expired=first.expired + second.expired, revoked=first.revoked + second.revoked)
+    forgotten = min(first.forgotten + second.forgotten, step.forgotten if first.refused else 2**32)
+    return second._replace(expired=first.expired + second.expired, revoked=first.revoked + second.revoked,
+                           forgotten=forgotten)
 
 
 def wanted_of(step):
     """What is to come of an order."""
     match step:
-        case Sweep(_, expired, kept, revoked):
+        case Sweep(_, expired, kept, revoked, forgotten):
             # Nobody else renews in between, and there is memory and room in the journal.
-            return Swept(expired, kept, changed=0, refused=0, revoked=revoked, stopped=0)
+            return Swept(expired, kept, changed=0, refused=0, revoked=revoked, forgotten=forgotten, stopped=0)
         case Mark(_, _, is_live):
             return Marked(0 if is_live else NOT_LIVE)
         case Take(record):
@@ -136,9 +152,9 @@ def wanted_of(step):
 
 
 def is_right(step, got):
-    if isinstance(step, Revoke):
-        # Which delegation it is, the entry says.
-        return got[:2] == (0, step.state is not None)
+    if isinstance(step, (Revoke, Forget)):
+        # Which delegation or owner it is, the entry says.
+        return got[:2] == (0, (step.state if isinstance(step, Revoke) else step.owner) is not None)
     if isinstance(step, ORDERS):
         return got == wanted_of(step)
     return (got.replies, got.fault) == (step.wanted, step.fault)

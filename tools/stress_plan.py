@@ -4,8 +4,9 @@ Nobody knows in which order the connections are served, so the calls can't be ma
 order: the connection that comes alone makes clients, opens and lock states, whose numbers are therefore known. Each of
 the others has open owners and lock owners of its own, and guesses what comes of its calls: in ranges that nobody else
 locks, nearly all of them succeed. Other calls meet each other. Files that are lent have other owners, whose calls go by
-no state: some give delegations, some call them back, and some come by them or give them back. One of the connections
-has a client come and end and come again, whose number is of one of few slots."""
+no state: some give delegations, some call them back, and some come by them or give them back. Other owners have no open
+and are forgotten after a while: their last CLOSE comes again, and so do they. One of the connections has a client come
+and end and come again, whose number is of one of few slots."""
 import random
 from collections import namedtuple
 from dataclasses import dataclass, field
@@ -40,7 +41,9 @@ FILES = {1: (b"a",), 2: (b"b",), 4: (b"d", b"c")}
 LENT_FOR_READING = {5 + number: b"read %d" % number for number in range(4)}
 LENT_FOR_WRITING = {8 + client: b"written %d" % client for client in range(1, CLIENTS + 1)}
 LENT = LENT_FOR_READING | LENT_FOR_WRITING
-DOCUMENT = 'policy.callbacks = "assume"\n' + DEFAULT
+# What a CLOSE does where bytes are locked, by how many bytes a read brings.
+CLOSE_LOCKS = {SMALL: "free", LARGE: "refuse"}
+DOCUMENT = 'policy = {{ callbacks = "assume", close_locks = "{}" }}\n' + DEFAULT
 DOCUMENT += "".join(f'[[file]]\npath = "{name.decode()}"\n' for name in LENT.values())
 # The bytes that everybody locks; each link has as many of its own above them.
 COMMON = 100
@@ -128,6 +131,11 @@ def open_lent(lender, access, name):
     return [u32(Opnum.PUTROOTFH), open_of(lender, lender.last, access, 0, claim_null(name))]
 
 
+def last_close(one):
+    """The one by which an owner without an open has closed it."""
+    return u32(Opnum.CLOSE, 3) + stateid(2, one.client, one.number)
+
+
 def first_lock(one, name, kind, offset, length):
     """A LOCK of a new lock owner: the next request of the open's owner, and the first of the lock owner's."""
     locker = u32(1, one.last + 1) + stateid(one.seqid, one.client, one.number) + u32(1) + spelled(one.client, name)
@@ -147,8 +155,8 @@ def compounds(chunks, chance, uids=(None,)):
 
 
 class First:
-    """The connection that comes alone: it makes the clients, and for each link two opens, one with a lock; and opens
-    the files that are lent, of which each client gets delegations."""
+    """The connection that comes alone: it makes the clients, and for each link two opens, one with a lock, and an owner
+    that has closed its open; and opens the files that are lent, of which each client gets delegations."""
 
     def __init__(self, chance):
         self.chance, self.chunks, self.states = chance, [], 0
@@ -157,6 +165,7 @@ class First:
         self.opens = [self.make_open(link, turn) for turn in (0, 1) for link in range(LINKS)]
         for one in self.opens[:LINKS]:
             self.make_lock(one)
+        self.idle = [self.make_idle(link) for link in range(LINKS)]
         self.lent = []
         self.lenders = [self.make_lender(link) for link in range(LINKS)]
         self.bytes = compounds(self.chunks, chance)
@@ -174,6 +183,13 @@ class First:
         one.lock = Lock(b"locker %s" % one.owner, self.states, [1])
         self.chunks.append(([putfh(one.file), first_lock(one, one.lock.owner, WRITE, one.base, 10)], False))
         one.last += 1
+
+    def make_idle(self, link):
+        self.states += 1
+        one = Open(1 + link % CLIENTS, b"idle %d" % link, 1, self.states, [(READ, 0)])
+        words = u32(Opnum.OPEN_CONFIRM) + stateid(1, one.client, one.number) + u32(2)
+        self.chunks.append((way_to(one.file) + [open_of(one, 1, READ, 0), words, last_close(one)], False))
+        return one
 
     def make_lender(self, link):
         """It is confirmed by its first OPEN. The second one is lent what it opens, if its client hasn't got that; and
@@ -202,6 +218,7 @@ class Link:
     """One of the connections that come at once."""
     place: int
     opens: list
+    idle: Open
     lender: Lender
     lent: list
     states: int
@@ -215,7 +232,8 @@ class Link:
             self.open_denying: 1, self.open_downgrade: 2, self.open_confirm: 1, self.close: 0.4, self.again: 1,
             self.renew: 2, self.fading: 5, self.release: 3, self.confirm: 1, self.on_tree: 3, self.getattr: 2,
             self.guess: 2, self.lock_of_other: 1, self.open_lent: 3, self.call_back: 2, self.claim: 0.5,
-            self.give_back: 0.5, self.read: 3, self.write: 3, self.transfer_lent: 1}
+            self.give_back: 0.5, self.read: 3, self.write: 3, self.transfer_lent: 1, self.close_again: 1,
+            self.come_again: 0.5}
         for _ in range(self.count):
             self.chance.choices(list(makers), makers.values())[0]()
         self.bytes = compounds(self.chunks, self.chance, [None] * 15 + [5])
@@ -369,6 +387,14 @@ class Link:
         self.add(*way_to(one.file), open_of(one, one.last, 3, 0))
         one.number, one.seqid, one.pairs, one.lock = self.states + self.chance.randint(1, 40), 1, [(3, 0)], None
 
+    def close_again(self):
+        """By the owner without an open: the kept answer, until it is forgotten."""
+        self.add(putfh(self.idle.file), last_close(self.idle), may_fail=True)
+
+    def come_again(self):
+        """The first OPEN of this owner, with which it begins once it is forgotten."""
+        self.add(*way_to(self.idle.file), open_of(self.idle, 1, READ, 0), may_fail=True)
+
     def again(self):
         """The last operations once more, or those of another link's owner."""
         if self.chunks:
@@ -491,6 +517,7 @@ class Plan:
 
     def __init__(self, seed, piece=SMALL):
         chance, self.seed, self.piece = random.Random(seed), seed, piece
+        self.document = DOCUMENT.format(CLOSE_LOCKS[piece])
         first = First(chance)
         self.first = first.bytes
         # After so many calls of the one that comes alone the others begin at this moment.
@@ -503,4 +530,5 @@ class Plan:
 
     def link(self, place, first, chance):
         count = chance.choice([10, 60, 80, 100])
-        return Link(place, first.opens[place::LINKS], first.lenders[place], first.lent, first.states, chance, count)
+        own = first.opens[place::LINKS], first.idle[place], first.lenders[place]
+        return Link(place, *own, first.lent, first.states, chance, count)

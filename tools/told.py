@@ -5,7 +5,7 @@ from collections import namedtuple
 
 import messages  # It makes the model's modules known.
 
-from entries import Call, Expire, MOMENT_LIMIT, Revoke
+from entries import Call, Expire, Forget, MOMENT_LIMIT, Revoke
 from journal import states
 from model import Server
 from states import Refusal, Result, slot_of
@@ -143,7 +143,8 @@ class Judge:
     def expect_ends(self):
         """Each client whose lease ended was heard of last when its entry says, where these are all links, and none of
         their calls was refused for want of memory, which renews without an entry. What a sweep ends comes in its
-        order. (That the leases were over, and the delegations due, is a part of what an audit says.)"""
+        order. (That the leases were over, and the delegations and owners due, is a part of what an audit says; so is
+        the order of the owners.)"""
         server, begun, calls = Server(epoch=self.journal.epoch), {}, {}
         for number, entry in enumerate(self.journal.entries):
             if isinstance(entry, Call):
@@ -188,14 +189,18 @@ class Judge:
             raise Wrong(f"client {end.client} ends, seen last at {end.seen}, when it wasn't heard of")
 
     def expect_order(self):
-        """The ends of one sweep, which stand together, have one moment: first those of clients, by their numbers, and
-        then those of delegations, by theirs; and no moment goes back."""
-        ends = [(number, end) for number, end in enumerate(self.journal.entries) if isinstance(end, (Expire, Revoke))]
+        """The ends of one sweep, which stand together, have one moment: first those of clients, by their numbers, then
+        those of delegations, by theirs, and then those of owners; and no moment goes back."""
+        ends = [(number, end) for number, end in enumerate(self.journal.entries) if isinstance(end, ENDS)]
         for (place, one), (other_place, other) in zip(ends, ends[1:]):
             is_one_sweep = other_place == place + 1 and other.now == one.now
-            if other.now < one.now or is_one_sweep and rank(other) <= rank(one):
+            if other.now < one.now or is_one_sweep and rank(other, other_place) <= rank(one, place):
                 raise Wrong(f"{other} comes after {one}")
 
 
-def rank(end):
-    return isinstance(end, Revoke), end
+# What a sweep ends, in its order.
+ENDS = Expire, Revoke, Forget
+
+
+def rank(end, place):
+    return ENDS.index(type(end)), place if isinstance(end, Forget) else end

@@ -9,12 +9,13 @@ import tempfile
 import threading
 import time
 
-from entries import Expire, NotJournal, entry_bytes
-from journal import Growing, Recorder, head_bytes, journal_bytes
-from journal_cases import LAST, NOBODY, ask_for_number, confirm, open_by, sample, small, with_words
+from entries import Expire, Forget, NotJournal, entry_bytes
+from journal import EARLIER, Growing, Recorder, head_bytes, journal_bytes
+from journal_cases import (LAST, NOBODY, ask_for_number, confirm, earlier, idle, lent, open_by, sample, small,
+                           with_words)
 from reason_cases import kept_answers
 from tree import DEFAULT, Tree
-from wire import Delegreturn, OpenConfirm, Opnum, READ, Read, Stateid, Write, u32
+from wire import Delegreturn, OpenConfirm, OpenOwner, Opnum, READ, Read, Stateid, Write, u32
 from words import client_words, line_of
 
 TOOLS = os.path.join(os.path.dirname(os.path.abspath(__file__)), "..")
@@ -34,6 +35,7 @@ def beginnings():
     yield "a beginning", data
     yield "a beginning that is cut", data[:-4]
     yield "a beginning with one entry", data[:places_of(small())[1]]
+    yield "a beginning of the earlier version", beginning_of(earlier(small()))
 
 
 def places_of(journal):
@@ -79,22 +81,28 @@ def check_cuts(name, journal, step):
     return wrong
 
 
+FORGOTTEN = entry_bytes(Forget(OpenOwner(1, 1, b"A"), 191))
+
+
 def check_faults():
     """What follows whole entries, and is no beginning of one."""
     wrong, data, first = [], beginning_of(small()), places_of(small())[0]
     cases = [("no kind of entry", data + u32(9), "entry 3: no kind of entry"),
              ("more than its number", journal_bytes(small()) + u32(1), "entry 3: bytes after the last one"),
-             ("padding", with_words(data, first + 44, 0x63310001), "entry 0: padding that isn't zero")]
+             ("padding", with_words(data, first + 44, 0x63310001), "entry 0: padding that isn't zero"),
+             ("a Forget in the earlier version", beginning_of(earlier(small())) + FORGOTTEN,
+              "entry 3: no kind of entry")]
     for name, file, fault in cases:
         growing = Growing()
         growing.take(file)
         if (growing.fault, growing.is_whole()) != (fault, False):
             wrong.append(f"a beginning with {name}: {growing.fault}, not {fault}")
-    try:
-        Growing().take(b"NFSJRN01")
-        wrong.append("a beginning of another version is read")
-    except NotJournal:
-        pass
+    for version in (b"NFSJRN01", b"NFSJRN04"):
+        try:
+            Growing().take(version)
+            wrong.append(f"a beginning of another version is read, {version}")
+        except NotJournal:
+            pass
     return wrong
 
 
@@ -145,6 +153,25 @@ def check_clients():
                     if end != wanted]
 
 
+# The ends of the lines of forgettings, of names that are texts and of others.
+FORGETTINGS = {
+    Forget(OpenOwner(1, 1, b"A"), 191): 'open owner "A" of client 1 is forgotten, now 191',
+    Forget(OpenOwner(1, 257, b"a b"), 0): 'open owner "a b" of client 257 (slot 1, second) is forgotten, now 0',
+    Forget(OpenOwner(1, 2, b"\xff\0"), 2): "open owner 2 0xff000000 of client 2 is forgotten, now 2"}
+
+
+def check_forgettings():
+    """How they are shown; and what a journal of the earlier version is, when it is read: it is written as it was."""
+    wrong = [f"{entry} is shown as {line_of(entry, None)}" for entry, line in FORGETTINGS.items()
+             if line_of(entry, None) != line]
+    for journal in (earlier(small()), earlier(lent().journal())):
+        growing, entries = read_in_pieces(journal_bytes(journal), 1000)
+        again = journal_bytes(growing.head._replace(entries=entries))
+        if again != journal_bytes(journal) or not again.startswith(EARLIER):
+            wrong.append(f"a journal of the earlier version is written as {again[:8]}")
+    return wrong
+
+
 # The tools.
 
 def run(tool, *words):
@@ -193,6 +220,7 @@ def try_shown(room):
     with open(saved, "rb") as file:
         if file.read() != journal_bytes(journal._replace(entries=journal.entries[:-1])):
             room.wrong.append("tools/show_journal saves another journal")
+    try_earlier(room, saved)
     room.expect("show_journal", [room.put("head.part", whole[:20])], [HEAD_ENDS])
     room.expect("show_journal", [room.put("other", whole + b"\0")], lines, 1,
                 f"fault: not a journal: entry {count}: bytes after the last one\n")
@@ -200,6 +228,23 @@ def try_shown(room):
     early = f"fault: not a journal: {HEAD_ENDS}\n"
     room.expect("show_journal", ["--lawful", room.path("head.part")], [], 1, early)
     room.expect("show_journal", ["--save", saved, room.path("head.part")], [], 1, early)
+
+
+def try_earlier(room, saved):
+    """A beginning of the earlier version is shown and judged as another one, and saved as what it is."""
+    journal = earlier(sample())
+    path, count = room.put("earlier.part", beginning_of(journal) + FORGOTTEN[:20]), len(journal.entries)
+    unknown = f"fault: not a journal: entry {count}: no kind of entry\n"
+    room.expect("show_journal", [path], shown(journal), 1, unknown)
+    room.expect("show_journal", ["--lawful", path], [f"lawful: {count} entries"], 1, unknown)
+    room.expect("show_journal", ["--save", saved, path], [f"saved: {count} entries"], 1, unknown)
+    with open(saved, "rb") as file:
+        if file.read() != journal_bytes(journal):
+            room.wrong.append("tools/show_journal saves another journal of the earlier version")
+    room.expect("show_journal", [room.put("earlier", journal_bytes(journal))], shown(journal))
+    refused = small()._replace(entries=[small().entries[1]])
+    room.expect("explain", [room.put("refused.earlier", journal_bytes(earlier(refused)))], [], 1,
+                "fault: wrong answer at entry 0\n")
 
 
 def try_data(room):
@@ -322,6 +367,7 @@ def try_follow(room):
     try_followed(room, "another", replace_by(journal_bytes(others)), [inside], gone)
     try_followed(room, "a shorter one", replace_by(journal_bytes(small())), [inside], gone)
     try_followed(room, "of another epoch", replace_by(journal_bytes(journal._replace(epoch=2))), [inside], gone)
+    try_followed(room, "of the earlier version", replace_by(journal_bytes(earlier(journal))), [inside], gone)
     try_followed(room, "removed", lambda path, *_: os.remove(path), [inside], gone)
     try_followed(room, "renamed", rename, [inside], gone)
     try_followed(room, "interrupted", lambda *all: all[-1].send_signal(signal.SIGINT), [inside], "")
@@ -332,7 +378,10 @@ def try_follow(room):
 
 def check_beginnings():
     wrong = check_cuts("three entries", small(), 1) + check_cuts("all operations", sample(), 11) + check_faults()
-    wrong += check_clients()
+    server = idle()
+    server.sweep(192)
+    wrong += check_cuts("forgettings", server.journal(), 1) + check_cuts("the earlier version", earlier(small()), 1)
+    wrong += check_clients() + check_forgettings()
     with tempfile.TemporaryDirectory() as folder:
         room = Room(folder)
         for attempt in (try_shown, try_data, try_explained, try_again, try_follow):

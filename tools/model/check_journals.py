@@ -24,11 +24,12 @@ from check_rows import converse
 from entries import ARGUMENT_BYTES, Call, Expire, NotJournal, RESTS, answer_bytes, entry_bytes
 from journal import Recorder, audit, head_bytes, journal_bytes, read_journal, verdict
 from journal_cases import (NOT_JOURNAL, all_answers, broken_answers, broken_entries, broken_heads, broken_lengths,
-                           broken_nodes, broken_operations, broken_padding, file_of, other_lengths, sample,
-                           small, verdicts, whole_files, written_out)
+                           broken_nodes, broken_operations, broken_padding, file_of, other_lengths, sample, small,
+                           whole_files, written_out)
 from model import STATEFUL
 from program import Program, can_run_once
 from tree import DEFAULT, Node, Refused, Tree, tree_of
+from verdict_cases import verdicts
 from wire import u32
 from words import answer_words, line_of, operation_words
 

@@ -58,12 +58,15 @@ def outcome_of(server, order):
     match order:
         case rows.Sweep(moment):
             swept = server.sweep(moment)
-            return rows.Sweep(moment, swept.expired, swept.kept, swept.revoked)
+            return rows.Sweep(moment, swept.expired, swept.kept, swept.revoked, swept.forgotten)
         case rows.Mark(client, is_up):
             return rows.Mark(client, is_up, is_marked(server, client, is_up))
         case rows.Revoke(moment):
             found = server.due(moment)
             return rows.Revoke(moment, None if server.revoke(moment) is None else found.number)
+        case rows.Forget(moment):
+            found = [(owner.name.client, owner.name.name) for owner in server.idle(moment)[:1]]
+            return rows.Forget(moment, None if server.forget(moment) is None else found[0])
         case rows.Take():
             recall = server.take_recall()
             return rows.Take() if recall is None else rows.Take(recall_call(order.xid, recall))

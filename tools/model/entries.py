@@ -8,7 +8,7 @@ from collections import namedtuple
 import wire
 from wire import (CLAIM_DELEGATE_CUR, CLAIM_PREVIOUS, EXCLUSIVE4, NewLocker, OPEN4_NOCREATE, OPEN_DELEGATE_NONE,
                   OPEN_DELEGATE_WRITE, Opnum, READ_LT, Status, Unreadable, bitmap, opaque, read_lock_owner,
-                  read_stateid, u32, u64)
+                  read_open_owner, read_stateid, u32, u64)
 
 MOMENT_LIMIT = 2**40 - 2
 
@@ -25,6 +25,8 @@ Expire = namedtuple("Expire", "client seen now")
 Revoke = namedtuple("Revoke", "state now")
 # A client can be called back, or can't.
 Path = namedtuple("Path", "client is_up")
+# An open owner without opens is forgotten.
+Forget = namedtuple("Forget", "owner now")
 
 
 class NotJournal(Unreadable):
@@ -251,10 +253,11 @@ def request_bytes(call):
     return head + u32(call.opnum) + ARGUMENT_BYTES[call.opnum](call.arguments)
 
 
-CALL, EXPIRE, REVOKE, PATH = 1, 2, 3, 4
+CALL, EXPIRE, REVOKE, PATH, FORGET = 1, 2, 3, 4, 5
 
 
-def read_entry(reader, nodes):
+def read_entry(reader, nodes, has_forgets=True):
+    """The next entry. Journals of an earlier version have no Forget."""
     kind = reader.u32()
     if kind == CALL:
         return read_call(reader, nodes)
@@ -264,6 +267,8 @@ def read_entry(reader, nodes):
         return Revoke(reader.u32(), read_moment(reader))
     if kind == PATH:
         return Path(reader.u32(), reader.one_of(2))
+    if kind == FORGET and has_forgets:
+        return Forget(read_open_owner(reader), read_moment(reader))
     raise NotJournal("no kind of entry")
 
 
@@ -274,4 +279,6 @@ def entry_bytes(entry):
         return u32(EXPIRE, entry.client) + u64(entry.seen) + u64(entry.now)
     if isinstance(entry, Revoke):
         return u32(REVOKE, entry.state) + u64(entry.now)
+    if isinstance(entry, Forget):
+        return u32(FORGET) + owner_bytes(entry.owner) + u64(entry.now)
     return u32(PATH, entry.client, entry.is_up)

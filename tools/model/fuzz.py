@@ -1,15 +1,16 @@
 #!/usr/bin/env python3
 """fuzz.py [PROGRAM] [--seed N] [--changes N] [--calls N] [--jobs N] [--ids N]: random calls to a built `rows`, and
-between them orders: sweeps, marks of paths, revocations, and recalls that are taken. Replies, outcomes and the journal
-are compared with the model's, until so many LOCKs and LOCKUs were OK.
+between them orders: sweeps, marks of paths, revocations, owners that are forgotten, and recalls that are taken.
+Replies, outcomes and the journal are compared with the model's, until so many LOCKs and LOCKUs were OK.
 
 Each run is one server and one connection. In a third of the runs most operations are LOCK, LOCKU and LOCKT, of a few
 lock owners of two clients, at the first and the last bytes; in another third most are OPEN, CLOSE and DELEGRETURN of
 three clients, which get delegations and are called back; and in the last READ and WRITE, by special stateids and by
-those of what these clients have, at the first bytes, round the size, and at the most that a file has. The other
-operations with a rule come too. Each operation is made when the model comes to it, so that most of them name what is
-there by then; some are a little off, and some are an earlier one again. At a difference the steps that lead to it are
-printed as a row, without those that it needs not, and the status is 1.
+those of what these clients have, at the first bytes, round the size, and at the most that a file has. In half of the
+runs a CLOSE is refused where bytes are locked. The other operations with a rule come too. Each operation is made when
+the model comes to it, so that most of them name what is there by then; some are a little off, and some are an earlier
+one again. At a difference the steps that lead to it are printed as a row, without those that it needs not, and the
+status is 1.
 
 With --ids clients of so many ids come, of which many aren't confirmed: with 300 all slots of clients are taken, again
 and again."""
@@ -27,14 +28,14 @@ import rows
 import wire
 from check_rows import outcome_of
 from driver import ALONE, PROGRAM, SHARED
-from entries import Expire, Path, Revoke as Revocation
+from entries import Expire, Forget as Forgetting, Path, Revoke as Revocation
 from journal import Recorder, journal_bytes
 from model import CLIENTS_LIMIT
 from ranges import ALL_ONES, LAST_BYTE
-from rows import Mark, Part, Pending, Probe, Revoke, Row, Sweep, Take
+from rows import Forget, Mark, Part, Pending, Probe, Revoke, Row, Sweep, Take
 from running import WHOLE, run as run_row
 from states import Delegation, LockState, Refusal, SLOTS, handle_of, next_sequence_id
-from tree import DEFAULT, TEXT_LIMIT, Tree
+from tree import CLOSE_LOCKS, DEFAULT, TEXT_LIMIT, Tree
 from wire import Opnum, Status, opaque, u32, u64
 
 NAMES = [b"a", b"b", b"d", b"c", b"e", b"", b"x" * 256]
@@ -54,10 +55,13 @@ DATA_ROOM = 150_000
 LETTERS = 2000
 # What most operations of a run are.
 LOCKING, LENDING, WRITING = range(3)
-# What is counted besides the operations: delegations by their type, entries of the journal, and slots of clients.
+# What is counted besides the operations: delegations by their type, entries of the journal, slots of clients, and
+# owners that come again after they were forgotten.
 LENT = {1: "delegations for reading", 2: "delegations for writing"}
-WHAT = {Expire: "clients removed", Revocation: "delegations revoked", Path: "paths marked"}
+WHAT = {Expire: "clients removed", Revocation: "delegations revoked", Path: "paths marked",
+        Forgetting: "owners forgotten"}
 AGAIN, YIELDED, NONE_LEFT = "slots given again", "records that gave way", "newcomers without a slot"
+BACK = "forgotten owners that came again"
 
 
 class Counting(Recorder):
@@ -65,8 +69,8 @@ class Counting(Recorder):
 
     def __init__(self, *given):
         super().__init__(*given)
-        # All records of clients, also those that are gone.
-        self.counts, self.introduced = Counter(), []
+        # All records of clients, also those that are gone; and the owners that were forgotten, by their names.
+        self.counts, self.introduced, self.forgotten = Counter(), [], {}
 
     def setclientid(self, arguments, principal):
         rest = super().setclientid(arguments, principal)
@@ -85,6 +89,15 @@ class Counting(Recorder):
     def give_way(self, record):
         super().give_way(record)
         self.counts[YIELDED] += 1
+
+    def forget_owner(self, owner, now):
+        self.forgotten[owner.name] = owner
+        return super().forget_owner(owner, now)
+
+    def begin_owner(self, request, owner):
+        result = super().begin_owner(request, owner)
+        self.counts[BACK] += request.arguments.owner in self.forgotten and result.status == Status.OK
+        return result
 
     def delegate(self, client, file, kind):
         self.counts.update([LENT[kind]] if kind in LENT else [])
@@ -115,7 +128,8 @@ class Drawn(wire.Reader):
 def document_of(chance):
     """Mostly delegations of both kinds, to clients that can be called at once."""
     delegations, callbacks = chance.choice(["all"] * 6 + ["read", "none"]), chance.choice(["assume"] * 3 + ["probe"])
-    return f'policy = {{ delegations = "{delegations}", callbacks = "{callbacks}" }}\n' + DEFAULT
+    words = f'delegations = "{delegations}", callbacks = "{callbacks}", close_locks = "{chance.choice(CLOSE_LOCKS)}"'
+    return f"policy = {{ {words} }}\n{DEFAULT}"
 
 
 class Caller:
@@ -168,7 +182,7 @@ class Caller:
         orders = [Take(bytes(4) + u32(self.chance.getrandbits(32)))] * 4 + [Mark(client, not self.is_rare(0.3))] * 2
         orders += [Probe(self.chance.choice([0, client]))] + [Sweep(self.moment, 0, 0)] * 3
         orders += [Sweep(late, 0, 0)] * self.is_rare(0.3)
-        orders += [Revoke(late), Revoke(late), Pending(0)] * (self.way == ALONE)
+        orders += [Revoke(late), Revoke(late), Pending(0), Forget(late), Forget(late)] * (self.way == ALONE)
         return outcome_of(self.server, self.chance.choice(orders))
 
     def next_call(self):
@@ -514,7 +528,7 @@ def tell(counts, runs, calls):
     asked = counts[Opnum.LOCKT, Status.OK] + counts[Opnum.LOCKT, Status.DENIED] + counts[Opnum.LOCK, Status.DENIED]
     print(f"fuzz: {runs} runs of {calls} steps agree with the model: {total} operations on the state, of them "
           f"{changes} changes of ranges and {asked} questions or refusals of them")
-    for what in [*LENT.values(), *WHAT.values(), AGAIN, YIELDED, NONE_LEFT]:
+    for what in [*LENT.values(), *WHAT.values(), BACK, AGAIN, YIELDED, NONE_LEFT]:
         print(f"    {what}: {counts.pop(what, 0)}")
     for (opnum, status), number in sorted(counts.items()):
         print(f"    {opnum.name} {status.name}: {number}")

@@ -6,7 +6,7 @@ from dataclasses import dataclass, field
 from entries import Call
 from journal import Recorder
 from states import OpenState
-from wire import Opnum, READ, WRITE
+from wire import Opnum, READ, Status, WRITE
 
 # The operations by which a state may end, beside the end of its client.
 ENDING = {Opnum.OPEN, Opnum.CLOSE, Opnum.RELEASE_LOCKOWNER, Opnum.DELEGRETURN}
@@ -35,6 +35,8 @@ class History(Recorder):
     ended: dict = field(default_factory=dict)
     # Of opens, by their numbers: of each pair of access and deny, which entry brought it.
     pairs: dict = field(default_factory=dict)
+    # Of opens, by their stateids without the seqid: which entry forgot the owner whose kept request closed it.
+    forgotten: dict = field(default_factory=dict)
     # The numbers of the states that there are.
     present: set = field(default_factory=set)
 
@@ -81,6 +83,12 @@ class History(Recorder):
         entry = super().revoke(now)
         if entry is not None:
             self.note_ends(entry)
+        return entry
+
+    def forget_owner(self, owner, now):
+        entry, request = super().forget_owner(owner, now), owner.kept.request
+        if request.opnum == Opnum.CLOSE and owner.kept.answer.status == Status.OK:
+            self.forgotten[request.arguments.stateid[1:]] = entry
         return entry
 
     def open_confirm(self, arguments, file):

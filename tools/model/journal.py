@@ -11,17 +11,19 @@ from dataclasses import dataclass, field
 
 sys.dont_write_bytecode = True
 
-from entries import (Answer, Call, EndsEarly, Expire, NotJournal, Path, Revoke, StrictReader, entry_bytes,
+from entries import (Answer, Call, EndsEarly, Expire, Forget, NotJournal, Path, Revoke, StrictReader, entry_bytes,
                      read_entry)
 from model import JOURNAL_LIMIT, Server
 from states import Unchanged
-from tree import CALLBACKS, DELEGATIONS, NAME_LIMIT, Node, Policy, Refused, TEXT_LIMIT, tree_of
+from tree import CALLBACKS, CLOSE_LOCKS, DELEGATIONS, NAME_LIMIT, Node, Policy, Refused, TEXT_LIMIT, tree_of
 from wire import Status, opaque, u32
 
-HEAD = b"NFSJRN02"
+# How a file begins. One of the earlier edition has no word for what CLOSE does, which was to free, and no Forget.
+HEAD, EARLIER = b"NFSJRN03", b"NFSJRN02"
 LEASE_LIMIT = 86400
 
-Journal = namedtuple("Journal", "epoch lease tree entries")
+# A journal; and how its file begins, which it has again when it is written.
+Journal = namedtuple("Journal", "epoch lease tree entries head", defaults=[HEAD])
 
 
 class WrongAnswer(Exception):
@@ -56,6 +58,11 @@ class Recorder(Server):
             self.recorded.append(Revoke(found.number, now))
         return entry
 
+    def forget_owner(self, owner, now):
+        entry = super().forget_owner(owner, now)
+        self.recorded.append(Forget(owner.name, now))
+        return entry
+
     def journal(self):
         return Journal(self.epoch, self.lease, self.tree, self.recorded)
 
@@ -70,8 +77,9 @@ def journal_bytes(journal):
 def head_bytes(journal):
     """What the server began with."""
     policy, nodes = journal.tree.policy, journal.tree.nodes[1:]
-    numbers = DELEGATIONS.index(policy.delegations), CALLBACKS.index(policy.callbacks)
-    head = HEAD + u32(journal.epoch, journal.lease, *numbers, len(nodes))
+    numbers = [DELEGATIONS.index(policy.delegations), CALLBACKS.index(policy.callbacks)]
+    numbers += [CLOSE_LOCKS.index(policy.close_locks)] * (journal.head == HEAD)
+    head = journal.head + u32(journal.epoch, journal.lease, *numbers, len(nodes))
     return head + b"".join(node_bytes(node) for node in nodes)
 
 
@@ -90,24 +98,30 @@ def read_journal(data):
 
 def read_whole(reader):
     journal, count = read_head(reader)
-    entries = [read_entry(reader, len(journal.tree.nodes)) for _ in range(count)]
-    return journal._replace(entries=entries)
+    return journal._replace(entries=[read_next(reader, journal) for _ in range(count)])
+
+
+def read_next(reader, journal):
+    """The next entry of a journal with this head."""
+    return read_entry(reader, len(journal.tree.nodes), journal.head == HEAD)
 
 
 def read_head(reader):
     """A journal without its entries, and their number as the file says it."""
-    if reader.fixed(len(HEAD)) != HEAD:
+    head = reader.fixed(len(HEAD))
+    if head not in (HEAD, EARLIER):
         raise NotJournal("it begins with other bytes")
     epoch, lease = reader.u32(), reader.u32()
     if not 1 <= lease <= LEASE_LIMIT:
         raise NotJournal("a lease outside its limits")
-    policy = Policy(DELEGATIONS[reader.one_of(3)], CALLBACKS[reader.one_of(2)])
+    delegations, callbacks = DELEGATIONS[reader.one_of(3)], CALLBACKS[reader.one_of(2)]
+    policy = Policy(delegations, callbacks, CLOSE_LOCKS[reader.one_of(2) if head == HEAD else 0])
     nodes = [read_node(reader) for _ in range(reader.u32())]
     try:
         tree = tree_of(nodes, policy)
     except Refused:
         raise NotJournal("nodes that no document gives") from None
-    return Journal(epoch, lease, tree, []), reader.u32()
+    return Journal(epoch, lease, tree, [], head), reader.u32()
 
 
 def read_node(reader):
@@ -137,7 +151,7 @@ class Growing:
                 whole = reader.at
             while reader.at < len(reader.data) and self.fault is None:
                 self.expect_more(len(taken))
-                taken.append(read_entry(reader, len(self.head.tree.nodes)))
+                taken.append(read_next(reader, self.head))
                 whole = reader.at
         except EndsEarly:
             pass
@@ -213,6 +227,13 @@ def follow_path(server, path):
     return is_made(lambda: server.mark_path(*path))
 
 
+def follow_forget(server, forget):
+    """Whether the owner may be forgotten: it is the one that is due then, as of all open owners without opens, of which
+    the kept request came longer ago than the lease, it became known first. The server has forgotten it then."""
+    found = server.idle(forget.now)[:1]
+    return [owner.name for owner in found] == [forget.owner] and is_made(lambda: server.forget(forget.now))
+
+
 def is_made(change):
     """Whether a change is made that no call asked for; the server has its entry then."""
     try:
@@ -222,7 +243,7 @@ def is_made(change):
     return True
 
 
-STEPS = {Call: follow_call, Expire: follow_expire, Revoke: follow_revoke, Path: follow_path}
+STEPS = {Call: follow_call, Expire: follow_expire, Revoke: follow_revoke, Path: follow_path, Forget: follow_forget}
 
 
 def verdict(data, limit=JOURNAL_LIMIT):

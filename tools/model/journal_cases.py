@@ -1,9 +1,11 @@
-"""Journals for check_journals.py: one with each operation, files written out, files that are no journals, each with the
-reason, and files with what is said of them."""
+"""Journals for check_journals.py: one with each operation, files written out, and files that are no journals, each with
+the reason. Some are of the version of the file before this one."""
+import itertools
+
 import wire
-from entries import Answer, Call, Expire, MOMENT_LIMIT, Path, Revoke, STATUSES, StrictReader
-from journal import Journal, Recorder, head_bytes, journal_bytes, read_whole
-from tree import DEFAULT, Node, ROOT, Tree
+from entries import Answer, Call, Expire, Forget, MOMENT_LIMIT, Path, Revoke, STATUSES, StrictReader
+from journal import EARLIER, HEAD, Journal, Recorder, head_bytes, journal_bytes, read_whole
+from tree import CALLBACKS, CLOSE_LOCKS, DEFAULT, DELEGATIONS, Node, Policy, ROOT, Tree
 from wire import (Callback, Claim, KnownLocker, LockOwner, NewLocker, OpenOwner, Openhow, Opnum, Stateid, Status,
                   opaque, u32, u64)
 
@@ -132,6 +134,41 @@ def lent():
     return server
 
 
+def idle():
+    """Ten entries: client 1, whose owners A and B open, confirm and close file a, A at 100 and B at 101."""
+    server = Recorder(Tree())
+    introduce(server)
+    for moment, name, number in ((100, b"A", 1), (101, b"B", 2)):
+        server.moment = moment
+        live_and_close(server, name, number)
+    return server
+
+
+def live_and_close(server, name, number):
+    """An open owner of client 1 comes, and has file a open for a while, by the state of this number."""
+    arguments = wire.Open(1, 1, 0, OpenOwner(1, 1, name), NO_CREATE, BY_NAME)
+    server.apply(Opnum.OPEN, arguments, 0, NOBODY)
+    stateid = Stateid(1, 1, 1, number)
+    server.apply(Opnum.OPEN_CONFIRM, wire.OpenConfirm(stateid, 2), FILE, NOBODY)
+    server.apply(Opnum.CLOSE, wire.Close(3, stateid._replace(seqid=2)), FILE, NOBODY)
+
+
+def holding():
+    """Five entries, under a policy by which a CLOSE is refused: client 1, whose owner A has file a open, and whose lock
+    owner x holds its first nine bytes."""
+    server = Recorder(Tree('policy.close_locks = "refuse"\n' + DEFAULT))
+    introduce(server)
+    server.apply(*opening(1), NOBODY)
+    server.apply(Opnum.OPEN_CONFIRM, wire.OpenConfirm(OPENED, 2), FILE, NOBODY)
+    locker = NewLocker(3, OPENED._replace(seqid=2), 1, LOCKER)
+    server.apply(Opnum.LOCK, wire.Lock(2, 0, 0, 9, locker), FILE, NOBODY)
+    return server
+
+
+def close_by_a(server, seqid):
+    server.apply(Opnum.CLOSE, wire.Close(seqid, OPENED._replace(seqid=2)), FILE, NOBODY)
+
+
 def sample():
     server = Recorder(Tree())
     introduce(server)
@@ -142,7 +179,14 @@ def sample():
     server.apply(Opnum.SETCLIENTID, wire.Setclientid(bytes(8), b"c1", CALLBACK), None, SOMEBODY)
     lend(server, 10)
     server.apply(Opnum.CLOSE, wire.Close(12, OPENED._replace(seqid=6)), FILE, NOBODY)
+    server.forget(server.moment + server.lease + 1)
     return server.journal()
+
+
+def earlier(journal):
+    """The journal as one of the version before: it has no Forget, and frees."""
+    entries = [entry for entry in journal.entries if not isinstance(entry, Forget)]
+    return journal._replace(entries=entries, head=EARLIER)
 
 
 def small():
@@ -156,9 +200,9 @@ def small():
 # Files written out, in words of four bytes: of a server with the one empty file b, also after it was written and read;
 # of `small`; and of the entries that are no calls.
 
-NO_ENTRY = """4e46534a 524e3032 00000001 0000005a 00000002 00000000
+NO_ENTRY = """4e46534a 524e3033 00000001 0000005a 00000002 00000000 00000000
     00000001 00000000 00000001 00000001 62000000 00000000 00000000"""
-OF_BYTES = """4e46534a 524e3032 00000007 0000005a 00000002 00000000
+OF_BYTES = """4e46534a 524e3033 00000007 0000005a 00000002 00000000 00000000
     00000001 00000000 00000001 00000001 62000000 00000000
     00000002
     00000001 00000000 00000005 00000000 00000000 00000001 00000001
@@ -167,7 +211,8 @@ OF_BYTES = """4e46534a 524e3032 00000007 0000005a 00000002 00000000
     00000001 00000000 00000005 00000000 00000000 00000001 00000001
     00000019 ffffffff ffffffff ffffffff ffffffff 00000000 00000000 00000014
     00000019 00000000 00000001 00000009 00000000 00000000 78000000"""
-THREE_ENTRIES = """4e46534a 524e3032 00000001 0000005a 00000002 00000000
+EARLIER_HEAD = "4e46534a 524e3032 00000001 0000005a 00000002 00000000"
+THREE_ENTRIES = """4e46534a 524e3033 00000001 0000005a 00000002 00000000 00000000
     00000004
     00000000 00000001 00000001 61000000 00000005 68656c6c 6f000000
     00000000 00000001 00000001 62000000 00000000
@@ -200,10 +245,15 @@ def written_out():
     yield file_of([], [file(0, b"b")]), NO_ENTRY
     yield journal_bytes(of_bytes()), OF_BYTES
     yield journal_bytes(small()), THREE_ENTRIES
-    data = file_of([Expire(1, 100, 191), Revoke(2, 2**32), Path(3, 1), Path(4, 0)], [])
-    yield data, """4e46534a 524e3032 00000001 0000005a 00000002 00000000 00000000 00000004
-        00000002 00000001 00000000 00000064 00000000 000000bf 00000003 00000002 00000001 00000000
+    yield journal_bytes(earlier(small())), EARLIER_HEAD + THREE_ENTRIES[62:]
+    ends = [Expire(1, 100, 191), Revoke(2, 2**32), Path(3, 1), Path(4, 0)]
+    words = """00000002 00000001 00000000 00000064 00000000 000000bf 00000003 00000002 00000001 00000000
         00000004 00000003 00000001 00000004 00000004 00000000"""
+    yield journal_bytes(earlier(journal_of(ends, []))), f"{EARLIER_HEAD} 00000000 00000004 {words}"
+    refusing = Tree().policy._replace(close_locks="refuse")
+    data = journal_bytes(journal_of([*ends, Forget(OpenOwner(1, 257, b"ABCDE"), 2**32 + 7)], [], refusing))
+    yield data, f"""4e46534a 524e3033 00000001 0000005a 00000002 00000000 00000001 00000000 00000005 {words}
+        00000005 00000001 00000101 00000005 41424344 45000000 00000001 00000007"""
 
 
 # Files that are no journals: a name, the file, and the reason.
@@ -253,22 +303,30 @@ def other_lengths():
 def broken_heads():
     data = journal_bytes(small())
     begins, lease, early = "it begins with other bytes", "a lease outside its limits", "it ends too early"
-    for version in (b"NFSJRN01", b"NFSJRN03"):
+    for version in (b"NFSJRN01", b"NFSJRN04"):
         yield f"another version, {version.decode()}", version + data[8:], begins
-    for seconds in (0, 86401, LAST):
-        yield f"lease {seconds}", with_words(data, 12, seconds), lease
-    yield "delegations 3", with_words(data, 16, 3), "a number that isn't 0 to 2"
-    yield "callbacks 2", with_words(data, 20, 2), "a number that isn't 0 to 1"
-    yield "one node fewer", with_words(data, 24, 3), "nodes that no document gives"
-    yield "a node's kind", with_words(data, 32, 2), "a number that isn't 0 to 1"
+    for journal, which in ((small(), "this"), (earlier(small()), "the earlier")):
+        data = journal_bytes(journal)
+        for seconds in (0, 86401, LAST):
+            yield f"lease {seconds}, in {which} version", with_words(data, 12, seconds), lease
+        yield f"delegations 3, in {which} version", with_words(data, 16, 3), "a number that isn't 0 to 2"
+        yield f"callbacks 2, in {which} version", with_words(data, 20, 2), "a number that isn't 0 to 1"
+    # There are four nodes, where the other version has what CLOSE does; and that is 0, where it has their number.
+    yield "an earlier file that begins as a new one", HEAD + data[8:], "a number that isn't 0 to 1"
+    data = journal_bytes(small())
+    yield "a new file that begins as an earlier one", EARLIER + data[8:], "no kind of entry"
+    for number in (2, LAST):
+        yield f"close_locks {number}", with_words(data, 24, number), "a number that isn't 0 to 1"
+    yield "one node fewer", with_words(data, 28, 3), "nodes that no document gives"
+    yield "a node's kind", with_words(data, 36, 2), "a number that isn't 0 to 1"
     place = len(head_bytes(small()))
     yield "one entry fewer", with_words(data, place, 2), "bytes after the last entry"
     yield "one entry more", with_words(data, place, 4), early
     # Numbers for which there would be no memory.
-    yield "2^32 - 1 nodes", with_words(data[:28], 24, LAST), early
+    yield "2^32 - 1 nodes", with_words(data[:32], 28, LAST), early
     yield "2^32 - 1 entries", with_words(data, place, LAST), early
     name = "a name of 2^32 - 1 bytes"
-    yield name, with_words(data, 36, LAST), "more than 255 bytes"
+    yield name, with_words(data, 40, LAST), "more than 255 bytes"
 
 
 def broken_entries():
@@ -280,8 +338,9 @@ def broken_entries():
     def put(entry):
         return file_of([entry])
 
-    for kind in (0, 5, 2**32 - 1):
+    for kind in (0, 6, 2**32 - 1):
         yield f"kind {kind}", with_words(path, begin, kind), "no kind of entry"
+    yield from broken_forgets()
     yield "a moment past the last", put(first._replace(moment=MOMENT_LIMIT)), limit
     yield "seen past the last moment", put(Expire(1, MOMENT_LIMIT, 1)), limit
     yield "expired past the last moment", put(Expire(1, 1, MOMENT_LIMIT)), limit
@@ -292,6 +351,24 @@ def broken_entries():
     yield "an absent handle with a node", with_words(data, begin + 24, 1), "a node without a filehandle"
     yield "handle present 2", with_words(data, begin + 20, 2), "a number that isn't 0 to 1"
     yield "a node outside the tree", put(first._replace(filehandle=5)), "a node that isn't there"
+
+
+def broken_forgets():
+    """A Forget's own fields; and that journals of the earlier version have none."""
+    forget = Forget(OpenOwner(1, 1, b"A"), 191)
+    data, limit = file_of([forget]), "a moment of 2^40 - 2 or more"
+    before = journal_bytes(journal_of([forget])._replace(head=EARLIER))
+    yield "a Forget in the earlier version", before, "no kind of entry"
+    many = [*small().entries, forget, small().entries[0]]
+    before = journal_bytes(journal_of(many)._replace(head=EARLIER))
+    yield "a Forget among others in the earlier version", before, "no kind of entry"
+    for moment in (MOMENT_LIMIT, 2**64 - 1):
+        yield f"forgotten at {moment}", file_of([forget._replace(now=moment)]), limit
+    long = forget._replace(owner=OpenOwner(1, 1, bytes(1025)))
+    yield "a forgotten owner of 1,025 bytes", file_of([long]), "more than 1024 bytes"
+    yield "a forgotten owner of 2^32 - 1 bytes", with_words(data, len(data) - 16, LAST), "more than 1024 bytes"
+    yield "padding of a forgotten owner", with_words(data, len(data) - 12, 0x41000001), "padding that isn't zero"
+    yield "a Forget without its moment", data[:-8], "it ends too early"
 
 
 def broken_operations():
@@ -369,11 +446,16 @@ def report(opnum, locktype):
     return Answer(opnum, Status.DENIED, u64(0) + u64(9) + u32(locktype, 1, 1) + opaque(b"x"))
 
 
-def file_of(entries, nodes=Tree().nodes[1:], policy=Tree().policy):
-    """A file of these entries, lawful or not, over these nodes."""
+def journal_of(entries, nodes=Tree().nodes[1:], policy=Tree().policy):
+    """A journal of these entries, lawful or not, over these nodes."""
     tree = Tree("")
     tree.nodes, tree.policy = [ROOT, *nodes], policy
-    return journal_bytes(Journal(1, 90, tree, entries))
+    return Journal(1, 90, tree, entries)
+
+
+def file_of(*given):
+    """The file of such a journal."""
+    return journal_bytes(journal_of(*given))
 
 
 def asked(opnum, arguments):
@@ -437,11 +519,21 @@ def whole_files():
     """Files that are journals, at the edges of what isn't."""
     journal = sample()
     yield "all operations", journal_bytes(journal)
-    yield "all kinds", file_of(journal.entries + [Expire(1, 2, 3), Revoke(4, 5), Path(6, 1), Path(7, 0)])
-    yield "the last moment", file_of([Expire(1, MOMENT_LIMIT - 1, MOMENT_LIMIT - 1), Revoke(1, MOMENT_LIMIT - 1)])
-    yield "the last number of everything", file_of([Expire(LAST, 0, 0), Revoke(LAST, 0), Path(LAST, 0)])
-    for lease in (1, 86400):
-        yield f"lease {lease}", with_words(file_of([]), 12, lease)
+    kinds = journal.entries + [Expire(1, 2, 3), Revoke(4, 5), Path(6, 1), Path(7, 0)]
+    yield "all kinds", file_of([*kinds, Forget(OpenOwner(8, 9, b"B"), 10)])
+    yield "all kinds of the earlier version", journal_bytes(earlier(journal_of(kinds)))
+    last, late = OpenOwner(LAST, LAST, bytes(1024)), MOMENT_LIMIT - 1
+    yield "the last moment", file_of([Expire(1, late, late), Revoke(1, late), Forget(OpenOwner(0, 0, b""), late)])
+    ends = [Expire(LAST, 0, 0), Revoke(LAST, 0), Path(LAST, 0), Forget(last, 0)]
+    yield "the last number of everything", file_of(ends)
+    for which in (journal_of([]), earlier(journal_of([]))):
+        for lease in (1, 86400):
+            yield f"lease {lease}", with_words(journal_bytes(which), 12, lease)
+    for words in itertools.product(DELEGATIONS, CALLBACKS, CLOSE_LOCKS):
+        yield f"the policy {words}", file_of([], [file(0)], Policy(*words))
+    for words in itertools.product(DELEGATIONS, CALLBACKS, ["free"]):
+        journal = earlier(journal_of([], [file(0)], Policy(*words)))
+        yield f"the policy {words} of the earlier version", journal_bytes(journal)
     lists = {
         "no nodes": [], "eight names": chain(7) + [file(7)], "64 files": many(64, file),
         "64 directories": many(64, directory), "64 directories, the last after a file": [
@@ -467,162 +559,9 @@ def whole_files():
         yield f"the answer {answer}", answered(answer)
 
 
-# Entries that can't follow.
-
-def wrong(number):
-    return f"fault: wrong answer at entry {number}"
-
-
-def verdicts():
-    """A name, a file, and what is said of it."""
-    entries, data = small().entries, journal_bytes(small())
-    yield "three entries", data, "lawful: 3 entries"
-    yield "no entries", file_of([]), "lawful: 0 entries"
-    yield "another confirm value", file_of([with_rest(entries[0], u32(1, 1) + u64(2)), *entries[1:]]), wrong(0)
-    yield "a confirmation first", file_of([entries[1], *entries]), wrong(0)
-    yield "the first entry again", file_of([*entries, entries[0]]), wrong(3)
-    yield "an expiry at the edge", file_of([*entries, Expire(1, 100, 190)]), wrong(3)
-    yield "an expiry", file_of([*entries, Expire(1, 100, 191)]), "lawful: 4 entries"
-    yield "an expiry again", file_of([*entries, Expire(1, 100, 191), Expire(1, 100, 191)]), wrong(4)
-    yield "an expiry of nobody", file_of([*entries, Expire(2, 100, 191)]), wrong(3)
-    yield "a confirmation after the expiry", file_of([*entries, Expire(1, 100, 191), entries[2]]), wrong(4)
-    stale = entries[2]._replace(answer=Answer(Opnum.SETCLIENTID_CONFIRM, Status.STALE_CLIENTID, b""))
-    yield "its refusal", file_of([*entries, Expire(1, 100, 191), stale]), "lawful: 5 entries"
-    late = [*entries, Expire(1, MOMENT_LIMIT - 92, MOMENT_LIMIT - 1)]
-    yield "an expiry at the last moment", file_of(late), "lawful: 4 entries"
-    late[-1] = Expire(1, MOMENT_LIMIT - 91, MOMENT_LIMIT - 1)
-    yield "an expiry at the last moment, at the edge", file_of(late), wrong(3)
-    yield "an expiry before it was seen", file_of([*entries, Expire(1, 200, 100)]), wrong(3)
-    yield from verdicts_on_bytes()
-    yield from verdicts_on_paths(entries)
-    yield from verdicts_on_revocations()
-    yield from verdicts_on_numbers()
-    yield "moments that go down", file_of([entries[0]._replace(moment=5), *entries[1:]]), "lawful: 3 entries"
-    yield "the last moment of a call", file_of([entries[0]._replace(moment=MOMENT_LIMIT - 1)]), "lawful: 1 entries"
-    yield "another principal", file_of([entries[0], entries[1]._replace(principal=SOMEBODY)]), wrong(1)
-    yield "uid 0 under AUTH_SYS", file_of([entries[0], entries[1]._replace(principal=(1, 0))]), wrong(1)
-    yield "a filehandle that isn't asked", file_of([entries[0]._replace(filehandle=4)]), "lawful: 1 entries"
-    refused = entries[0]._replace(answer=Answer(Opnum.SETCLIENTID, Status.RESOURCE, b""))
-    yield "RESOURCE", file_of([refused]), wrong(0)
-    far = wire.Setclientid(bytes(8), b"c1", CALLBACK._replace(netid=bytes(129)))
-    yield "RESOURCE that the rules give", file_of([refused._replace(arguments=far)]), wrong(0)
-    other = with_number(entries[1], Opnum.RELEASE_LOCKOWNER)
-    yield "an answer to another operation", file_of([entries[0], other]), wrong(1)
-    wrong_first = [with_rest(entries[0], u32(1, 1) + u64(2)), *entries[1:]]
-    yield "a wrong answer, and a byte after the last entry", file_of(wrong_first) + b"\0", NOT_JOURNAL
-    outside = [*wrong_first, entries[2]._replace(filehandle=5)]
-    yield "a wrong answer, and a node that isn't there later", file_of(outside), NOT_JOURNAL
-
-
-def verdicts_on_bytes():
-    """Of `hello`, which is read, gets a byte more, and is read again; and of more than a file has."""
-    server = Recorder(Tree())
-    for opnum, arguments in ((Opnum.READ, wire.Read(NOTHING, 0, LAST)), (Opnum.WRITE, wire.Write(NOTHING, 5, 0, b"!")),
-                             (Opnum.READ, wire.Read(NOTHING, 0, LAST)), (Opnum.GETATTR, wire.Getattr((0x18,)))):
-        server.apply(opnum, arguments, FILE, NOBODY)
-    first, written, second, attributes = entries = server.recorded
-    yield "a file that is read and written", file_of(entries), "lawful: 4 entries"
-    yield "a file that is read before it is written", file_of([first, second]), wrong(1)
-    yield "attributes before it is written", file_of([first, attributes]), wrong(1)
-    yield "a file that is written, and read as before", file_of([written, first]), wrong(1)
-    yield "a change too many", file_of([written, *entries]), wrong(1)
-    yield "attributes after two changes", file_of([written, written, attributes]), wrong(2)
-    rests = {"no end": u32(0) + opaque(b"hello"), "a byte fewer": u32(1) + opaque(b"hell"),
-             "a byte more": u32(1) + opaque(b"hello!"), "70,000 bytes": u32(1) + opaque(bytes(70000))}
-    for name, rest in rests.items():
-        yield f"a READ with {name}", file_of([with_rest(first, rest)]), wrong(0)
-    rests = {"another count": u32(2, 2, 1, 0), "UNSTABLE4": u32(1, 0, 1, 0), "another epoch": u32(1, 2, 2, 0),
-             "another verifier": u32(1, 2, 1, 1)}
-    for name, rest in rests.items():
-        yield f"a WRITE with {name}", file_of([with_rest(written, rest)]), wrong(0)
-
-
-def verdicts_on_paths(entries):
-    """After those of a client that is confirmed; and with the grant of a delegation."""
-    yield "a path", file_of([*entries, Path(1, 1), Path(1, 1), Path(1, 0)]), "lawful: 6 entries"
-    yield "a path of nobody", file_of([*entries, Path(2, 1)]), wrong(3)
-    yield "a path of client 0", file_of([*entries, Path(0, 0)]), wrong(3)
-    yield "a path before the confirmation", file_of([entries[0], Path(1, 1), *entries[1:]]), wrong(1)
-    yield "a path after the expiry", file_of([*entries, Expire(1, 100, 191), Path(1, 1)]), wrong(4)
-    yield "a path after a wrong answer", file_of([entries[1], Path(1, 1)]), wrong(0)
-    journal = lent().journal()
-    before, after = journal.entries[:4], journal.entries[4:]
-    for marks, said in (([], "lawful: 10 entries"), ([0], wrong(5)), ([0, 1], "lawful: 12 entries")):
-        marked = journal._replace(entries=[*before, *[Path(1, is_up) for is_up in marks], *after])
-        yield f"paths {marks} before a delegation is given", journal_bytes(marked), said
-
-
-def verdicts_on_revocations():
-    """After the delegations 2 and 4 were called back, the second at 200 and the first at 210."""
-    journal = lent().journal()
-    again = [call for call in journal.entries if isinstance(call, Call)][-2]
-    returned = lent()
-    give_back(returned, 2)
-    more = {
-        "nothing that is due": ([Revoke(4, 290)], 10), "one that is due": ([Revoke(4, 291)], None),
-        "one that isn't": ([Revoke(2, 291)], 10), "one at the edge": ([Revoke(2, 300)], 10),
-        "the least of two": ([Revoke(2, 301)], None), "not the least of two": ([Revoke(4, 301)], 10),
-        "one after the other": ([Revoke(2, 301), Revoke(4, 301)], None),
-        "the oldest first": ([Revoke(4, 300), Revoke(2, 301)], None),
-        "one twice": ([Revoke(4, 291), Revoke(4, 291)], 11),
-        "an open": ([Revoke(1, 400)], 10), "state 0": ([Revoke(0, 400)], 10), "what isn't": ([Revoke(5, 400)], 10),
-        "what was given back": ([*returned.recorded[10:], Revoke(2, 400)], 11),
-        "what is left": ([*returned.recorded[10:], Revoke(4, 400)], None),
-        "what went with its client": ([Expire(1, 0, 91), Revoke(2, 400)], 11),
-        "what still is in the way": ([again], None), "what isn't any longer": ([Revoke(4, 291), again], 11)}
-    for name, (entries, number) in more.items():
-        said = f"lawful: {10 + len(entries)} entries" if number is None else wrong(number)
-        yield f"a revocation: {name}", journal_bytes(journal._replace(entries=journal.entries + entries)), said
-
-
-def verdicts_on_numbers():
-    """Of what a further id gets where a client has ended, and where 255 ids have a number each."""
-    ended = Recorder(Tree())
-    introduce(ended)
-    ended.expire(1, 0, 91)
-    yield from verdicts_on_number("behind a client that has ended", ended, 257, (0, 1, 2, 256, 257, 513))
-    waiting, live = with_ids(confirmed=1), with_ids(confirmed=255)
-    # Client 1 is live, and client 2 is the first that isn't.
-    yield from verdicts_on_number("behind 255 ids", waiting, 258, (0, 1, 2, 256, 257, 258, 259, 511, 514))
-    yield from verdicts_on_number("behind 255 live clients", live, None, (1, 256, 257, 511))
-    ask_for_number(waiting, b"late")
-    for status, said in (Status.STALE_CLIENTID, "lawful: 258 entries"), (Status.OK, wrong(257)):
-        late = Answer(Opnum.SETCLIENTID_CONFIRM, status, b"")
-        call = Call(0, NOBODY, None, Opnum.SETCLIENTID_CONFIRM, wire.SetclientidConfirm(1, 2, 2), late)
-        yield f"{status.name} for a client that gave way", file_of([*waiting.recorded, call]), said
-
-
-def with_ids(confirmed):
-    """A server with 255 ids, of which the first ones are confirmed."""
-    server = Recorder(Tree())
-    for number in range(1, 256):
-        ask_for_number(server, b"c%d" % number)
-        if number <= confirmed:
-            confirm(server, number)
-    return server
-
-
-def verdicts_on_number(where, server, right, numbers):
-    """Each of these numbers as the next one that the server gives."""
-    asked = wire.Setclientid(bytes(8), b"late", CALLBACK)
-    for number in numbers:
-        answer = Answer(Opnum.SETCLIENTID, Status.OK, u32(1, number) + u64(server.last_confirm + 1))
-        entries = [*server.recorded, Call(0, NOBODY, None, Opnum.SETCLIENTID, asked, answer)]
-        said = f"lawful: {len(entries)} entries" if number == right else wrong(len(entries) - 1)
-        yield f"number {number} {where}", file_of(entries), said
-
-
 def all_answers():
     """A name and a file for each number of an operation and each status, and for some that aren't there. Nothing comes
     after the status."""
     for number in (*range(42), 10043, Opnum.ILLEGAL, 10045, LAST):
         for status in sorted(STATUSES | {1, 5, 28, 62, 10000, 10002, 10006, 10009, 10045, LAST}):
             yield f"an answer to {number} of status {status}", answered(Answer(number, status, b""))
-
-
-def with_rest(call, rest):
-    return call._replace(answer=call.answer._replace(rest=rest))
-
-
-def with_number(call, number):
-    return call._replace(answer=call.answer._replace(number=number))

@@ -76,7 +76,7 @@ def owners_at_their_limit(limit=OWNERS_LIMIT):
     # An OPEN of an owner that isn't confirmed starts the owner anew, in the place that it had.
     yield opening(0, 5, 0, number=limit + 1, flags=6) + confirming(6, limit + 1)
     yield opening(limit, 1, 0, status=Status.RESOURCE)
-    # A closed owner is still known.
+    # A closed owner is still known: `once` forgets nobody.
     yield closing(7, 2, limit + 1, 0)
     yield opening(limit, 1, 0, status=Status.RESOURCE)
     # An owner that isn't confirmed leaves its place by an OPEN that starts it anew and fails: there is no such file.

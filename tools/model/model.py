@@ -6,7 +6,7 @@ server that may have been refused memory. Sections are those of RFC 7530.
 
 Each operation renews the lease that it has to, and `Server.sweep` ends those that are over. Who has a delegation is
 called back by a recall, which waits until `Server.take_recall` takes it; `Server.revoke` takes a delegation that isn't
-given back, and `Server.mark_path` says whether a client can be called.
+given back, and `Server.mark_path` says whether a client can be called. `Server.forget` forgets an owner that is idle.
 """
 import copy
 from dataclasses import dataclass, field
@@ -14,11 +14,11 @@ from dataclasses import dataclass, field
 import wire
 from delegations import Delegating
 from ranges import READ_MODE, Ranges, denial, length_of
-from states import (ClientRecord, DOWN, Delegation, FULL, GENERATIONS, Kept, LockState, NOT_DUE, NOT_LIVE, OpenState,
-                    Owner, Refusal, Request, Result, SLOTS, UNKNOWN, UP, Unchanged, answer, closed_by, conflict,
-                    contains, expect_filehandle, expect_range, expect_runs, expect_seqid, expect_share, handle_of,
-                    is_first_lock, is_lawful_downgrade, is_special, mode_of, next_seqid, next_sequence_id, replay,
-                    sequence_id_of, slot_of, stateid_of)
+from states import (ClientRecord, Delegation, GENERATIONS, Kept, LockState, OpenState, Owner, Refusal, Request, Result,
+                    SLOTS, UNKNOWN, UP, answer, closed_by, conflict, contains, expect_filehandle, expect_range,
+                    expect_runs, expect_seqid, expect_share, handle_of, is_first_lock, is_lawful_downgrade, is_special,
+                    mode_of, next_seqid, next_sequence_id, replay, sequence_id_of, slot_of, stateid_of)
+from sweeps import Sweeping
 from tree import TEXT_LIMIT, Tree
 from wire import (BOTH, CLAIM_DELEGATE_CUR, CLAIM_DELEGATE_PREV, CLAIM_PREVIOUS, CompoundCall, EXCLUSIVE4, FILE_SYNC4,
                   GUARDED4, NewLocker, OPEN4_CREATE, OPEN_DELEGATE_NONE, OPEN_DELEGATE_WRITE, Opnum, READ, Status,
@@ -59,17 +59,6 @@ SEQUENCED = {Opnum.OPEN, Opnum.OPEN_CONFIRM, Opnum.OPEN_DOWNGRADE, Opnum.CLOSE, 
 OF_NODE = {Opnum.GETATTR, Opnum.LOCKT, Opnum.DELEGRETURN, Opnum.READ, Opnum.WRITE}
 
 
-@dataclass(frozen=True)
-class Swept:
-    """Of a sweep: how many clients it removed, how many have a lease that isn't over, and for how many others the
-    journal had no entry left; how many delegations it took, and whether others are left that are due."""
-    expired: int = 0
-    kept: int = 0
-    refused: int = 0
-    revoked: int = 0
-    is_stopped: bool = False
-
-
 @dataclass
 class Filehandles:
     """Of a COMPOUND: nodes of the tree, or None."""
@@ -78,7 +67,7 @@ class Filehandles:
 
 
 @dataclass
-class Server(Delegating):
+class Server(Delegating, Sweeping):
     """The files, and all that is kept of clients, owners, opens, locks and delegations."""
     tree: Tree = field(default_factory=Tree)
     lease: int = 90
@@ -414,56 +403,6 @@ class Server(Delegating):
         self.expect_client(arguments.epoch, arguments.client)
         return b""
 
-    def sweep(self, now):
-        """Removes the clients whose leases are over, in the order of their numbers: more seconds than the lease have
-        passed since the last renewal. Then it takes the delegations that are due. Each is an entry of the journal."""
-        due = sorted(number for number, moment in self.renewals.items() if moment + self.lease < now)
-        kept, expired, revoked = len(self.renewals) - len(due), 0, 0
-        try:
-            for number in due:
-                self.expire(number, self.renewals[number], now)
-                expired += 1
-        except Unchanged:
-            pass
-        try:
-            while self.revoke(now) is not None:
-                revoked += 1
-        except Unchanged:
-            return Swept(expired, kept, len(due) - expired, revoked, True)
-        return Swept(expired, kept, len(due) - expired, revoked)
-
-    # Changes that no call asks for: each is an entry of the journal, or Unchanged.
-
-    def expect_live(self, number):
-        if not self.is_live(number):
-            raise Unchanged(NOT_LIVE)
-
-    def expect_entry(self):
-        """The journal has room for one more."""
-        if self.entries >= self.journal_limit:
-            raise Unchanged(FULL)
-
-    def enter(self):
-        """Makes the entry of a change that was made: its number."""
-        self.entries += 1
-        return self.entries - 1
-
-    def expire(self, number, seen, now):
-        """Removes a client whose lease was renewed last at the moment that was seen."""
-        self.expect_live(number)
-        if seen + self.lease >= now:
-            raise Unchanged(NOT_DUE)
-        self.expect_entry()
-        self.remove_client(number)
-        return self.enter()
-
-    def mark_path(self, number, is_up):
-        """Says that a client can be called back, or that it can't."""
-        self.expect_live(number)
-        self.expect_entry()
-        self.record_where(True, lambda it: it.number == number).path = UP if is_up else DOWN
-        return self.enter()
-
     # Stateids (section 9.1.4).
 
     def looked_up(self, stateid):
@@ -531,7 +470,7 @@ class Server(Delegating):
         lock_owner = self.next_lock_owner(request)
         result = answer(lambda: self.effect_of(request))
         if result.status not in NOT_COUNTED:
-            owner.kept = Kept(seqid, request, result, self.entries)
+            owner.kept = self.kept(seqid, request, result)
             if lock_owner is not None or is_first_lock(request) and result.status == Status.OK:
                 self.keep_for_lock_owner(request, result)
         return result
@@ -545,10 +484,14 @@ class Server(Delegating):
         result = answer(lambda: self.effect_of(request))
         if result.status == Status.OK:
             name = request.arguments.owner
-            self.open_owners[name] = Owner(name, Kept(request.arguments.seqid, request, result, self.entries))
+            self.open_owners[name] = Owner(name, self.kept(request.arguments.seqid, request, result), self.entries)
         elif result.status == Status.RESOURCE:
             self.open_owners, self.opens = before
         return result
+
+    def kept(self, seqid, request, result):
+        """What is kept of the request that is answered."""
+        return Kept(seqid, request, result, self.entries, self.moment)
 
     def owner_of(self, request):
         """The owner of a sequenced operation, or None for one that is unknown."""
@@ -582,8 +525,9 @@ class Server(Delegating):
     def keep_for_lock_owner(self, request, result):
         """Keeps for the lock owner what a LOCK that names a new one was answered: by then it may be known."""
         locker = request.arguments.locker
-        kept = Kept(locker.lock_seqid, request, result, self.entries)
-        self.lock_owners[locker.owner] = Owner(locker.owner, kept)
+        known = self.lock_owners.get(locker.owner)
+        recorded = self.entries if known is None else known.recorded
+        self.lock_owners[locker.owner] = Owner(locker.owner, self.kept(locker.lock_seqid, request, result), recorded)
 
     def effect_of(self, request):
         return self.rule_of(request.opnum)(request.arguments, request.filehandle)
@@ -668,9 +612,15 @@ class Server(Delegating):
     def close(self, arguments, file):
         """Section 16.2."""
         found = self.open_of(arguments.stateid, file)
+        if self.tree.policy.close_locks == "refuse" and self.holding(found):
+            raise Refusal(Status.LOCKS_HELD)
         self.opens = [it for it in self.opens if it is not found]
         self.lock_states = [it for it in self.lock_states if it.open is not found]
         return self.answer_stateid(found)
+
+    def holding(self, opened):
+        """The lock states of an open that hold a byte."""
+        return [it for it in self.lock_states if it.open is opened and not it.ranges.is_empty()]
 
     # The bytes of files (sections 9.1.4.3 and 9.1.6).
 

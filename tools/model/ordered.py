@@ -5,9 +5,9 @@ program:
 
     tools/rows --program tools/model/ordered.py FILE.rows
 
-It takes the orders of connections one after the other, also where a state is to be shared, and never is out of memory;
-it doesn't look at pieces and rooms. Where the input isn't as it should be it ends with status 2 and
-`rows: invalid input`."""
+It takes the orders of connections one after the other, also where a state is to be shared, sweeps at each new moment
+where it is to sweep meanwhile, and never is out of memory; it doesn't look at pieces and rooms. Where the input isn't
+as it should be it ends with status 2 and `rows: invalid input`."""
 import os
 import sys
 
@@ -74,6 +74,21 @@ def send(data):
         data = data[os.write(1, data):]
 
 
+class Clock:
+    """That of an order's connections, which goes on with their calls."""
+
+    def __init__(self, start, pace):
+        self.start, self.pace, self.calls, self.last = start, pace, 0, None
+
+    def moment(self):
+        return self.start + (self.calls // self.pace if self.pace else 0)
+
+    def is_new(self):
+        """Whether the moment is another one than when this was asked last."""
+        last, self.last = self.last, self.moment()
+        return last != self.last
+
+
 class Session:
     """A server, and what it is told."""
 
@@ -88,7 +103,7 @@ class Session:
             raise Invalid from None
 
     def run(self):
-        orders = [self.serve, self.sweep, self.mark, self.revoke, self.take, self.pending, self.probe]
+        orders = [self.serve, self.sweep, self.mark, self.revoke, self.take, self.pending, self.probe, self.forget]
         while (number := self.input.next_order()) is not None:
             orders[limited(number - 1, len(orders))]()
         data = journal_bytes(self.server.journal())
@@ -101,39 +116,48 @@ class Session:
         if is_swept and self.way == ALONE or self.way == SHARED and count > self.seats:
             raise Invalid
         self.seats -= count * self.way
-        calls = 0
+        clock, swept = Clock(moment, pace), []
         for _, data in sent:
-            calls = self.serve_one(data, moment, pace, calls)
-        ends = [self.server.sweep(self.server.moment) for _ in range(is_swept)]
-        answer(len(ends), sum(swept.expired for swept in ends))
+            self.serve_one(data, clock, swept if is_swept else None)
+        if is_swept:
+            swept.append(self.server.sweep(clock.moment()))
+        answer(len(swept), sum(it.expired for it in swept))
 
-    def serve_one(self, data, moment, pace, calls):
-        """Serves a connection, behind so many calls of its order."""
-        before, replies = len(self.server.recorded), b""
+    def serve_one(self, data, clock, swept):
+        """Serves a connection, with sweeps, whose outcomes are added to these, if there are any."""
+        receipts, replies = [], b""
         records, fault = wire.split_records(data)
         for record in records:
-            self.server.moment = moment + (calls // pace if pace else 0)
+            if swept is not None and clock.is_new():
+                swept.append(self.server.sweep(clock.moment()))
+            self.server.moment, before = clock.moment(), len(self.server.recorded)
             reply = self.server.reply(record)
             replies += b"" if reply is None else wire.record(reply)
-            calls += isinstance(wire.read_call(record), wire.CompoundCall)
+            receipts += range(before, len(self.server.recorded)) if self.way == SHARED else ()
+            clock.calls += isinstance(wire.read_call(record), wire.CompoundCall)
         answer(ERRORS.get(fault, 0), rest_of(data, fault))
-        receipts = range(before, len(self.server.recorded)) if self.way == SHARED else ()
         send(u32(len(replies)) + replies + u32(len(receipts), *receipts))
-        return calls
 
     def sweep(self):
         swept = self.server.sweep(self.input.moment())
-        answer(swept.expired, swept.kept, 0, swept.refused, swept.revoked, swept.is_stopped)
+        answer(swept.expired, swept.kept, 0, swept.refused, swept.revoked, swept.forgotten, swept.is_stopped)
 
     def mark(self):
         client, is_up = self.input.u32(), limited(self.input.u32(), 2)
         answer(error_of(lambda: self.server.mark_path(client, is_up))[0])
 
     def revoke(self):
+        self.change_alone(self.server.revoke)
+
+    def forget(self):
+        self.change_alone(self.server.forget)
+
+    def change_alone(self, change):
+        """Makes what is due at the moment that is read; only where no state is shared."""
         moment = self.input.moment()
         if self.way != ALONE:
             raise Invalid
-        error, entry = error_of(lambda: self.server.revoke(moment))
+        error, entry = error_of(lambda: change(moment))
         answer(error, entry is not None, entry or 0)
 
     def take(self):

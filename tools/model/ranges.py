@@ -67,6 +67,10 @@ class Ranges:
         kept = [step for place, step in enumerate(steps) if place == 0 or steps[place - 1][1] != step[1]]
         return Ranges(*zip(*kept))
 
+    def held(self):
+        """The runs that are held, in order."""
+        return [self.run_at(first) for first, mode in zip(self.starts, self.modes) if mode is not None]
+
     def runs(self):
         """How many runs are held."""
         return sum(mode is not None for mode in self.modes)

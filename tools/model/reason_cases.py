@@ -647,7 +647,66 @@ def clients_of_slots():
     return story
 
 
+def owners_that_are_forgotten():
+    """The number of a closed open leads nowhere then; nor did it where the CLOSE wasn't the kept request any longer."""
+    story = begun("owners that are forgotten")
+    story.close(3, state(1, 2))
+    story.server.forget(91)
+    closed = f"state 1, an {OPEN_A}, was ended by entry 4 (CLOSE)"
+    ended = (f"{closed}, and its owner was forgotten by entry 5", "Idle owners")
+    story.close(3, state(1, 2), ended)
+    story.confirm(4, state(1, 3), ended)
+    # Entries 8 to 11: where no owner is asked for it is no matter; and the stateid of another client.
+    story.read(state(1, 2), (closed, STATEIDS))
+    story.introduce(b"c2")
+    story.confirm_client(2, 2)
+    story.close(3, state(1, 2, client=2), ("state 1 was given to client 1, and the stateid is one of client 2", OWNERS))
+    # Entries 12 to 16: it comes again, by another open.
+    story.open(7)
+    unconfirmed = ('open owner "A" of client 1 isn\'t confirmed: it has opened the file in entry 12, and no '
+                   "OPEN_CONFIRM has followed")
+    story.close(8, state(2), (unconfirmed, STATEIDS))
+    story.close(3, state(1, 2), ended)
+    story.confirm(8, state(2))
+    story.close(9, state(2, 2))
+    story.open(10, ('directory "/" has no "e"', "OPEN"), name=b"e")
+    story.server.forget(91)
+    story.close(9, state(2, 2), (f"state 2, an {OPEN_A}, was ended by entry 16 (CLOSE)", OWNERS))
+    return story
+
+
+def closes_beside_locks():
+    """Refused as long as a byte is held; and what comes before that."""
+    story = Story("CLOSEs beside locks", 'policy.close_locks = "refuse"\n' + DEFAULT)
+    story.introduce()
+    story.confirm_client(1, 1)
+    story.open(1)
+    story.confirm(2, state(1))
+    story.lock_first(3, state(1, 2), 1)
+    by_x = ('lock owner "x" of client 1 holds bytes 0 to {} of file "/a" for writing{}, by state 2, which was changed '
+            "last by ")
+    held = by_x.format(9, "") + "entry 4 (LOCK)"
+    story.close(4, state(1, 2), (held, "CLOSE"))
+    again = f"it is the request of entry 5 (CLOSE) again, and gets the same answer; what stood in its way then: {held}"
+    story.repeat(5, 'CLOSE by open owner "A" of client 1', (again, OWNERS))
+    # Entries 7 to 9: another lock owner, and two ranges of the first.
+    story.lock_first(5, state(1, 2), 1, owner=LockOwner(1, 1, b"y"), locktype=1, offset=20, length=ALL)
+    story.call(Opnum.LOCKU, Locku(2, 2, state(2), 4, 1))
+    by_y = ('lock owner "y" of client 1 holds the bytes from 20 on of file "/a" for reading, by state 3, which was '
+            "changed last by entry 7 (LOCK)")
+    both = by_x.format(3, ", the first of 2 ranges") + f"entry 8 (LOCKU); {by_y}"
+    story.close(6, state(1, 2), (both, "CLOSE"))
+    old = "state 1 has seqid 2 since entry 3 (OPEN_CONFIRM), and the stateid has the earlier 1"
+    story.close(7, state(1), (old, STATEIDS))
+    story.unlock(3, state(2, 2), length=ALL)
+    story.close(8, state(1, 2), (by_y, "CLOSE"))
+    story.unlock(2, state(3), length=ALL)
+    story.close(9, state(1, 2))
+    return story
+
+
 def stories():
     return [stateids(), ends(), clients(), records_that_give_way(), sequence_ids(), kept_answers(), no_kept_answers(),
             opens(), shares(), many_shares(), locks(), bytes_of_files(), bytes_of_lent_files(), delays(), many_delays(),
-            delegation_stateids(), ends_of_delegations(), clients_with_delegations(), clients_of_slots()]
+            delegation_stateids(), ends_of_delegations(), clients_with_delegations(), clients_of_slots(),
+            owners_that_are_forgotten(), closes_beside_locks()]

@@ -17,17 +17,17 @@ from states import (Delegation, LockState, OpenState, Request, closed_by, confli
                     mode_of, next_sequence_id, replay, sequence_id_of, stateid_of)
 from tree import TEXT_LIMIT
 from wire import (BOTH, CLAIM_DELEGATE_CUR, CLAIM_DELEGATE_PREV, CLAIM_PREVIOUS, EXCLUSIVE4, GUARDED4, NewLocker,
-                  OPEN4_CREATE, OPEN_DELEGATE_WRITE, OpenOwner, Opnum, READ, Status, WRITE)
-from words import client_words, opaque_words, place_words, principal_words, purpose_of
+                  OPEN4_CREATE, OPEN_DELEGATE_WRITE, Opnum, READ, Status, WRITE)
+from words import client_words, name_words, owner_words, place_words, principal_words, purpose_of
 
 # What is answered, what stood in the way, and the heading of the rules; and where a kept answer is given, which.
 Reason = namedtuple("Reason", "status text heading again", defaults=[None])
 # A kept answer that is given again: the owner that it is kept for, and its entry.
 Again = namedtuple("Again", "owner entry")
 
-OWNERS, STATEIDS, CLIENT_IDS, SHARE, RANGES, DELEGATIONS = (
-    "Owners and sequenced operations", "Stateids", "Client ids", "Share reservations", "Byte-range locks",
-    "Delegations")
+OWNERS, IDLE, STATEIDS, CLIENT_IDS, SHARE, RANGES, DELEGATIONS = (
+    "Owners and sequenced operations", "Idle owners", "Stateids", "Client ids", "Share reservations",
+    "Byte-range locks", "Delegations")
 
 MODES = {0: "nothing", READ: "READ", WRITE: "WRITE", BOTH: "READ and WRITE"}
 KINDS = {OpenState: "an open", LockState: "a lock state", Delegation: "a delegation"}
@@ -53,15 +53,6 @@ def reasons(journal, limit=JOURNAL_LIMIT):
 
 
 # Words.
-
-def name_words(name):
-    return " ".join(opaque_words(name))
-
-
-def owner_words(owner):
-    kind = "open" if isinstance(owner, OpenOwner) else "lock"
-    return f"{kind} owner {name_words(owner.name)} of {client_words(owner.client)}"
-
 
 def again_words(call, again):
     """A call that has a kept answer: its owner, and the entry whose answer that is."""
@@ -246,10 +237,7 @@ class Causes:
         found = denial([(it.owner, it.ranges) for it in others], *asked, mode)
         if found is not None:
             state = next(it for it in others if it.owner == found.owner)
-            changed = self.entry_words(self.server.moved[state.number])
-            text = (f"{owner_words(found.owner)} holds {run_words(found.run, self.place_words(file))}, by state "
-                    f"{state.number}, which was changed last by {changed}")
-            yield Reason(Status.DENIED, text, RANGES)
+            yield Reason(Status.DENIED, self.holding_words(state, found.run), RANGES)
 
     # Operations that are requests of an owner.
 
@@ -270,10 +258,18 @@ class Causes:
         yield from self.of_stateid_client(stateid)
         owners, found = self.server.open_owners.values(), self.server.looked_up(stateid)
         if found is None and not any(closed_by(owner.kept, stateid) for owner in owners):
-            yield self.missing_state(stateid)._replace(heading=OWNERS)
+            yield self.missing_owner(stateid)
         if isinstance(found, Delegation):
             text = f"the stateid is that of {self.state_words(found)}, and a delegation has no owner"
             yield Reason(Status.BAD_STATEID, text, OWNERS)
+
+    def missing_owner(self, stateid):
+        """A stateid without a state, and without an owner whose kept request closed it."""
+        reason, forgotten = self.missing_state(stateid), self.server.forgotten.get(stateid[1:])
+        if forgotten is None:
+            return reason._replace(heading=OWNERS)
+        text = f"{reason.text}, and its owner was forgotten by {self.entry_words(forgotten)}"
+        return reason._replace(text=text, heading=IDLE)
 
     def due_words(self, owner):
         kept = owner.kept
@@ -404,7 +400,22 @@ class Causes:
             yield Reason(Status.INVAL, text, "OPEN_DOWNGRADE")
 
     def of_close(self, arguments, file):
-        return self.of_stateid(arguments.stateid, OpenState, file)
+        yield from self.of_stateid(arguments.stateid, OpenState, file)
+        server = self.server
+        held = server.holding(server.looked_up(arguments.stateid))
+        if server.tree.policy.close_locks == "refuse" and held:
+            yield Reason(Status.LOCKS_HELD, listed([self.held_words(it) for it in held]), "CLOSE")
+
+    def held_words(self, state):
+        """The first range that a lock state holds, and how many there are."""
+        runs = state.ranges.held()
+        return self.holding_words(state, runs[0], f", the first of {len(runs)} ranges" * (len(runs) > 1))
+
+    def holding_words(self, state, run, more=""):
+        """The bytes that a lock state holds, and since when."""
+        held, changed = run_words(run, self.place_words(state.file)), self.entry_words(self.server.moved[state.number])
+        text = f"{owner_words(state.owner)} holds {held}{more}, by state {state.number}"
+        return f"{text}, which was changed last by {changed}"
 
     # Byte-range locks.
 

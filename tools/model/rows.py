@@ -47,9 +47,11 @@ NO_XID = "a message has no xid, or a number that is none"
 NO_CREDENTIAL = "after the xid of a call only `credential FLAVOR WORDS` can follow"
 NO_END = "the line goes on after its message"
 NO_NUMBER = "a lease is 1 to 86,400 seconds, an epoch below 2^32, a moment below 2^40 - 2"
-NO_SWEEP = "no sweep: `sweep SECONDS expired COUNT kept COUNT`, and behind it maybe `revoked COUNT`"
+NO_SWEEP = ("no sweep: `sweep SECONDS expired COUNT kept COUNT`, and behind it maybe `revoked COUNT`, and then "
+            "`forgotten COUNT`")
 NO_MARK = "no mark of a path: `mark CLIENT up` or `mark CLIENT down`, and then `done` or `not live`"
 NO_REVOCATION = "no revocation: `revoke SECONDS none` or `revoke SECONDS state NUMBER`"
+NO_FORGETTING = "no forgetting: `forget SECONDS none` or `forget SECONDS owner CLIENT \"NAME\"`"
 NO_TAKE = "no recall that is taken: `take record` with its words, of which the first is its xid, or `take nothing`"
 NO_PENDING = "no number of recalls: `pending COUNT`"
 NO_PROBE = "no client to be tried: `probe CLIENT none` or `probe CLIENT client NUMBER`"
@@ -87,12 +89,13 @@ def refusal(path, error):
 
 @dataclass(frozen=True)
 class Sweep:
-    """A look through the leases, and how many clients are to be removed by it, how many kept, and how many delegations
-    are to be taken."""
+    """A look through the leases, and how many clients are to be removed by it, how many kept, how many delegations are
+    to be taken, and how many owners forgotten."""
     moment: int
     expired: int
     kept: int
     revoked: int = 0
+    forgotten: int = 0
 
 
 @dataclass(frozen=True)
@@ -108,6 +111,14 @@ class Revoke:
     """A delegation is taken, if one is due; and the number of the state that it is to be, or None."""
     moment: int
     state: int = None
+
+
+@dataclass(frozen=True)
+class Forget:
+    """An open owner is forgotten, if one is due; and the number of its client and the name that it is to have, or
+    None."""
+    moment: int
+    owner: tuple = None
 
 
 @dataclass(frozen=True)
@@ -134,9 +145,9 @@ class Probe:
 
 
 # What a server is told that no call asks for.
-ORDERS = (Sweep, Mark, Revoke, Take, Pending, Probe)
+ORDERS = (Sweep, Mark, Revoke, Take, Pending, Probe, Forget)
 # What a server whose state threads share isn't told, or answers otherwise, as it hands its recalls over by a queue.
-ALONE_ORDERS = (Revoke, Pending)
+ALONE_ORDERS = (Revoke, Pending, Forget)
 
 
 @dataclass
@@ -377,23 +388,17 @@ def reply(kind, text):
 
 # Lines.
 
+# What is counted of a sweep: the first two always.
+COUNTED = [["expired", "kept", *more] for more in ([], ["revoked"], ["forgotten"], ["revoked", "forgotten"])]
+
+
 def sweep_of(text):
-    """The sweep that is written as SECONDS expired COUNT kept COUNT, and maybe revoked COUNT."""
-    seconds, rest = split_word(text)
-    expired, rest = count_of("expired", rest)
-    kept, rest = count_of("kept", rest)
-    revoked, rest = (0, rest) if next_word(rest) is None else count_of("revoked", rest)
-    expect_end(rest)
-    return Sweep(decimal(seconds, MOMENT_LIMIT, NO_NUMBER), expired, kept, revoked)
-
-
-def count_of(keyword, text):
-    """The number after this word, and what follows it."""
-    found, rest = split_word(text.lstrip(SPACES))
-    digits, rest = split_word(rest.lstrip(SPACES))
-    if found != keyword:
+    """The sweep that is written as SECONDS expired COUNT kept COUNT, and maybe revoked COUNT and forgotten COUNT."""
+    seconds, *counts = [*words_of(text)] or [""]
+    if counts[::2] not in COUNTED or len(counts) % 2:
         raise Wrong(NO_SWEEP)
-    return decimal(digits, 2**32, NO_SWEEP), rest
+    numbers = [decimal(digits, 2**32, NO_SWEEP) for digits in counts[1::2]]
+    return Sweep(decimal(seconds, MOMENT_LIMIT, NO_NUMBER), **dict(zip(counts[::2], numbers)))
 
 
 def mark_of(text):
@@ -412,6 +417,17 @@ def revocation_of(text):
         case [seconds, "state", state]:
             return Revoke(decimal(seconds, MOMENT_LIMIT, NO_NUMBER), decimal(state, 2**32, NO_REVOCATION))
     raise Wrong(NO_REVOCATION)
+
+
+def forgetting_of(text):
+    """The forgetting that is written as SECONDS none or SECONDS owner CLIENT "NAME"."""
+    match [*words_of(text)]:
+        case [seconds, "none"]:
+            return Forget(decimal(seconds, MOMENT_LIMIT, NO_NUMBER))
+        case [seconds, "owner", client, name] if name.startswith('"'):
+            owner = decimal(client, 2**32, NO_FORGETTING), name[1:].encode()
+            return Forget(decimal(seconds, MOMENT_LIMIT, NO_NUMBER), owner)
+    raise Wrong(NO_FORGETTING)
 
 
 def pending_of(text):
@@ -435,12 +451,15 @@ def probe_of(text):
 def order_lines(order):
     """An order as the lines of a row."""
     match order:
-        case Sweep(moment, expired, kept, revoked):
-            return [f"sweep {moment} expired {expired} kept {kept}" + (f" revoked {revoked}" if revoked else "")]
+        case Sweep(moment, expired, kept, revoked, forgotten):
+            more = f" revoked {revoked}" * (revoked > 0) + f" forgotten {forgotten}" * (forgotten > 0)
+            return [f"sweep {moment} expired {expired} kept {kept}{more}"]
         case Mark(client, is_up, is_live):
             return [f"mark {client} {'up' if is_up else 'down'} {'done' if is_live else 'not live'}"]
         case Revoke(moment, state):
             return [f"revoke {moment} " + ("none" if state is None else f"state {state}")]
+        case Forget(moment, owner):
+            return [f"forget {moment} " + ("none" if owner is None else f'owner {owner[0]} "{owner[1].decode()}"')]
         case Take(record):
             return ["take record", f"  hex:{record[4:].hex()}"] if record else ["take nothing"]
         case Pending(count):
@@ -453,7 +472,8 @@ def order_line(order):
     return " ".join(word for line in order_lines(order) for word in line.split())
 
 
-ORDER_LINES = {"sweep": sweep_of, "mark": mark_of, "revoke": revocation_of, "pending": pending_of, "probe": probe_of}
+ORDER_LINES = {"sweep": sweep_of, "mark": mark_of, "revoke": revocation_of, "pending": pending_of, "probe": probe_of,
+               "forget": forgetting_of}
 
 
 class File:

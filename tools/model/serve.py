@@ -41,7 +41,7 @@ def read_options():
     ends.add_argument("--until-input-ends", action="store_true", help="go on until standard input ends")
     ends.add_argument("--until-killed", action="store_true", help="go on until a signal ends it")
     parser.add_argument("--trace", action="store_true",
-                        help="tell each call, and each lease that ends, in a line on standard output")
+                        help="tell each call, and what sweeps end, each in a line on standard output")
     parser.add_argument("--each", action="store_true", help="a new server for each connection; no lease ends")
     given = parser.parse_args()
     if given.each and given.journal is not None:

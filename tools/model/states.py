@@ -59,11 +59,13 @@ class Request:
 
 @dataclass
 class Kept:
-    """The last request of an owner that counted, with its answer and its entry in the journal (section 9.1.8)."""
+    """The last request of an owner that counted, with its answer, its entry in the journal, and when it came (section
+    9.1.8)."""
     seqid: int
     request: Request
     answer: Result
     entry: int
+    moment: int
 
 
 @dataclass
@@ -71,6 +73,8 @@ class Owner:
     """An open owner or a lock owner that is known (section 9.1.5); only an open owner is confirmed (section 9.1.11)."""
     name: OpenOwner | LockOwner
     kept: Kept
+    # The entry by which it became known.
+    recorded: int
     is_confirmed: bool = False
 
 

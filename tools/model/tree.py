@@ -19,9 +19,10 @@ path = "d/c"
 Node = namedtuple("Node", "parent name is_file text")
 ROOT = Node(None, b"", False, b"")
 
-# Which delegations may be given, and whether a client's callback path is tried first: words of the document.
-Policy = namedtuple("Policy", "delegations callbacks")
-DELEGATIONS, CALLBACKS = ("none", "read", "all"), ("probe", "assume")
+# Which delegations may be given, whether a client's callback path is tried first, and what a CLOSE does where bytes are
+# locked, free them or refuse: words of the document.
+Policy = namedtuple("Policy", "delegations callbacks close_locks")
+DELEGATIONS, CALLBACKS, CLOSE_LOCKS = ("none", "read", "all"), ("probe", "assume"), ("free", "refuse")
 
 
 class Refused(Exception):
@@ -147,9 +148,9 @@ def read_document(text):
         raise Refused(SYNTAX) from None
     expect_keys(document, "directory", "file", "policy")
     table = document.get("policy", {})
-    expect_keys(table, "delegations", "callbacks")
-    policy = Policy(table.get("delegations", "all"), table.get("callbacks", "probe"))
-    if policy.delegations not in DELEGATIONS or policy.callbacks not in CALLBACKS:
+    expect_keys(table, *Policy._fields)
+    policy = Policy(table.get("delegations", "all"), table.get("callbacks", "probe"), table.get("close_locks", "free"))
+    if not all(word in words for word, words in zip(policy, (DELEGATIONS, CALLBACKS, CLOSE_LOCKS))):
         raise Refused(SYNTAX)
     directories = [text_of(table, "path") for table in tables(document, "directory", "path")]
     files = [(text_of(table, "path"), text_of(table, "text", "").encode())

@@ -2,9 +2,9 @@
 of files that READ and WRITE bring only the first are shown, where there are many, unless they are wanted whole."""
 import rows
 import wire
-from entries import ARGUMENT_BYTES, Call, Expire, RESTS, Revoke, delegation_given
+from entries import ARGUMENT_BYTES, Call, Expire, Forget, RESTS, Revoke, delegation_given
 from states import SLOTS, slot_of
-from wire import OPEN_DELEGATE_WRITE, Opnum, Status, opaque
+from wire import OPEN_DELEGATE_WRITE, OpenOwner, Opnum, Status, opaque
 
 STATUS_NAMES = {number: name for name, number in rows.NAMES.items() if name.startswith(("NFS4_OK", "NFS4ERR_"))}
 FLAVOR_NAMES = {wire.AUTH_NONE: "AUTH_NONE", wire.AUTH_SYS: "AUTH_SYS"}
@@ -123,6 +123,8 @@ def line_of(entry, tree, is_whole=False):
         return f"{client_words(entry.client)} expires, seen at {entry.seen}, now {entry.now}"
     if isinstance(entry, Revoke):
         return f"the delegation of state {entry.state} is revoked, now {entry.now}"
+    if isinstance(entry, Forget):
+        return f"{owner_words(entry.owner)} is forgotten, now {entry.now}"
     return f"the path of {client_words(entry.client)} is marked {'up' if entry.is_up else 'down'}"
 
 
@@ -130,6 +132,15 @@ def client_words(number):
     """A client by its number; and where its slot was given before, which one in the slot it is."""
     slot, which = slot_of(number), number // SLOTS + 1
     return f"client {number}" + (f" (slot {slot}, {ordinal(which)})" if slot and which > 1 else "")
+
+
+def owner_words(owner):
+    kind = "open" if isinstance(owner, OpenOwner) else "lock"
+    return f"{kind} owner {name_words(owner.name)} of {client_words(owner.client)}"
+
+
+def name_words(name):
+    return " ".join(opaque_words(name))
 
 
 def ordinal(number):

@@ -356,7 +356,7 @@ ruled_for journal state (ops.OpenDowngrade args) request d singles is =
 ruled_for journal state (ops.Close args) request d singles is =
     keeps_for journal.epoch state.clients (ops.Close args) d.effect.change
     (sequenced_keeps journal state (requester_of_stateid journal state args.stateid args.seqid) request (close.own journal state args)
-    (λ node passage ruling h. ruled_keeps ruling _ h (closing_keeps (verdict (confirmed_open node) journal.epoch state args.stateid >>= as_open))) d is)
+    (λ node passage ruling h. ruled_keeps ruling _ h (closing_keeps (verdict (confirmed_open node) journal.epoch state args.stateid >>= as_open >>= close.unless_held journal.policy.close_locks state))) d is)
 ruled_for journal state (ops.Lock args) request d singles is =
     let sequenced = lock_sequenced args args.locker journal state request (Some d) is in
     keeps_for journal.epoch state.clients (ops.Lock args) d.effect.change

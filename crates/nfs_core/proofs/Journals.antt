@@ -84,6 +84,7 @@ Allows-once once journal old (entries.Revoke revoke) effect effect' a a' =
     ∙ ap (λ (at : DelegationAt). change_alone (changes.Returns at.node revoke.number)) (some_equal a.at a'.at (sym a.found ∙ a'.found))
     ∙ sym a'.removal
 Allows-once once journal old (entries.Path path) effect effect' a a' = a.mark ∙ sym a'.mark
+Allows-once once journal old (entries.Forget forget) effect effect' a a' = a.removal ∙ sym a'.removal
 
 -- an entry leads to at most one state
 pub Step-once : AtMostOneDecision → AtMostOneStateAfter

@@ -4,6 +4,9 @@ pub mod DueDelegations
 pub mod NextEntries
 pub mod FileBytes
 pub mod FileChanges
+pub mod IdleOwners
+pub mod StillIdle
+pub mod Forgets
 pub mod Journals
 pub mod LiveClients
 pub mod LiveLaws
@@ -32,3 +35,4 @@ pub mod SoundSteps
 pub mod SoundTargets
 pub mod Storing
 pub mod Transferring
+pub mod Trying

@@ -28,6 +28,7 @@ use Rattle.nfs_state.specs.declared.effect.Effect.{Effect}
 use Rattle.nfs_state.specs.declared.entry.Call.{Call}
 use Rattle.nfs_state.specs.declared.entry.Entry.{Entry}
 use Rattle.nfs_state.specs.declared.entry.Entry.TheVariants as entries
+use Rattle.nfs_state.specs.declared.entry.Forget.{Forget}
 use Rattle.nfs_state.specs.declared.entry.Path.{Path}
 use Rattle.nfs_state.specs.declared.entry.Revoke.{Revoke}
 use Rattle.nfs_rules.specs.entries.Path.{mark_of}
@@ -75,10 +76,16 @@ call_for : (journal : History) (old : State) (call : Call) (effect : Effect) →
 call_for journal old call effect holds allowed =
     ruled_for journal old call.request.op call.request (record { answer = call.answer; effect = effect }) holds.singles allowed.rule
 
--- A revocation leaves the clients as they are, and a mark of a path all but the mark.
+-- A revocation leaves the clients as they are, and so does what is forgotten of an owner, and a mark of a path all but the
+-- mark.
 
 revoked_clients : (journal : History) (old : State) (revoke : Revoke) (new : State) → Step journal old (entries.Revoke revoke) new → new.clients ≡ old.clients
 revoked_clients journal old revoke new step =
+    ap (λ (s : State). s.clients) step.state
+    ∙ ap (λ (e : Effect). (after (length journal.entries) e old).clients) step.allowed.removal
+
+forgotten_clients : (journal : History) (old : State) (forget : Forget) (new : State) → Step journal old (entries.Forget forget) new → new.clients ≡ old.clients
+forgotten_clients journal old forget new step =
     ap (λ (s : State). s.clients) step.state
     ∙ ap (λ (e : Effect). (after (length journal.entries) e old).clients) step.allowed.removal
 
@@ -100,6 +107,8 @@ epoch_allowed journal old (entries.Expire expire) new step holds h =
     (each_left (HasEpoch journal.epoch) expire.client old.clients h))
 epoch_allowed journal old (entries.Revoke revoke) new step holds h =
     subst (HaveEpoch journal.epoch) (sym (revoked_clients journal old revoke new step)) h
+epoch_allowed journal old (entries.Forget forget) new step holds h =
+    subst (HaveEpoch journal.epoch) (sym (forgotten_clients journal old forget new step)) h
 epoch_allowed journal old (entries.Path path) new step holds h =
     subst (HaveEpoch journal.epoch) (sym (marked_clients journal old path new step)) (epoch_marked journal.epoch path.client (mark_of path.up) old.clients h)
 
@@ -235,5 +244,7 @@ pub Events-follow : MarksKeepClients → EventsFollow
 Events-follow law journal old new (events.Expire expire) other lawful step = absurd other
 Events-follow law journal old new (events.Revoke revoke) other lawful step =
     subst (HaveSameClients old.clients) (sym (revoked_clients journal old revoke new step)) (same_clients old.clients)
+Events-follow law journal old new (events.Forget forget) other lawful step =
+    subst (HaveSameClients old.clients) (sym (forgotten_clients journal old forget new step)) (same_clients old.clients)
 Events-follow law journal old new (events.Path path) other lawful step =
     subst (HaveSameClients old.clients) (sym (marked_clients journal old path new step)) (law path.client (mark_of path.up) old.clients).same

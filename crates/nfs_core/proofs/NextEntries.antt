@@ -6,7 +6,8 @@ use Rattle.std.proofs.lemmas.Bool.{both_ways, cond_both, lt-ltb, ltb-true}
 use Rattle.nfs_core.proofs.Journals.{decides_something}
 use Rattle.nfs_core.proofs.Transferring.{each_read, each_write}
 use Rattle.nfs_core.proofs.SoundSequences.{some_equal}
-use Rattle.nfs_core.specs.Events.{MayNotHappen}
+use Rattle.nfs_core.specs.CoreError.{error_of_forget}
+use Rattle.nfs_core.specs.Events.{IsNotRuled, MayNotHappen}
 use Rattle.nfs_core.specs.Server.{Server}
 use Rattle.nfs_core.specs.declared.core_error.CoreError.TheVariants as core_errors
 use Rattle.nfs_core.specs.declared.event.Event.TheVariants as events
@@ -15,6 +16,9 @@ use Rattle.nfs_core.specs.declared.following.FollowError.TheVariants as errors
 use Rattle.nfs_core.specs.Step.{HasNoAnswer, HasNoStep, IsAnswered, Step}
 use Rattle.nfs_rules.specs.Deciding.{Decides}
 use Rattle.nfs_rules.specs.declared.decision.Decision.{Decision}
+use Rattle.nfs_rules.specs.declared.entries.forget.NotForgotten.{NotForgotten}
+use Rattle.nfs_rules.specs.declared.entries.forget.NotForgotten.TheVariants as not_forgotten
+use Rattle.nfs_rules.specs.entries.Forget.{IsForgetting}
 use Rattle.nfs_rules.specs.entries.Revoke.{IsRevocation}
 use Rattle.nfs_rules.specs.operations.{AtMostOneDecision, IsPlain, IsRuled, IsRuledBy}
 use Rattle.nfs_rules.specs.operations.Delegreturn as delegreturn
@@ -41,6 +45,7 @@ use Rattle.nfs_state.specs.Entries.{IsFilehandle, IsSendable, can_be_asked, entr
 use Rattle.nfs_state.specs.State.{State, History}
 use Rattle.nfs_state.specs.Stored.{meaning}
 use Rattle.nfs_state.specs.declared.effect.Effect.{Effect}
+use Rattle.nfs_state.specs.declared.entry.Forget.{Forget}
 use Rattle.nfs_state.specs.declared.entry.Revoke.{Revoke}
 use Rattle.nfs_state.specs.declared.entry.Call.{Call}
 use Rattle.nfs_state.specs.declared.entry.Entry.{Entry}
@@ -227,9 +232,17 @@ next_follows server (entries.Call call) effect next =
 next_follows server (entries.Expire expire) effect next = ((next.allowed.live, next.allowed.due), next.below)
 next_follows server (entries.Revoke revoke) effect next = ((effect, next.allowed), next.below)
 next_follows server (entries.Path path) effect next = (next.allowed.live, next.below)
+next_follows server (entries.Forget forget) effect next = ((effect, next.allowed), next.below)
 
 -- where no delegation may be taken away with this entry, it may not happen
 pub revocation_refused : (server : Server) (revoke : Revoke) (found : Option Effect) → IfNone found ((effect : Effect) → IsRevocation server.journal (meaning server.stored) revoke effect → ⊥)
     → IfErr (ok_or found core_errors.NotDue) (MayNotHappen server (events.Revoke revoke))
 revocation_refused server revoke None none = λ may. none may.0 may.1
 revocation_refused server revoke (Some effect) none = tt
+
+-- where an owner isn't forgotten, it may not be, or memory ran out
+pub forgetting_refused : (server : Server) (forget : Forget) (ruled : Result Effect NotForgotten) (why : NotForgotten) → ruled ≡ Err why
+    → (ruled ≡ Err not_forgotten.NotDue → (effect : Effect) → IsForgetting server.journal (meaning server.stored) forget effect → ⊥)
+    → (ruled ≡ Err not_forgotten.Memory → (effect : Effect) × IsForgetting server.journal (meaning server.stored) forget effect) → IsNotRuled server (events.Forget forget) (error_of_forget why)
+forgetting_refused server forget ruled not_forgotten.NotDue is not_due memory = λ may. not_due is may.0 may.1
+forgetting_refused server forget ruled not_forgotten.Memory is not_due memory = memory is

@@ -89,6 +89,7 @@ pub Others-recall-nothing : OthersRecallNothing
 Others-recall-nothing journal state (entries.Call call) effect other allowed = absurd cc
 Others-recall-nothing journal state (entries.Expire expire) effect other allowed = ap (λ (e : Effect). recalls_by e.change state) allowed.removal
 Others-recall-nothing journal state (entries.Revoke revoke) effect other allowed = ap (λ (e : Effect). recalls_by e.change state) allowed.removal
+Others-recall-nothing journal state (entries.Forget forget) effect other allowed = ap (λ (e : Effect). recalls_by e.change state) allowed.removal
 Others-recall-nothing journal state (entries.Path path) effect other allowed = ap (λ (e : Effect). recalls_by e.change state) allowed.mark
 
 drop_within : (n : ℕ) (xs ys : List Recall) → n ≤ length xs → drop n (xs ++ ys) ≡ drop n xs ++ ys
@@ -160,3 +161,4 @@ pub event_other : (event : Event) → call_of (entry_by event) ≡ None
 event_other (events.Expire expire) = refl
 event_other (events.Revoke revoke) = refl
 event_other (events.Path path) = refl
+event_other (events.Forget forget) = refl

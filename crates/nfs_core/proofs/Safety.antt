@@ -15,6 +15,7 @@ use Rattle.nfs_state.specs.Entries.{with_entry}
 use Rattle.nfs_core.proofs.SafeFiles.{locks_at}
 use Rattle.nfs_core.proofs.SafeLists.{all_replicate, all_weaken, any_found}
 use Rattle.nfs_core.proofs.Sound.{AreNumbered, HasSoundLocks, IsKnownIn, IsLockerKnownIn, IsSound, StandsUnder, OpensStay}
+use Rattle.nfs_core.proofs.IdleOwners.{forgets_idle}
 use Rattle.nfs_core.proofs.SoundClients.{HasSingles, alone, are_records, one_of_client, singles_after, singles_empty, singles_owned}
 use Rattle.nfs_core.proofs.SoundDelegations.{HasSoundDelegations, StayApart, StaySingle, delegations_changed, delegations_empty, delegations_owned}
 use Rattle.nfs_core.proofs.SoundLimits.{FirstRuns, limits_changed, limits_empty, limits_owned}
@@ -64,6 +65,8 @@ allowed_ready journal old (entries.Revoke revoke) effect sound singles allowed =
     subst (IsEffectReady (length journal.entries) old) (sym allowed.removal) (tt, tt)
 allowed_ready journal old (entries.Path path) effect sound singles allowed =
     subst (IsEffectReady (length journal.entries) old) (sym allowed.mark) (tt, tt)
+allowed_ready journal old (entries.Forget forget) effect sound singles allowed =
+    subst (IsEffectReady (length journal.entries) old) (sym allowed.removal) (tt, forgets_idle journal old forget effect allowed)
 allowed_ready journal old (entries.Call call) effect sound singles allowed =
     ruled_ready (length journal.entries) journal old call.request.op call.request (record { answer = call.answer; effect = effect }) refl sound singles allowed.rule
 

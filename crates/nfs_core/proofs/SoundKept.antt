@@ -196,6 +196,7 @@ keep_changed K (changes.Confirms node number owner) old h =
     all_map (λ o. K o.kept_entry) (λ o. K o.kept_entry) (λ o. if has_name (open_owner owner) o then record o { confirmed = true } else o)
     (λ o k. cond_both (has_name (open_owner owner) o) (record o { confirmed = true }) o (λ (x : KnownOwner). K x.kept_entry) (λ _. k) (λ _. k)) old.owners h
 keep_changed K (changes.Releases owner) old h = keep_left K (λ o. not (has_name (lock_owner owner) o)) old.owners h
+keep_changed K (changes.Forgets owner) old h = keep_left K (λ o. not (has_name (open_owner owner) o)) old.owners h
 keep_changed K (changes.Expires client) old h = keep_left K (λ o. not (is_same_client o.name.client client)) old.owners h
 keep_changed K change old h = h
 
@@ -221,6 +222,8 @@ new_counted journal old (entries.Call call) effect allowed kept =
 new_counted journal old (entries.Expire expire) effect allowed kept =
     absurd (cc (ap (λ (e : Effect). keeps e.owner) allowed.removal, kept))
 new_counted journal old (entries.Revoke revoke) effect allowed kept =
+    absurd (cc (ap (λ (e : Effect). keeps e.owner) allowed.removal, kept))
+new_counted journal old (entries.Forget forget) effect allowed kept =
     absurd (cc (ap (λ (e : Effect). keeps e.owner) allowed.removal, kept))
 new_counted journal old (entries.Path path) effect allowed kept =
     absurd (cc (ap (λ (e : Effect). keeps e.owner) allowed.mark, kept))

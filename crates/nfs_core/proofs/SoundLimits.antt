@@ -159,6 +159,7 @@ owners_changed (changes.Clients change) old below = below
 owners_changed (changes.Confirms node number owner) old below =
     omega (arith, as_many (λ o. if has_name (open_owner owner) o then record o { confirmed = true } else o) old.owners, below)
 owners_changed (changes.Releases owner) old below = omega (arith, left_many (lock_owner owner) old.owners, below)
+owners_changed (changes.Forgets owner) old below = omega (arith, left_many (open_owner owner) old.owners, below)
 owners_changed (changes.Expires client) old below =
     omega (arith, fewer (λ o. not (is_same_client o.name.client client)) old.owners, below)
 owners_changed change old below = below

@@ -439,7 +439,7 @@ ruled_ready number journal state (ops.OpenDowngrade args) request d same sound s
 ruled_ready number journal state (ops.Close args) request d same sound singles is =
     sequenced_ready number journal state (requester_of_stateid journal state args.stateid args.seqid) request (close.own journal state args)
     (quiet_ready number journal state (requester_of_stateid journal state args.stateid args.seqid) request.op (close.own journal state args request) sound (ap is_open same) (λ client. ap (newcomer_of journal state client) same)
-    (λ node passage ruling h. as_ruled ruling _ h (closing_quiet (verdict (confirmed_open node) journal.epoch state args.stateid >>= as_open)))) d is
+    (λ node passage ruling h. as_ruled ruling _ h (closing_quiet (verdict (confirmed_open node) journal.epoch state args.stateid >>= as_open >>= close.unless_held journal.policy.close_locks state)))) d is
 ruled_ready number journal state (ops.Lock args) request d same sound singles is =
     let sequenced = lock_sequenced args args.locker journal state request (Some d) is in
     sequenced_ready number journal state (requester_of_stateid journal state (stateid_of args.locker) sequenced.0) request (lock.own journal state args)

@@ -1,5 +1,6 @@
 -- An entry's changes keep the state sound, given what its rule makes sure of.
-use Rattle.std.proofs.Common.{◌≡◌, ℕ, Bool, true, false, Option, Some, None, List, refl, arith}
+use Rattle.std.proofs.Common.{◌≡◌, ℕ, Bool, true, false, cond, Option, Some, None, List, [], ◌∷◌, refl, ap, arith}
+use Rattle.std.proofs.lemmas.Bool.{and_from, and_parts, cond_both}
 use Rattle.std.specs.Prelude.{⊤, ◌+◌, ◌≤◌, ◌&&◌, find, is_some, length, map, nat_lt, not, if◌then◌else◌}
 use Rattle.std.specs.List.{AllByRecursion}
 use Rattle.nfs_state.specs.declared.change.Change.{Change}
@@ -13,9 +14,10 @@ use Rattle.nfs_state.specs.Changes.{after, last_state_after, with_grant, with_op
 use Rattle.nfs_state.specs.Changes as state_changes
 use Rattle.nfs_state.specs.Places.{has_state_place}
 use Rattle.nfs_state.specs.State.{State}
+use Rattle.nfs_core.specs.Safe.{bears}
 use Rattle.nfs_core.proofs.SafeFiles.{lists_at, set_lists}
-use Rattle.nfs_core.proofs.SafeLists.{all_filter, all_push, all_set}
-use Rattle.nfs_core.proofs.Sound.{AreLive, IsAloneOf, HasRecord, IsKnownIn, IsOnlyOf, IsSound, StandsUnder, KeepsOwner, KeepsOwners, OpensStay, dropped_compatible, dropped_known, dropped_live, each_known, is_known_in, is_live_in, keeps_mapped, keeps_recorded, keeps_tested, live_confirmed, live_expired, live_marked, live_replaced, mapped_live, name_left, none_of, opening_known, renamed_known, single_confirmed, single_left, single_marked}
+use Rattle.nfs_core.proofs.SafeLists.{all_filter, all_push, all_set, all_weaken}
+use Rattle.nfs_core.proofs.Sound.{AreKnown, AreLive, IsAloneOf, HasRecord, IsKnownIn, IsLockerKnownIn, IsOnlyOf, IsSound, StandsUnder, KeepsOwner, KeepsOwners, OpensStay, confirmed_left, dropped_compatible, dropped_known, dropped_live, each_known, is_known_in, is_live_in, keeps_mapped, keeps_recorded, keeps_tested, live_confirmed, live_expired, live_marked, live_replaced, mapped_live, name_left, none_of, opening_known, renamed_known, single_confirmed, single_left, single_marked}
 use Rattle.nfs_core.proofs.SoundLocks.{LocksStay, locks_begun, locks_changed, locks_closed, locks_numbered, locks_owned, locks_released, locks_reopened, locks_without, locks_without_client, under_each, under_opening}
 use Rattle.nfs_forms.specs.ClientId.{is_same_client}
 use Rattle.nfs_forms.specs.declared.client_id.ClientId.{ClientId}
@@ -24,7 +26,7 @@ use Rattle.nfs_forms.specs.declared.lock_owner.LockOwner.{LockOwner}
 use Rattle.nfs_forms.specs.declared.open_owner.OpenOwner.{OpenOwner}
 use Rattle.nfs_locks.specs.AllLocks.{is_full_for, locks_of}
 use Rattle.nfs_locks.specs.Laws.{IsFreeFor}
-use Rattle.nfs_locks.specs.Locks.{first_state, is_lock_of, lock_of}
+use Rattle.nfs_locks.specs.Locks.{ByteLocks, first_state, is_lock_of, lock_of}
 use Rattle.nfs_locks.specs.Locks as locks
 use Rattle.nfs_owners.specs.Choice.{IsNextNumber, has_number_left}
 use Rattle.nfs_owners.specs.Registry.{Registry, is_of, is_of_client}
@@ -43,6 +45,8 @@ use Rattle.nfs_share.specs.declared.delegation.FileUse.TheVariants as uses
 use Rattle.nfs_share.specs.declared.share.Share.{Share}
 use Rattle.nfs_tree.specs.declared.tree.TheConstants.{TEXT_LIMIT}
 use Rattle.nfs_share.specs.Laws.{AllAreCompatible}
+use Rattle.nfs_share.specs.Opens as opens
+use Rattle.nfs_share.specs.declared.open_state.OpenState.{OpenState}
 use Rattle.nfs_share.specs.Opens.{after_downgrade, is_numbered, is_refused, open_of, with_each, with_next_seqid, with_opening, without}
 
 -- The client of an owner that becomes known is live, and there is a place for the owner. An owner that is dropped isn't
@@ -92,10 +96,15 @@ MayOpen node owner share lent state =
     × (has_lending_place state (has_open state owner node) lent ≡ true)
     × CanLend node owner.client lent state
 
+-- none of the opens is the owner's
+abbrev pub HasNoOpen : OpenOwner → List (List OpenState) → Type 0
+HasNoOpen owner opens = AllByRecursion (AllByRecursion (λ o. is_same_owner o.owner owner ≡ false)) opens
+
 -- The owner of an open is known, and its OPEN may come next. The owner of a lock state that begins is known, an open of the
 -- node is there for it, the bytes are free for it, it has no lock state of the file, and there is a place for one; those of
 -- another change are free for the owner of a lock state with the number, and leave its runs within the limit. What is written
--- ends within the limit of a file. A client that expires is live, and no other has its number.
+-- ends within the limit of a file. A client that expires is live, and no other has its number. An owner that is forgotten has
+-- no open.
 abbrev pub IsChangeReady : Change → State → Type 0
 IsChangeReady (changes.Clients change) state = IsClientReady change state.clients
 IsChangeReady (changes.Opens node owner share lent) state =
@@ -114,6 +123,7 @@ IsChangeReady (changes.Locks node number change) state =
 IsChangeReady (changes.Writes node offset bytes) state = offset + length bytes ≤ TEXT_LIMIT
 IsChangeReady (changes.Expires client) state =
     (is_live_in state.clients.confirmed client ≡ true) × AllByRecursion (IsAloneOf client) state.clients.confirmed
+IsChangeReady (changes.Forgets owner) state = HasNoOpen owner state.opens
 IsChangeReady change state = ⊤
 
 abbrev pub IsEffectReady : ℕ → State → Effect → Type 0
@@ -261,6 +271,62 @@ sound_granted node client (Some kind) old sound = record {
   locks = locks_numbered old.owners old.opens old.last_state (old.last_state + 1) old.locks (omega arith) sound.locks;
 }
 
+-- An owner that has no open is forgotten.
+
+forgotten_known : (owner : OpenOwner) (owners : List KnownOwner) (xs : List OpenState) → AllByRecursion (λ o. is_same_owner o.owner owner ≡ false) xs → AllByRecursion (IsKnownIn owners) xs
+    → AllByRecursion (IsKnownIn (without_owner (open_owner owner) owners)) xs
+forgotten_known owner owners [] none known = tt
+forgotten_known owner owners (o ∷ xs) none known =
+    (name_left (λ n. is_same_state_owner n (open_owner owner)) owners (open_owner o.owner) none.0 known.0, forgotten_known owner owners xs none.1 known.1)
+
+all_forgotten_known : (owner : OpenOwner) (owners : List KnownOwner) (opens : List (List OpenState)) → HasNoOpen owner opens → AreKnown owners opens → AreKnown (without_owner (open_owner owner) owners) opens
+all_forgotten_known owner owners [] none known = tt
+all_forgotten_known owner owners (xs ∷ opens) none known = (forgotten_known owner owners xs none.0 known.0, all_forgotten_known owner owners opens none.1 known.1)
+
+under_forgotten : (owner : OpenOwner) (owners : List KnownOwner) (l : ByteLocks) (xs : List OpenState) → AllByRecursion (λ o. is_same_owner o.owner owner ≡ false) xs → StandsUnder owners xs l
+    → StandsUnder (without_owner (open_owner owner) owners) xs l
+under_forgotten owner owners l [] none under = under
+under_forgotten owner owners l (o ∷ xs) none under = by (bears owners l o) refl under (λ there. under_forgotten owner owners l xs none.1 there)
+  where
+    left_owners : List KnownOwner
+    left_owners = without_owner (open_owner owner) owners
+
+    own : Bool
+    own = is_numbered l.open_number o && opens.is_of_client l.owner.client o
+
+    still : bears owners l o ≡ true → bears left_owners l o ≡ true
+    still bears_it =
+        let parts = and_parts own (is_confirmed (open_owner o.owner) owners) bears_it in
+        and_from own (is_confirmed (open_owner o.owner) left_owners) parts.0
+        (confirmed_left (λ n. is_same_state_owner n (open_owner owner)) owners (open_owner o.owner) none.0 parts.1)
+
+    by : (b : Bool) → bears owners l o ≡ b → is_some (cond b (Some o) (find (bears owners l) xs)) ≡ true → (is_some (find (bears owners l) xs) ≡ true → is_some (find (bears left_owners l) xs) ≡ true)
+        → is_some (cond (bears left_owners l o) (Some o) (find (bears left_owners l) xs)) ≡ true
+    by true is here rest = ap (λ b. is_some (cond b (Some o) (find (bears left_owners l) xs))) (still is)
+    by false is there rest =
+        cond_both (bears left_owners l o) (Some o) (find (bears left_owners l) xs) (λ found. is_some found ≡ true) (λ _. refl) (λ _. rest there)
+
+sound_forgotten : (owner : OpenOwner) (old : State) → HasNoOpen owner old.opens → IsSound old → IsSound (record old { owners = without_owner (open_owner owner) old.owners })
+sound_forgotten owner old none sound =
+    let t : StateOwner → Bool = λ n. is_same_state_owner n (open_owner owner) in
+    let left_owners = without_owner (open_owner owner) old.owners in
+    record {
+      live = dropped_live t old.clients.confirmed old.owners sound.live;
+      known = all_forgotten_known owner old.owners old.opens none sound.known;
+      compatible = sound.compatible;
+      single = sound.single;
+      locks = record {
+        known = all_weaken (AllByRecursion (IsLockerKnownIn old.owners)) (AllByRecursion (IsLockerKnownIn left_owners))
+            (λ ls h. all_weaken (IsLockerKnownIn old.owners) (IsLockerKnownIn left_owners) (λ l found. name_left t old.owners (lock_owner l.owner) refl found) ls h) old.locks sound.locks.known;
+        compatible = sound.locks.compatible;
+        under = λ node.
+            let xs = opens_of node old.opens in
+            all_weaken (StandsUnder old.owners xs) (StandsUnder left_owners xs)
+            (λ l under. under_forgotten owner old.owners l xs (lists_at (AllByRecursion (λ o. is_same_owner o.owner owner ≡ false)) tt node old.opens none) under) (locks_of node old.locks) (sound.locks.under node);
+        numbered = sound.locks.numbered;
+      };
+    }
+
 sound_changed : OpensStay → LocksStay → (change : Change) (old : State) → IsChangeReady change old → IsSound old → IsSound (with_state_change change old)
 sound_changed law lock_law changes.Nothing old ready sound = sound
 sound_changed law lock_law (changes.Clients change) old ready sound = sound_clients law lock_law change old ready sound
@@ -325,6 +391,7 @@ sound_changed law lock_law (changes.Expires client) old ready sound = record {
   single = single_left (is_of_client client.number) old.clients.confirmed sound.single;
   locks = locks_without_client lock_law client old.owners old.opens old.last_state old.locks sound.locks;
 }
+sound_changed law lock_law (changes.Forgets owner) old ready sound = sound_forgotten owner old ready sound
 sound_changed law lock_law (changes.Recalls node file_use moment) old ready sound = record {
   live = sound.live;
   known = sound.known;

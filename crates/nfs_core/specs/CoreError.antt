@@ -4,6 +4,8 @@ use Rattle.nfs_core.specs.declared.core_error.CoreError.{CoreError}
 use Rattle.nfs_core.specs.declared.core_error.CoreError.TheVariants as errors
 use Rattle.nfs_rules.specs.declared.entries.expire.NotExpired.{NotExpired}
 use Rattle.nfs_rules.specs.declared.entries.expire.NotExpired.TheVariants as reasons
+use Rattle.nfs_rules.specs.declared.entries.forget.NotForgotten.{NotForgotten}
+use Rattle.nfs_rules.specs.declared.entries.forget.NotForgotten.TheVariants as not_forgotten
 
 -- the number of an error
 abbrev pub number_of : CoreError → ℕ
@@ -16,3 +18,8 @@ number_of errors.Memory = 4
 abbrev pub error_of : NotExpired → CoreError
 error_of reasons.NotLive = errors.NotLive
 error_of reasons.NotDue = errors.NotDue
+
+-- an owner that isn't forgotten for this reason
+abbrev pub error_of_forget : NotForgotten → CoreError
+error_of_forget not_forgotten.NotDue = errors.NotDue
+error_of_forget not_forgotten.Memory = errors.Memory

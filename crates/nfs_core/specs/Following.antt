@@ -73,6 +73,7 @@ MayFollow server (entries.Call call) =
 MayFollow server (entries.Expire expire) = MayBeEntered server (events.Expire expire)
 MayFollow server (entries.Revoke revoke) = MayBeEntered server (events.Revoke revoke)
 MayFollow server (entries.Path path) = MayBeEntered server (events.Path path)
+MayFollow server (entries.Forget forget) = MayBeEntered server (events.Forget forget)
 
 -- Where a limit would be passed, no entry may come next.
 abbrev pub error_of : Shortage → FollowError

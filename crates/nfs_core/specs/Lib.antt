@@ -7,5 +7,7 @@ pub mod Entered
 pub mod CoreError
 pub mod Following
 pub mod Events
+pub mod Forgetting
+pub mod ForgetLaws
 pub mod LiveClients
 pub mod Callbacks

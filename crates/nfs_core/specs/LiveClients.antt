@@ -40,8 +40,8 @@ abbrev pub IsAlone : ℕ → Registry → Type 0
 IsAlone number registry =
     (other : ℕ) → slot_of other ≡ slot_of number → IsFalse (is_live other registry)
 
--- There is no number for a newcomer exactly where a client is live in each slot: a lawful journal is too short to use up the
--- generations of a slot.
+-- There is no number for a newcomer exactly where a client is live in each slot: a lawful journal is too short to use
+-- up the generations of a slot.
 abbrev pub NewcomersFindSlots : Type 0
 NewcomersFindSlots =
     (journal : History) (state : State) (id : List ℕ)

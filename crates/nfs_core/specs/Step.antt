@@ -9,6 +9,7 @@ use Rattle.nfs_state.specs.declared.request.Request.{Request}
 use Rattle.nfs_state.specs.Changes.{after}
 use Rattle.nfs_state.specs.Entries.{IsFilehandle, entry_of, resource}
 use Rattle.nfs_rules.specs.entries.Expire.{IsExpiry}
+use Rattle.nfs_rules.specs.entries.Forget.{IsForgetting}
 use Rattle.nfs_rules.specs.entries.Path.{IsPathMark}
 use Rattle.nfs_rules.specs.entries.Revoke.{IsRevocation}
 use Rattle.nfs_rules.specs.operations.{IsRuled}
@@ -30,6 +31,7 @@ Allows journal old (entries.Call call) effect = IsAnswered journal old call effe
 Allows journal old (entries.Expire expire) effect = IsExpiry journal old expire effect
 Allows journal old (entries.Revoke revoke) effect = IsRevocation journal old revoke effect
 Allows journal old (entries.Path path) effect = IsPathMark journal old path effect
+Allows journal old (entries.Forget forget) effect = IsForgetting journal old forget effect
 
 -- In the state old, after this journal, the entry may come next and leads to the state new.
 pub record Step (journal : History) (old : State) (entry : Entry) (new : State) : Type 0 where

@@ -1,7 +1,7 @@
 ghost use Rattle.std.specs.Prelude.{◌≡◌};
 ghost use Rattle.nfs_core.specs.CoreError.{number_of};
 
-use nfs_rules::NotExpired;
+use nfs_rules::{NotExpired, NotForgotten};
 use std::alloc::AllocError;
 use thiserror::Error;
 
@@ -11,7 +11,7 @@ pub enum CoreError {
     /// The client has no confirmed record.
     #[error("the client isn't live (1)")]
     NotLive = 1,
-    /// The client's lease hasn't run out.
+    /// The time of the event hasn't come, as where the client's lease hasn't run out.
     #[error("the client's lease hasn't run out (2)")]
     NotDue = 2,
     /// The journal has as many entries as it can have.
@@ -52,6 +52,20 @@ impl From<NotExpired> for CoreError {
         match reason {
             NotExpired::NotLive => CoreError::NotLive,
             NotExpired::NotDue => CoreError::NotDue,
+        }
+    }
+}
+
+impl From<NotForgotten> for CoreError {
+    ghost use Rattle.std.specs.Prelude.{◌≡◌};
+    ghost use Rattle.nfs_core.specs.CoreError.{error_of_forget};
+
+    ghost from_gives = { λ reason e. e ≡ error_of_forget reason };
+
+    fn from(reason: NotForgotten) -> CoreError {
+        match reason {
+            NotForgotten::NotDue => CoreError::NotDue,
+            NotForgotten::Memory => CoreError::Memory,
         }
     }
 }

@@ -2,7 +2,7 @@ ghost use Rattle.std.specs.Prelude.{◌≡◌, ◌↔◌, ◌≤◌, ◌<◌, �
 ghost use Rattle.std.specs.Option.{option_copied};
 ghost use Rattle.nfs_core.specs.Callbacks.{callback_of, has_delegation};
 ghost use Rattle.nfs_core.specs.Entered.{Answers};
-ghost use Rattle.nfs_core.specs.Events.{IsNotEntered, IsNotRevokedFor, IsRevoked, IsWithoutRoom, MayHappen, NoneIsDue, entry_by, expire_of, path_of, revoke_of};
+ghost use Rattle.nfs_core.specs.Events.{IsForgotten, IsForgottenFrom, IsNotEntered, IsNotForgottenFor, IsNotRevokedFor, IsRevoked, IsWithoutRoom, MayHappen, NoneIsDue, NoneIsIdle, NoneIsIdleBefore, entry_by, expire_of, path_of, revoke_of};
 ghost use Rattle.nfs_core.specs.Following.{MayFollow};
 ghost use Rattle.nfs_core.specs.LiveClients.{AreNumbered, AreOfOneRun};
 ghost use Rattle.nfs_core.specs.Recalls.{AreLeftOf, no_recalls};
@@ -23,10 +23,11 @@ ghost use Rattle.nfs_xdr.specs.Opnum.{answer_limit};
 use crate::answering::enter_decided;
 use crate::entering::enter_event;
 use crate::following::{decide_next, follow};
+use crate::forgetting::forget_next;
 use crate::holdings::Holdings;
 use crate::laws::{lawful_is_safe, recalls_follow};
 use crate::pending_recalls::PendingRecalls;
-use crate::{CoreError, Entered, Event, FollowError};
+use crate::{CoreError, Entered, Event, FollowError, Forgotten};
 use nfs_owners::ClientState;
 use nfs_rpc::Recall;
 use nfs_state::{
@@ -261,6 +262,44 @@ impl Core {
                 Err(error) => Err(error),
             },
         }
+    }
+
+    /// Forgets the open owner that may be forgotten at `now`, if one may: it has no open, and a lease has passed since its
+    /// kept request. Of those that may be it is the one that the least entry recorded. Enters that in the journal, and returns
+    /// the entry's number. Fails only where one may be forgotten, with Full before Memory, and so changes nothing but room, of
+    /// which there isn't less.
+    pub fn forget(&mut self, now: Moment) -> Result<Option<u32>, CoreError>
+        ensures forgotten { IfOk result (IsForgotten self.old self.new now) }
+        ensures recalls { self.new.recalls ≡ self.old.recalls }
+        ensures none { result ≡ Ok None ↔ NoneIsIdle self.old now }
+        ensures error { IfErr result (IsNotForgottenFor self.old now) }
+        ensures same { OnErr result (AreAlike self.old self.new) }
+        ensures room { OnErr result (self.old.room ≤ self.new.room) }
+        ensures lawful { IsLawful self.new }
+    {
+        match self.forget_from(0, now) {
+            Ok(Some(forgotten)) => Ok(Some(forgotten.number)),
+            Ok(None) => Ok(None),
+            Err(error) => Err(error),
+        }
+    }
+
+    /// The same, where no owner may be forgotten that an entry before this one recorded. Tells as well which entry had
+    /// recorded the owner: whoever forgets all goes on from that one, and looks at each owner once.
+    pub fn forget_from(&mut self, entry: u32, now: Moment) -> Result<Option<Forgotten>, CoreError>
+        requires { NoneIsIdleBefore entry self.old now }
+        ensures forgotten { IfOk result (IsForgottenFrom self.old self.new now) }
+        ensures recalls { self.new.recalls ≡ self.old.recalls }
+        ensures none { result ≡ Ok None ↔ NoneIsIdle self.old now }
+        ensures error { IfErr result (IsNotForgottenFor self.old now) }
+        ensures same { OnErr result (AreAlike self.old self.new) }
+        ensures room { OnErr result (self.old.room ≤ self.new.room) }
+        ensures lawful { IsLawful self.new }
+    {
+        lawful_is_safe();
+        recalls_follow();
+        let held = &mut self.held;
+        forget_next(self.alloc, held, entry, now)
     }
 
     /// Marks whether callbacks reach the live client with this number, as `enter` does.

@@ -1,7 +1,7 @@
 //! What happens without a call, and its entry in the journal.
 
-ghost use Rattle.std.specs.Prelude.{◌≡◌, ◌≢◌, ◌≤◌, Err, IfErr, IfOk, OnErr};
-ghost use Rattle.nfs_core.specs.Events.{IsNotEntered, MayNotHappen, entry_by};
+ghost use Rattle.std.specs.Prelude.{◌≡◌, ◌≤◌, Err, IfErr, IfOk, OnErr};
+ghost use Rattle.nfs_core.specs.Events.{IsForget, IsNotEntered, IsNotRuled, entry_by};
 ghost use Rattle.nfs_core.specs.Following.{IsNext, StoreAgrees};
 ghost use Rattle.nfs_core.specs.Server.{AreAlike, Enters, server_of};
 ghost use Rattle.nfs_core.specs.Step.{Allows};
@@ -11,7 +11,7 @@ ghost use Rattle.nfs_state.specs.Store.{OwnersAgree};
 use crate::committing::commit;
 use crate::holdings::Holdings;
 use crate::{CoreError, Event};
-use nfs_rules::{expire, mark_path, revoke};
+use nfs_rules::{expire, forget, mark_path, revoke};
 use nfs_state::Effect;
 use std::alloc::Global;
 
@@ -30,7 +30,7 @@ pub(crate) fn enter_event(
     ensures same { OnErr result (AreAlike (server_of held.old) (server_of held.new)) }
     ensures room { OnErr result (held.old.store.journal.room ≤ held.new.store.journal.room) }
 {
-    match effect_of(held, &event) {
+    match effect_of(alloc, held, &event) {
         Ok(effect) => match commit(alloc, held, event.into_entry(), effect) {
             Ok(number) => Ok(number),
             Err(_) => Err(CoreError::Memory),
@@ -42,31 +42,37 @@ pub(crate) fn enter_event(
     }
 }
 
-// The effect of the event, if it may come next. It takes no memory.
-fn effect_of(held: &Holdings, event: &Event) -> Result<Effect, CoreError>
+// The effect of the event, if it may come next.
+fn effect_of(alloc: Global, held: &Holdings, event: &Event) -> Result<Effect, CoreError>
     ensures next { IfOk result (λ effect. IsNext held.now.store.journal.history
         (state_of held.now.store.tables) (entry_by event.now) effect) }
     ensures error { IfErr result (IsNotEntered (server_of held.now) event.now) }
-    ensures memory { result ≢ Err CoreError.Memory }
+    ensures memory { result ≡ Err CoreError.Memory → IsForget event.now }
 {
-    let effect = ruled_effect(held, event)?;
-    if held.store.journal.is_full() {
-        drop(effect);
-        return Err(CoreError::Full);
+    match ruled_effect(alloc, held, event) {
+        Ok(effect) => {
+            if held.store.journal.is_full() {
+                drop(effect);
+                return Err(CoreError::Full);
+            }
+            Ok(effect)
+        }
+        Err(CoreError::Memory) if held.store.journal.is_full() => Err(CoreError::Full),
+        Err(error) => Err(error),
     }
-    Ok(effect)
 }
 
 // The effect that the rule of its kind gives the event.
-fn ruled_effect(held: &Holdings, event: &Event) -> Result<Effect, CoreError>
+fn ruled_effect(alloc: Global, held: &Holdings, event: &Event) -> Result<Effect, CoreError>
     ensures allowed { IfOk result (λ effect. Allows held.now.store.journal.history
         (state_of held.now.store.tables) (entry_by event.now) effect) }
-    ensures refused { IfErr result (MayNotHappen (server_of held.now) event.now) }
+    ensures refused { IfErr result (IsNotRuled (server_of held.now) event.now) }
 {
     let store = &held.store;
     match event {
         Event::Expire(event) => Ok(expire(store, event)?),
         Event::Revoke(event) => revoke(store, event).ok_or(CoreError::NotDue),
         Event::Path(event) => mark_path(store, event).ok_or(CoreError::NotLive),
+        Event::Forget(event) => Ok(forget(alloc, store, event)?),
     }
 }

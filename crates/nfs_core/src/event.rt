@@ -1,7 +1,7 @@
 ghost use Rattle.std.specs.Prelude.{◌≡◌};
 ghost use Rattle.nfs_core.specs.Events.{entry_by};
 
-use nfs_state::{Entry, Expire, Path, Revoke};
+use nfs_state::{Entry, Expire, Forget, Path, Revoke};
 
 /// What happens without a call.
 #[derive(Drop)]
@@ -12,6 +12,8 @@ pub enum Event {
     Revoke(Revoke),
     /// It became known whether callbacks reach a client.
     Path(Path),
+    /// An open owner that has no open, and whose kept request is older than a lease, is forgotten.
+    Forget(Forget),
 }
 
 impl Event {
@@ -23,6 +25,7 @@ impl Event {
             Event::Expire(expire) => Entry::Expire(expire),
             Event::Revoke(revoke) => Entry::Revoke(revoke),
             Event::Path(path) => Entry::Path(path),
+            Event::Forget(forget) => Entry::Forget(forget),
         }
     }
 }

@@ -62,6 +62,7 @@ pub(crate) fn follow(alloc: Global, held: &mut Holdings, entry: Entry) -> Result
         Entry::Expire(expire) => follow_event(alloc, held, Event::Expire(expire)),
         Entry::Revoke(revoke) => follow_event(alloc, held, Event::Revoke(revoke)),
         Entry::Path(path) => follow_event(alloc, held, Event::Path(path)),
+        Entry::Forget(forget) => follow_event(alloc, held, Event::Forget(forget)),
     }
 }
 

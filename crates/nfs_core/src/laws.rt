@@ -1,3 +1,4 @@
+ghost use Rattle.nfs_core.specs.ForgetLaws.{OnlyIdleOwnersGo, ForgottenAreAsNew, OpenersStay};
 ghost use Rattle.nfs_core.specs.Lawful.{AtMostOneState, Lawful};
 ghost use Rattle.nfs_core.specs.LiveClients.{AreNumbered, AreOfOneRun, CallsFollow, EffectsFollow, EndsFollow, EventsFollow, NewcomersFindSlots};
 ghost use Rattle.nfs_core.specs.Recalls.{AreOneList, OthersRecallNothing, RecallsBegin, RecallsFollow, RecallsRise};
@@ -105,3 +106,19 @@ pub fn live_clients_follow()
     first_change_has_place();
     marks_keep_clients();
 }
+
+/// The law that an owner which has an open is never forgotten.
+pub fn openers_stay()
+    ensures { OpenersStay }
+{}
+
+/// The law of what goes with the end of an owner: an owner that has no open, and whose kept request is older than a lease;
+/// and nothing else.
+pub fn only_idle_owners_go()
+    ensures { OnlyIdleOwnersGo }
+{}
+
+/// The law that an owner which was forgotten and comes again is as one that never came.
+pub fn forgotten_are_as_new()
+    ensures { ForgottenAreAsNew }
+{}

@@ -9,6 +9,8 @@ mod entered;
 mod entering;
 mod event;
 mod following;
+mod forgetting;
+mod forgotten;
 mod holdings;
 mod laws;
 mod pending_recalls;
@@ -19,9 +21,11 @@ pub use core_state::Core;
 pub use entered::Entered;
 pub use event::Event;
 pub use following::FollowError;
+pub use forgotten::Forgotten;
 pub use laws::{
-    at_most_one_state, at_most_one_step, lawful_is_safe, live_clients_follow, newcomers_find_slots,
-    others_recall_nothing, recalls_are_one_list, recalls_begin, recalls_follow, recalls_rise,
+    at_most_one_state, at_most_one_step, forgotten_are_as_new, lawful_is_safe, live_clients_follow,
+    newcomers_find_slots, only_idle_owners_go, openers_stay, others_recall_nothing,
+    recalls_are_one_list, recalls_begin, recalls_follow, recalls_rise,
 };
 pub use nfs_rpc::Recall;
 pub use nfs_state::{

@@ -1,11 +1,11 @@
 -- The bytes of a file are those of at most one journal.
-use Rattle.std.proofs.Common.{◌≡◌, ℕ, Bool, true, false, List, Result, Ok, Err, sym, ap, subst, ◌∙◌}
+use Rattle.std.proofs.Common.{◌≡◌, ℕ, Bool, true, false, List, Result, Ok, Err, sym, ap, ◌∙◌}
 use Rattle.nfs_journal.specs.declared.audit_error.AuditError.{AuditError}
 use Rattle.nfs_journal.specs.declared.audit_error.AuditError.TheVariants as errors
 use Rattle.nfs_journal.specs.declared.file.File.{File}
 use Rattle.nfs_journal.specs.Exact.{IsEncoded}
 use Rattle.nfs_journal.specs.File.{file}
-use Rattle.nfs_journal.specs.Journals.{is_journal, history_of, file_of, IsFileOf, Reads, Accepts}
+use Rattle.nfs_journal.specs.Journals.{is_file, IsFileOf, Reads, Accepts}
 use Rattle.nfs_journal.proofs.ExactForms.{one_encoded}
 use Rattle.nfs_state.specs.State.{History}
 
@@ -14,18 +14,16 @@ not_both true f t = cc
 not_both false f t = cc
 
 -- bytes that encode what is no journal are the file of no journal
-no_journal : (f : File) (bytes : List ℕ) → IsEncoded file f bytes → is_journal (history_of f) ≡ false
+no_journal : (f : File) (bytes : List ℕ) → IsEncoded file f bytes → is_file f ≡ false
     → (h : History) → IsFileOf h bytes → ⊥
 no_journal f bytes encoded none h is =
-    let same : f ≡ file_of h = one_encoded file bytes f (file_of h) encoded is.1 in
-    let of_h : is_journal (history_of f) ≡ is_journal h = ap (λ (x : File). is_journal (history_of x)) same in
-    not_both (is_journal h) (sym of_h ∙ none) is.0
+    let same : f ≡ is.0 = one_encoded file bytes f is.0 encoded is.3 in
+    not_both (is_file is.0) (sym (ap (λ (x : File). is_file x) same) ∙ none) is.2
 
 -- what is accepted of the bytes is what they are read as
 pub accepted : (r : Result History AuditError) (f : File) (bytes : List ℕ) → IsEncoded file f bytes
     → Accepts r f → Reads r bytes
-accepted (Ok journal) f bytes encoded h =
-    subst (λ (x : History). IsFileOf x bytes) (sym h.1) (h.0, encoded)
+accepted (Ok journal) f bytes encoded h = (f, h.1, h.0, encoded)
 accepted (Err errors.Format) f bytes encoded h = no_journal f bytes encoded h
 accepted (Err (errors.WrongAnswer number)) f bytes encoded h = absurd h
 accepted (Err errors.Memory) f bytes encoded h = absurd h

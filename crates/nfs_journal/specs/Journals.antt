@@ -1,12 +1,15 @@
 -- Which bytes are the file of which journal.
-use Rattle.std.specs.Prelude.{◌≡◌, ℕ, ◌<◌, ◌+◌, ◌++◌, nat_le, Bool, true, false, ◌&&◌, List, length, Result, Ok, Err, OnOk, OnErr, vec_len, vec_capacity, IsErrOf}
+use Rattle.std.specs.Prelude.{◌≡◌, ℕ, ◌<◌, ◌+◌, ◌++◌, nat_le, Bool, true, false, not, ◌&&◌, List, length, Result, Ok, Err, OnOk, OnErr, vec_len, vec_capacity, IsErrOf}
 use Rattle.std.specs.Global.{Vec}
 use Rattle.std.specs.List.{list_all}
 use Rattle.nfs_journal.specs.declared.audit_error.AuditError.{AuditError}
 use Rattle.nfs_journal.specs.declared.audit_error.AuditError.TheVariants as errors
 use Rattle.nfs_journal.specs.declared.file.File.{File}
 use Rattle.nfs_journal.specs.Exact.{IsEncoded}
-use Rattle.nfs_journal.specs.File.{file}
+use Rattle.nfs_journal.specs.File.{file, start_of}
+use Rattle.nfs_journal.specs.declared.opening.Opening.{Opening}
+use Rattle.nfs_journal.specs.declared.opening.Opening.TheVariants as openings
+use Rattle.nfs_journal.specs.declared.opening.Start.{Start}
 use Rattle.nfs_state.specs.declared.entry.Entry.{Entry}
 use Rattle.nfs_state.specs.declared.entry.Entry.TheVariants as entries
 use Rattle.nfs_state.specs.declared.journal.TheConstants.{LEASE_MIN, LEASE_MAX}
@@ -33,25 +36,40 @@ is_journal h = (nat_le LEASE_MIN h.lease && nat_le h.lease LEASE_MAX)
 
 -- the journal that has what a file has
 abbrev pub history_of : File → History
-history_of f = record {
-  nodes = f.nodes;
-  epoch = f.opening.epoch;
-  lease = f.opening.lease;
-  policy = f.opening.policy;
-  entries = f.entries;
-}
+history_of f =
+    let start = start_of f.opening in
+    record {
+      nodes = f.nodes;
+      epoch = start.epoch;
+      lease = start.lease;
+      policy = start.policy;
+      entries = f.entries;
+    }
 
--- what the file of a journal has
+-- what the file of a journal has that is written
 abbrev pub file_of : History → File
-file_of h = record {
-  opening = record { epoch = h.epoch; lease = h.lease; policy = h.policy };
-  nodes = h.nodes;
-  entries = h.entries;
-}
+file_of h =
+    let start : Start = record { epoch = h.epoch; lease = h.lease; policy = h.policy } in
+    record { opening = openings.Third start; nodes = h.nodes; entries = h.entries }
 
--- The bytes are the file of this journal: its one encoding, with zero padding.
+-- the entry is the end of what is kept for an owner
+abbrev pub is_forget : Entry → Bool
+is_forget (entries.Forget forget) = true
+is_forget entry = false
+
+-- the entries are such as a file of the edition may have: before the third no owner was forgotten
+abbrev pub are_of_edition : Opening → List Entry → Bool
+are_of_edition (openings.Second start) entries = list_all (λ e. not (is_forget e)) entries
+are_of_edition (openings.Third start) entries = true
+
+-- the file is that of a journal
+abbrev pub is_file : File → Bool
+is_file f = is_journal (history_of f) && are_of_edition f.opening f.entries
+
+-- The bytes are a file of this journal, of either edition: the one encoding, with zero padding.
 abbrev pub IsFileOf : History → List ℕ → Type 0
-IsFileOf h bytes = (is_journal h ≡ true) × IsEncoded file (file_of h) bytes
+IsFileOf h bytes =
+    (f : File) × (h ≡ history_of f) × (is_file f ≡ true) × IsEncoded file f bytes
 
 -- What a function returned is the journal whose file the bytes are. Format if they are the file of none.
 abbrev pub Reads : Result History AuditError → List ℕ → Type 0
@@ -62,8 +80,8 @@ Reads (Err errors.Memory) bytes = Unit {0}
 
 -- What a function returned is the journal with what the file has, or Format if that is no journal.
 abbrev pub Accepts : Result History AuditError → File → Type 0
-Accepts (Ok journal) f = (is_journal (history_of f) ≡ true) × (journal ≡ history_of f)
-Accepts (Err errors.Format) f = is_journal (history_of f) ≡ false
+Accepts (Ok journal) f = (is_file f ≡ true) × (journal ≡ history_of f)
+Accepts (Err errors.Format) f = is_file f ≡ false
 Accepts (Err e) f = ⊥
 
 -- What a writer did to the bytes written so far. At Ok the encoding of the journal follows them. Format is returned

@@ -15,14 +15,8 @@ pub fn audit(alloc: Global, journal: FiledJournal, seeds: Seeds) -> Result<Core,
         tree,
         entries,
     } = journal;
-    let Ok(mut core) = Core::new(
-        alloc,
-        &tree,
-        opening.lease,
-        opening.epoch,
-        opening.policy,
-        seeds,
-    ) else {
+    let start = opening.start();
+    let Ok(mut core) = Core::new(alloc, &tree, start.lease, start.epoch, start.policy, seeds) else {
         return Err(AuditError::Memory);
     };
     let mut number = 0;

@@ -13,6 +13,7 @@ pub struct FiledJournal {
 
 impl Model for FiledJournal {
     ghost use Rattle.std.specs.Prelude.{◌≤◌};
+    ghost use Rattle.nfs_journal.specs.File.{start_of};
     ghost use Rattle.nfs_state.specs.State.{History};
     ghost use Rattle.nfs_state.specs.declared.journal.TheConstants.{LEASE_MIN, LEASE_MAX};
 
@@ -20,11 +21,12 @@ impl Model for FiledJournal {
 
     ghost view = { λ j. record {
       nodes = j.tree.nodes;
-      epoch = j.opening.epoch;
-      lease = j.opening.lease;
-      policy = j.opening.policy;
+      epoch = (start_of j.opening).epoch;
+      lease = (start_of j.opening).lease;
+      policy = (start_of j.opening).policy;
       entries = j.entries.items;
     } };
 
-    ghost invariant = { λ j. (LEASE_MIN ≤ j.opening.lease) × (j.opening.lease ≤ LEASE_MAX) };
+    ghost invariant = { λ j. (LEASE_MIN ≤ (start_of j.opening).lease)
+        × ((start_of j.opening).lease ≤ LEASE_MAX) };
 }

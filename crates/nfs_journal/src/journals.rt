@@ -1,6 +1,6 @@
-ghost use Rattle.std.specs.Prelude.{◌≡◌};
+ghost use Rattle.std.specs.Prelude.{◌≡◌, not};
 ghost use Rattle.std.specs.List.{list_all};
-ghost use Rattle.nfs_journal.specs.Journals.{Accepts, Reads, WritesFile, is_entry};
+ghost use Rattle.nfs_journal.specs.Journals.{Accepts, Reads, WritesFile, are_of_edition, is_entry, is_forget};
 
 use crate::exact::read_exact;
 use crate::file::write_parts;
@@ -42,13 +42,17 @@ fn journal_of(file: File) -> Result<FiledJournal, AuditError>
         nodes,
         entries,
     } = file;
-    if opening.lease < LEASE_MIN || opening.lease > LEASE_MAX {
+    let start = opening.start();
+    if start.lease < LEASE_MIN || start.lease > LEASE_MAX {
         return Err(AuditError::Format);
     }
-    let Ok(tree) = Tree::from_nodes(nodes.into_vec(), opening.policy) else {
+    let Ok(tree) = Tree::from_nodes(nodes.into_vec(), start.policy) else {
         return Err(AuditError::Format);
     };
     if !are_entries(tree.len(), entries.as_slice()) {
+        return Err(AuditError::Format);
+    }
+    if !are_of_edition(opening, entries.as_slice()) {
         return Err(AuditError::Format);
     }
     Ok(FiledJournal {
@@ -70,6 +74,29 @@ fn is_entry(nodes: u32, entry: &Entry) -> bool
 {
     match entry {
         Entry::Call(call) => call.request.can_be_asked(nodes),
-        Entry::Expire(_) | Entry::Revoke(_) | Entry::Path(_) => true,
+        Entry::Expire(_) | Entry::Revoke(_) | Entry::Path(_) | Entry::Forget(_) => true,
     }
+}
+
+// Whether the entries are such as a file of this edition may have: before the third no owner was forgotten.
+fn are_of_edition(opening: Opening, entries: &[Entry]) -> bool
+    ensures { result ≡ are_of_edition opening entries.now }
+{
+    match opening {
+        Opening::Second(_) => have_no_forget(entries),
+        Opening::Third(_) => true,
+    }
+}
+
+// Whether none of the entries is the end of what is kept for an owner.
+fn have_no_forget(entries: &[Entry]) -> bool
+    ensures { result ≡ list_all (λ e. not (is_forget e)) entries.now }
+{
+    entries.iter().all(|e| is_no_forget(e))
+}
+
+fn is_no_forget(entry: &Entry) -> bool
+    ensures { result ≡ not (is_forget entry.now) }
+{
+    !matches!(entry, Entry::Forget(_))
 }

@@ -14,4 +14,4 @@ pub use auditing::audit;
 pub use file::File;
 pub use filed_journal::FiledJournal;
 pub use journals::{read_journal, write_journal};
-pub use opening::Opening;
+pub use opening::{Edition, Opening, SecondStart, Start};

@@ -3,3 +3,4 @@ pub mod Comes
 pub mod Generations
 pub mod Books
 pub mod RevokedDelegations
+pub mod ForgottenOwners

@@ -19,7 +19,7 @@ use Rattle.nfs_state.specs.declared.entry.Entry.{Entry}
 use Rattle.nfs_state.specs.declared.entry.Entry.TheVariants as entries
 use Rattle.nfs_state.specs.declared.entry.TheConstants.{JOURNAL_LIMIT}
 
-same_clients : (registry : Registry) → HaveSameClients registry registry
+pub same_clients : (registry : Registry) → HaveSameClients registry registry
 same_clients registry = record {
   live = λ n. refl;
   can_come = λ n. refl;
@@ -31,7 +31,7 @@ same_clients registry = record {
   last_value = refl;
 }
 
-clients_more : (old mid new : Registry) → HaveSameClients old mid → HaveSameClients mid new → HaveSameClients old new
+pub clients_more : (old mid new : Registry) → HaveSameClients old mid → HaveSameClients mid new → HaveSameClients old new
 clients_more old mid new h k = record {
   live = λ n. k.live n ∙ h.live n;
   can_come = λ n. k.can_come n ∙ h.can_come n;
@@ -104,7 +104,7 @@ entries_left now number mid new k =
     )
 
 -- what a server gained is gained by one that is alike
-gains_alike : (more : List Entry) (old mid new : Server) → Gains more old mid → AreAlike mid new → Gains more old new
+pub gains_alike : (more : List Entry) (old mid new : Server) → Gains more old mid → AreAlike mid new → Gains more old new
 gains_alike more old mid new h alike = record {
   journal = alike.0 ∙ h.journal;
   leads =

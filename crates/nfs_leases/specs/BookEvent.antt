@@ -55,8 +55,8 @@ is_open_after (Close c seen now answer) client before = before && not (is_done a
 is_open_after (Open c moment) client before = before || (client == c)
 is_open_after (Retire c) client before = before && not (client == c)
 
--- Whether a client's lease, or that of a later generation of its slot, was opened by the end of a call, where it was (or
--- wasn't) before.
+-- Whether a client's lease, or that of a later generation of its slot, was opened by the end of a call, where it was
+-- (or wasn't) before.
 abbrev pub was_opened_after : BookEvent → ℕ → Bool → Bool
 was_opened_after (Look c shown) client before = before
 was_opened_after (Renew c moment answer) client before = before

@@ -1,9 +1,10 @@
 -- What a sweep does.
-use Rattle.std.specs.Prelude.{◌≡◌, ℕ, ◌<◌, Bool, false, true, ◌==◌, List, [], ◌∷◌, ◌++◌, length, map, Some, ⊤}
+use Rattle.std.specs.Prelude.{◌≡◌, ℕ, ◌<◌, Bool, IsFalse, false, true, ◌==◌, List, [], ◌∷◌, ◌++◌, length, map, Some, ⊤}
 use Rattle.std.specs.List.{list_any}
-use Rattle.nfs_core.specs.Events.{IsRevoked, IsWithoutRoom, NoneIsDue, revoke_of}
-use Rattle.nfs_core.specs.Server.{AreAlike, Server}
+use Rattle.nfs_core.specs.Events.{IsRevoked, IsWithoutRoom, NoneIsDue, NoneIsIdle, forget_of, revoke_of}
+use Rattle.nfs_core.specs.Server.{AreAlike, Enters, Server}
 use Rattle.nfs_core.specs.declared.core_error.CoreError.{CoreError}
+use Rattle.nfs_forms.specs.declared.open_owner.OpenOwner.{OpenOwner}
 use Rattle.nfs_owners.specs.Registry.{is_live}
 use Rattle.nfs_leases.specs.BookEvent.{BookEvent, AllHappen}
 use Rattle.nfs_leases.specs.Visit.{Gains, IsRightBy, Visit, events_of, expiries, with_case}
@@ -48,6 +49,7 @@ none_swept = record {
   changed = 0;
   refused = 0;
   revoked = 0;
+  forgotten = 0;
   stopped = false;
 }
 
@@ -99,21 +101,63 @@ pub record RevokesDue (now : ℕ) (numbers : List ℕ) (stopped : Bool) (old new
   -- the journal gained just their entries
   pub entries : Gains (revocations now numbers) old new
 
--- the entries of a sweep: the ends of clients in these visits, and then those of the delegations with these numbers
-abbrev pub entries_of_sweep : ℕ → List Visit → List ℕ → List Entry
-entries_of_sweep now visits numbers =
-    expiries (events_of_all now visits) ++ revocations now numbers
+-- the entries by which these open owners are forgotten
+abbrev pub forgettings : ℕ → List OpenOwner → List Entry
+forgettings now owners = map (λ owner. entries.Forget (forget_of owner now)) owners
 
--- A sweep, in its parts, and how it was counted. First clients end, and then delegations are revoked, at which the book
--- stays as it is.
+-- these open owners are forgotten, one after another
+abbrev pub AreForgotten : ℕ → List OpenOwner → Server → Server → Type 0
+AreForgotten now [] old new = new ≡ old
+AreForgotten now (owner ∷ owners) old new =
+    (mid : Server)
+    × Enters old mid (entries.Forget (forget_of owner now)) (length old.journal.entries)
+    × AreForgotten now owners mid new
+
+-- What came of the last attempt to forget, on the server that it found. Where the sweep doesn't stop, no owner may be
+-- forgotten any more. Where it stops, one may be still.
+abbrev pub IsLastForgetting : Bool → ℕ → Server → Server → Type 0
+IsLastForgetting false now found new = NoneIsIdle new now × (new ≡ found)
+IsLastForgetting true now found new = (NoneIsIdle new now → ⊥) × AreAlike found new
+
+-- The part of a sweep in which open owners are forgotten, these. It stops, or goes on until none may be.
+pub record ForgetsIdle (now : ℕ) (owners : List OpenOwner) (stopped : Bool) (old new : Server)
+    : Type 0 where
+  pub found : Server
+  -- each was right where it came: it could be forgotten, and of those that could be the least entry had recorded it
+  pub right : AreForgotten now owners old found
+  pub last : IsLastForgetting stopped now found new
+  -- the journal gained just their entries
+  pub entries : Gains (forgettings now owners) old new
+
+-- The same, unless the sweep had halted at a delegation: then no owner is forgotten, and it has stopped.
+abbrev pub ForgetsUnless : Bool → ℕ → List OpenOwner → Bool → Server → Server → Type 0
+ForgetsUnless true now owners stopped old new = (owners ≡ []) × (stopped ≡ true) × (new ≡ old)
+ForgetsUnless false now owners stopped old new = ForgetsIdle now owners stopped old new
+
+-- The entries of a sweep: the ends of clients in these visits, then those of the delegations with these numbers, and then
+-- those by which these open owners are forgotten.
+abbrev pub entries_of_sweep : ℕ → List Visit → List ℕ → List OpenOwner → List Entry
+entries_of_sweep now visits numbers owners =
+    expiries (events_of_all now visits) ++ (revocations now numbers ++ forgettings now owners)
+
+-- A sweep, in its parts, and how it was counted. First clients end, then delegations are revoked, and then open owners are
+-- forgotten; the book stays as it is at these two.
 pub record Sweeps {Book : Type 0} (happens : Book → BookEvent → Book → Type 0) (now : ℕ)
     (old : LeasedServer Book) (swept : Swept) (new : LeasedServer Book) : Type 0 where
   pub visits : List Visit
   pub numbers : List ℕ
-  pub mid : Server
-  pub ends : EndsClients happens now visits old (leased_server mid new.book)
-  pub revokes : RevokesDue now numbers swept.stopped mid new.core
+  pub owners : List OpenOwner
+  pub ended : Server
+  pub revoked : Server
+  -- whether it stopped at a delegation
+  pub halted : Bool
+  pub ends : EndsClients happens now visits old (leased_server ended new.book)
+  pub revokes : RevokesDue now numbers halted ended revoked
+  pub forgets : ForgetsUnless halted now owners swept.stopped revoked new.core
+  -- at the end no delegation is due, unless it stopped at one
+  pub due : IsFalse halted → NoneIsDue new.core now
   pub counts : swept ≡ record (tally none_swept visits) {
     revoked = length numbers;
+    forgotten = length owners;
     stopped = swept.stopped;
   }

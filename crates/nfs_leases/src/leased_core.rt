@@ -1,6 +1,6 @@
-ghost use Rattle.std.specs.Prelude.{◌≡◌, ◌≤◌, ◌+◌, [], ◌∷◌, IfErr, IfNone, IfOk, IfSome, IsTrue, OnErr, length};
+ghost use Rattle.std.specs.Prelude.{◌≡◌, ◌↔◌, ◌≤◌, ◌+◌, [], ◌∷◌, IfErr, IfNone, IfOk, IfSome, IsTrue, None, Ok, OnErr, length};
 ghost use Rattle.nfs_core.specs.Entered.{Answers};
-ghost use Rattle.nfs_core.specs.Events.{EndsNoClient, IsNotEntered, entry_by};
+ghost use Rattle.nfs_core.specs.Events.{EndsNoClient, IsForgotten, IsNotEntered, IsNotForgottenFor, NoneIsIdle, entry_by};
 ghost use Rattle.nfs_core.specs.Server.{AreAlike, Enters, IsLawful};
 ghost use Rattle.nfs_leases.specs.BookEvent.{AllHappen};
 ghost use Rattle.nfs_leases.specs.BookOf.{IsBookOf, events_entered};
@@ -67,7 +67,8 @@ impl<B: LeaseBook> LeasedCore<B> {
     }
 
     /// Goes through the live clients, by rising numbers, and removes each whose lease is over at `now`, from the book
-    /// and from the core. Then it revokes the delegations that are due, until none is, or there is no room for an entry.
+    /// and from the core. Then it revokes the delegations that are due, and then forgets the open owners that may be
+    /// forgotten, until none is left of both, or there is no room for an entry.
     pub fn sweep(&mut self, now: Moment) -> Swept
         ensures sweeps { Sweeps B.happens now (leased_server self.old.core self.old.book) result
             (leased_server self.new.core self.new.book) }
@@ -93,6 +94,23 @@ impl<B: LeaseBook> LeasedCore<B> {
         live_clients_follow();
         cores_are_lawful(&self.core);
         self.core.enter(event)
+    }
+
+    /// Forgets the next open owner that may be forgotten at `now`, if one may, as the core does, and returns the entry's
+    /// number. The leases stay as they are.
+    pub fn forget(&mut self, now: Moment) -> Result<Option<u32>, CoreError>
+        ensures forgotten { IfOk result (IsForgotten self.old.core self.new.core now) }
+        ensures none { result ≡ Ok None ↔ NoneIsIdle self.old.core now }
+        ensures error { IfErr result (IsNotForgottenFor self.old.core now) }
+        ensures same { OnErr result (AreAlike self.old.core self.new.core) }
+        ensures room { OnErr result (self.old.core.room ≤ self.new.core.room) }
+        ensures recalls { self.new.core.recalls ≡ self.old.core.recalls }
+        ensures book { self.new.book ≡ self.old.book }
+        ensures lawful { IsLawful self.new.core }
+    {
+        live_clients_follow();
+        cores_are_lawful(&self.core);
+        self.core.forget(now)
     }
 
     /// Takes out the first of the recalls that are pending, as the core does. The leases stay as they are.

@@ -1,18 +1,20 @@
 //! The leases of clients: what a book of them promises, a book that is a plain list, and a core with the book of its
-//! clients' leases, whose sweep removes the clients whose leases are over, and revokes the delegations that are due.
+//! clients' leases, whose sweep removes the clients whose leases are over, revokes the delegations that are due, and
+//! forgets open owners that have no open.
 #![tactic(auto)]
 
 mod closing;
 mod following;
+mod forgetting;
 mod laws;
 mod lease_book;
 mod lease_state;
 mod leased_core;
 mod place;
 mod plain_leases;
+mod removals;
 mod renewal;
 mod renewing;
-mod revocations;
 mod revoking;
 mod sweeping;
 mod swept;

@@ -5,12 +5,12 @@ ghost use Rattle.nfs_core.specs.Server.{IsLawful};
 ghost use Rattle.nfs_leases.specs.Sweeps.{RevokesDue};
 ghost use Rattle.nfs_owners.specs.ClientLaws.{HaveSameClients};
 
-use crate::revocations::Revocations;
+use crate::removals::Removals;
 use nfs_core::{Core, live_clients_follow};
 use nfs_state::Moment;
 
 /// Revokes the delegations that are due at `now`, by rising numbers, until none is due or there is no room for an entry.
-pub(crate) fn revoke_due(core: &mut Core, now: Moment) -> Revocations
+pub(crate) fn revoke_due(core: &mut Core, now: Moment) -> Removals
     ensures revokes { (numbers : List ℕ)
         × (result.count ≡ length numbers)
         × RevokesDue now numbers result.stopped core.old core.new }
@@ -25,13 +25,13 @@ pub(crate) fn revoke_due(core: &mut Core, now: Moment) -> Revocations
         match core.revoke(now) {
             Ok(Some(_)) => count += 1,
             Ok(None) => {
-                return Revocations {
+                return Removals {
                     count,
                     stopped: false,
                 };
             }
             Err(_) => {
-                return Revocations {
+                return Removals {
                     count,
                     stopped: true,
                 };

@@ -1,4 +1,4 @@
-//! The sweep through the leases of all live clients, and then the delegations that are due.
+//! The sweep through the leases of all live clients, and then the delegations and open owners that are due.
 
 ghost use Rattle.std.specs.Prelude.{◌≡◌, List, ℕ, IsTrue};
 ghost use Rattle.nfs_core.specs.LiveClients.{AreOfOneRun};
@@ -10,6 +10,7 @@ ghost use Rattle.nfs_leases.specs.Sweeps.{EndsClients, Sweeps, leased_server, no
 ghost use Rattle.nfs_leases.specs.Visit.{Gains, IsRightBy, Visit, events_by, expiries};
 ghost use Rattle.nfs_state.specs.Stored.{meaning};
 
+use crate::forgetting::forget_unless;
 use crate::revoking::revoke_due;
 use crate::visit_case::VisitCase;
 use crate::{Closing, LeaseBook, LeaseState, Swept};
@@ -19,7 +20,7 @@ use nfs_state::{Expire, Moment, is_over};
 /// Goes through the live clients, by rising numbers, and removes each whose lease is over at `now`: from the book, where
 /// the lease is still as it was seen, and then from the core. A client whose lease isn't over stays, and so does one
 /// whose lease was renewed meanwhile, or for whose entry there is no room. Then it revokes the delegations that are due,
-/// until none is, or there is no room for an entry.
+/// and then forgets the open owners that may be forgotten, until none is left of both, or there is no room for an entry.
 pub fn sweep_core<B: LeaseBook>(core: &mut Core, book: &mut B, now: Moment) -> Swept
     requires agrees { IsBookOf (B.is_open book.old) (B.was_opened book.old) (B.lease book.old)
         core.old }
@@ -31,10 +32,12 @@ pub fn sweep_core<B: LeaseBook>(core: &mut Core, book: &mut B, now: Moment) -> S
     ensures lawful { IsLawful core.new }
 {
     let swept = end_clients(core, book, now);
-    let revocations = revoke_due(core, now);
+    let revoked = revoke_due(core, now);
+    let forgotten = forget_unless(revoked.stopped, core, now);
     Swept {
-        revoked: revocations.count,
-        stopped: revocations.stopped,
+        revoked: revoked.count,
+        forgotten: forgotten.count,
+        stopped: forgotten.stopped,
         ..swept
     }
 }

@@ -3,7 +3,7 @@ ghost use Rattle.nfs_leases.specs.Visit.{total, with_case};
 
 use crate::visit_case::VisitCase;
 
-/// How many clients a sweep treated in which way, and how many delegations it revoked.
+/// How many clients a sweep treated in which way, how many delegations it revoked, and how many open owners it forgot.
 #[derive(Clone, Copy, PartialEq, Eq)]
 pub struct Swept {
     /// Those whose leases were closed, and that were removed.
@@ -16,7 +16,10 @@ pub struct Swept {
     pub refused: u32,
     /// How many delegations were revoked.
     pub revoked: u32,
-    /// Whether the sweep stopped at a delegation that is due, because the journal had no room for an entry.
+    /// How many open owners were forgotten.
+    pub forgotten: u32,
+    /// Whether the sweep stopped at a delegation that is due or at an owner that may be forgotten, because the journal had
+    /// no room for an entry, or memory ran out.
     pub stopped: bool,
 }
 
@@ -28,6 +31,7 @@ impl Swept {
         changed: 0,
         refused: 0,
         revoked: 0,
+        forgotten: 0,
         stopped: false,
     };
 

@@ -1,6 +1,6 @@
 -- The lock states of a file (RFC 7530, sections 9.1.4 and 16.10 to 16.12): each is what one lock owner holds of it.
 use Rattle.std.specs.Prelude.{ℕ, ◌<◌, Bool, ◌&&◌, ◌==◌, nat_lt, not, if◌then◌else◌, List, [], ◌∷◌, ◌++◌, filter, find, map, Option}
-use Rattle.std.specs.List.{AllByRecursion}
+use Rattle.std.specs.List.{AllByRecursion, list_any}
 use Rattle.nfs_forms.specs.ClientId.{is_same_client}
 use Rattle.nfs_forms.specs.LockOwner.{is_same_lock_owner}
 use Rattle.nfs_forms.specs.Stateid.{seqid_after_change, next_stateid}
@@ -55,6 +55,10 @@ lock_named_by stateid locks = find (is_stateid_of stateid) locks
 -- a byte is held: there is a run of such bytes
 abbrev pub holds_bytes : ByteLocks → Bool
 holds_bytes l = nat_lt 0 (runs l.modes)
+
+-- a lock state under the open with this number holds a byte
+abbrev pub holds_under : ℕ → List ByteLocks → Bool
+holds_under open_number locks = list_any (λ l. is_under open_number l && holds_bytes l) locks
 
 -- the lock state's stateid (section 9.1.4)
 abbrev pub stateid_of : ByteLocks → Stateid

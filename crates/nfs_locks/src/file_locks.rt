@@ -134,6 +134,17 @@ impl FileLocks {
             .is_some()
     }
 
+    /// Whether a lock state under the open with this number holds a byte.
+    pub fn holds_under(&self, open_number: u32) -> bool
+        ensures { result ≡ list_any
+            (λ l. is_under open_number (lock_seen l) && holds_bytes (lock_seen l))
+            self.now.states }
+    {
+        self.states
+            .iter()
+            .any(|row| row.1.is_held_under(open_number))
+    }
+
     /// Whether a change of the lock state with this number would make too many runs of bytes.
     pub fn is_full_for(&self, number: u32, change: Piece) -> bool
         ensures { result ≡ list_any

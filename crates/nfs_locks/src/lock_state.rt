@@ -17,7 +17,7 @@ pub struct LockState {
 
 impl LockState {
     ghost use Rattle.std.specs.Prelude.{◌≡◌, ◌<◌, ◌&&◌, [], IsFalse};
-    ghost use Rattle.nfs_locks.specs.Locks.{after_change, first_state, holds_bytes, is_lock_of, is_lock_of_client, is_numbered, is_stateid_of, next_stateid_of, stateid_of, would_be_full};
+    ghost use Rattle.nfs_locks.specs.Locks.{after_change, first_state, holds_bytes, is_lock_of, is_lock_of_client, is_numbered, is_stateid_of, is_under, next_stateid_of, stateid_of, would_be_full};
     ghost use Rattle.nfs_locks.specs.StoredLocks.{lock_seen};
     ghost use Rattle.nfs_ranges.specs.RoomyRanges.{RoomyRanges};
 
@@ -90,6 +90,14 @@ impl LockState {
             ≡ (is_lock_of owner.now (lock_seen self.now) && holds_bytes (lock_seen self.now)) }
     {
         self.is_of(owner) && !self.ranges.is_empty()
+    }
+
+    /// Whether a byte is held by it, and it is under the open with this number.
+    pub(crate) fn is_held_under(&self, open_number: u32) -> bool
+        ensures { result
+            ≡ (is_under open_number (lock_seen self.now) && holds_bytes (lock_seen self.now)) }
+    {
+        self.open_number == open_number && !self.ranges.is_empty()
     }
 
     /// Whether the change would make too many runs of bytes.

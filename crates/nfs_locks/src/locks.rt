@@ -3,7 +3,7 @@ ghost use Rattle.std.specs.List.{list_any};
 ghost use Rattle.std.specs.Option.{option_copied};
 ghost use Rattle.nfs_locks.specs.AllLocks.{HasLockRoomAt, HasRoomFor, IsAboveAll, at_node, holds, is_full_for, lock_count, lock_named_in, locks_in, locks_of, stored_in, with_locks};
 ghost use Rattle.nfs_locks.specs.LockFound.{lock_found_seen};
-ghost use Rattle.nfs_locks.specs.Locks.{holds_bytes, is_lock_of, is_lock_of_client, is_under, lock_of, with_first_lock, with_lock_change, without};
+ghost use Rattle.nfs_locks.specs.Locks.{holds_bytes, holds_under, is_lock_of, is_lock_of_client, is_under, lock_of, with_first_lock, with_lock_change, without};
 ghost use Rattle.nfs_locks.specs.Report.{IsReport};
 ghost use Rattle.nfs_locks.specs.ReportSeen.{report_seen};
 ghost use Rattle.nfs_locks.specs.StoredLocks.{lock_seen};
@@ -96,6 +96,16 @@ impl Locks {
         ensures { result ≡ holds owner.now (locks_in self.now) }
     {
         holds_in(&self.files, owner)
+    }
+
+    /// Whether a lock state of the node's file, under the open with this number, holds a byte.
+    pub fn holds_under(&self, node: u32, open_number: u32) -> bool
+        ensures { result ≡ holds_under open_number (locks_of node (locks_in self.now)) }
+    {
+        match self.files.get(node as usize) {
+            Some(file) => file.holds_under(open_number),
+            None => false,
+        }
     }
 
     /// How many places of this limit the lock states leave.

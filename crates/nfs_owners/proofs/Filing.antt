@@ -1,15 +1,16 @@
 -- Rows of owners, and the owners in them.
-use Rattle.std.proofs.Common.{◌≡◌, ℕ, ◌<◌, ◌≤◌, ◌+◌, Bool, true, false, Some, None, Option, List, [], ◌∷◌, ◌++◌, cond, find, length, refl, sym, ap, ◌∙◌, subst, arith, inl, inr}
-use Rattle.std.specs.Prelude.{◌&&◌, ◌||◌, ◌==◌, not}
+use Rattle.std.proofs.Common.{◌≡◌, ℕ, ◌<◌, Bool, true, false, Some, None, Option, List, [], ◌∷◌, ◌++◌, cond, filter, find, refl, sym, ap, ◌∙◌, subst, arith}
+use Rattle.std.specs.Prelude.{◌&&◌, ◌||◌, ◌==◌, nat_le, not}
 use Rattle.std.specs.List.{AllByRecursion}
 use Rattle.std.proofs.lemmas.Bool.{eqb-true, false_from_ne_true}
 use Rattle.std.specs.declared.hash.RandomState.{RandomState}
-use Rattle.nfs_rows.specs.Rows.{Row, StandInOrder, is_named, is_numbered, is_of_client, newest_of, numbered_after, pair_in, value_in, with_value, without}
+use Rattle.nfs_rows.specs.Rows.{IsAbove, Row, StandInOrder, is_from as is_row_from, is_named, is_numbered, is_of_client, pair_in, value_in, with_value, without}
 use Rattle.nfs_rows.proofs.Callers.{changed_all, changed_seen, client_is, find_seen, named_is, with_value_is}
 use Rattle.nfs_forms.specs.declared.client_id.ClientId.{ClientId}
 use Rattle.nfs_owners.specs.Owner.{has_client, has_name, is_known, owner_of}
-use Rattle.nfs_owners.specs.OwnerRows.{IsFiled, IsNumberedAnew, name_hash, owners_in, with_state_at}
-use Rattle.nfs_owners.specs.Owners.{AreApart, with_change}
+use Rattle.nfs_owners.specs.OwnerRows.{IsFiled, name_hash, owners_in, with_state_at}
+use Rattle.nfs_owners.specs.Owners as owners
+use Rattle.nfs_owners.specs.Owners.{AreApart, AreBefore, is_from, with_change}
 use Rattle.nfs_owners.specs.declared.owner.Owner.{Owner}
 use Rattle.nfs_owners.specs.declared.owner.OwnerState.{OwnerState}
 use Rattle.nfs_owners.specs.declared.state_owner.StateOwner.{StateOwner}
@@ -100,8 +101,12 @@ pub state_seen : (change : OwnerState → OwnerState) (number : ℕ) (name : Sta
     → owners_in (with_state_at change number rows) ≡ with_change change name (owners_in rows)
 state_seen change number name rows same = changed_seen number (λ o. record o { state = change o.state }) (has_name name) rows same
 
-filed_state : (names : RandomState) (change : OwnerState → OwnerState) (r : Row Owner) → IsFiled names r → IsFiled names (record r { value = record r.value { state = change r.value.state } })
-filed_state names change r is = record { hashed = is.hashed; of_client = is.of_client }
+-- a change that leaves the entry that recorded the owner
+abbrev pub KeepsRecord : (OwnerState → OwnerState) → Type 0
+KeepsRecord change = (s : OwnerState) → (change s).recorded ≡ s.recorded
+
+filed_state : (names : RandomState) (change : OwnerState → OwnerState) → KeepsRecord change → (r : Row Owner) → IsFiled names r → IsFiled names (record r { value = record r.value { state = change r.value.state } })
+filed_state names change keeps r is = record { numbered = is.numbered ∙ sym (keeps r.value.state); hashed = is.hashed; of_client = is.of_client }
 
 -- one state is set where its row was found
 pub state_set : (change : OwnerState → OwnerState) (row : ℕ) (rows : List (Row Owner)) (o new : Owner) → new ≡ record o { state = change o.state } → StandInOrder rows → Some o ≡ value_in (find (is_numbered row) rows)
@@ -109,8 +114,8 @@ pub state_set : (change : OwnerState → OwnerState) (row : ℕ) (rows : List (R
 state_set change row rows o new is order found =
     ap (λ v. with_value row v rows) is ∙ with_value_is row (λ (o : Owner). record o { state = change o.state }) o rows order found
 
-pub filed_change : (names : RandomState) (change : OwnerState → OwnerState) (number : ℕ) (rows : List (Row Owner)) → AllByRecursion (IsFiled names) rows → AllByRecursion (IsFiled names) (with_state_at change number rows)
-filed_change names change number rows filed = changed_all (IsFiled names) number (λ o. record o { state = change o.state }) (λ r is. filed_state names change r is) rows filed
+pub filed_change : (names : RandomState) (change : OwnerState → OwnerState) → KeepsRecord change → (number : ℕ) (rows : List (Row Owner)) → AllByRecursion (IsFiled names) rows → AllByRecursion (IsFiled names) (with_state_at change number rows)
+filed_change names change keeps number rows filed = changed_all (IsFiled names) number (λ o. record o { state = change o.state }) (λ r is. filed_state names change keeps r is) rows filed
 
 -- the rows of a client are those that have its number and its owners
 pub client_rows : (names : RandomState) (client : ClientId) (rows : List (Row Owner)) → AllByRecursion (IsFiled names) rows → AllByRecursion (λ r. is_of_client client.number (has_client client) r ≡ has_client client r.value) rows
@@ -129,32 +134,41 @@ pub same_without : (p q : Row Owner → Bool) (rows : List (Row Owner)) → AllB
 same_without p q [] h = refl
 same_without p q (r ∷ rows) h = λ i. cond (not (h.0 i)) (r ∷ same_without p q rows h.1 i) (same_without p q rows h.1 i)
 
+true_not_false : true ≡ false → ⊥
+true_not_false is = cc
+
+-- the rows stand as their owners were recorded
+pub rows_before : (names : RandomState) (entry : ℕ) (rows : List (Row Owner)) → AllByRecursion (IsFiled names) rows → AreBefore entry (owners_in rows) → IsAbove entry rows
+rows_before names entry [] filed before = tt
+rows_before names entry (r ∷ rows) filed before = (omega (arith, filed.0.numbered, before.0), rows_before names entry rows filed.1 before.1)
+
+behind_in_order : (names : RandomState) (r : Row Owner) (rows : List (Row Owner)) → IsFiled names r → AllByRecursion (IsFiled names) rows → AllByRecursion (λ s. r.number < s.number) rows
+    → AllByRecursion (λ o. r.value.state.recorded < o.state.recorded) (owners_in rows)
+behind_in_order names r [] is filed above = tt
+behind_in_order names r (s ∷ rows) is filed above = (omega (arith, is.numbered, filed.0.numbered, above.0), behind_in_order names r rows is filed.1 above.1)
+
+pub owners_in_order : (names : RandomState) (rows : List (Row Owner)) → AllByRecursion (IsFiled names) rows → StandInOrder rows → owners.StandInOrder (owners_in rows)
+owners_in_order names [] filed order = tt
+owners_in_order names (r ∷ rows) filed order = (behind_in_order names r rows filed.0 filed.1 order.0, owners_in_order names rows filed.1 order.1)
+
+-- the first that passes a test among the rows from an entry on
+pub found_from : (names : RandomState) (entry : ℕ) (test : Owner → Bool) (rows : List (Row Owner)) → AllByRecursion (IsFiled names) rows
+    → find test (owners_in (filter (is_row_from entry) rows)) ≡ find (λ o. is_from entry o && test o) (owners_in rows)
+found_from names entry test [] filed = refl
+found_from names entry test (r ∷ rows) filed = by (nat_le entry r.number) (nat_le entry r.value.state.recorded) refl refl (ap (nat_le entry) filed.0.numbered) (found_from names entry test rows filed.1)
+  where
+    by : (a b : Bool) → nat_le entry r.number ≡ a → nat_le entry r.value.state.recorded ≡ b → nat_le entry r.number ≡ nat_le entry r.value.state.recorded
+        → find test (owners_in (filter (is_row_from entry) rows)) ≡ find (λ o. is_from entry o && test o) (owners_in rows)
+        → find test (owners_in (filter (is_row_from entry) (r ∷ rows))) ≡ find (λ o. is_from entry o && test o) (owners_in (r ∷ rows))
+    by true true is is_too same rest = grind (arith, is, is_too, rest)
+    by true false is is_too same rest = absurd (true_not_false (sym is ∙ same ∙ is_too))
+    by false true is is_too same rest = absurd (true_not_false (sym is_too ∙ sym same ∙ is))
+    by false false is is_too same rest = grind (arith, is, is_too, rest)
+
 -- a row at the end
 pub owners_last : (rows : List (Row Owner)) (r : Row Owner) → owners_in (rows ++ r ∷ []) ≡ owners_in rows ++ r.value ∷ []
 owners_last [] r = refl
 owners_last (s ∷ rows) r = ap (λ os. s.value ∷ os) (owners_last rows r)
-
--- rows with other numbers
-pub owners_anew : (last : ℕ) (rows : List (Row Owner)) → owners_in (numbered_after last rows) ≡ owners_in rows
-owners_anew last [] = refl
-owners_anew last (r ∷ rows) = ap (λ os. r.value ∷ os) (owners_anew (last + 1) rows)
-
-filed_anew : (names : RandomState) (last : ℕ) (rows : List (Row Owner)) → AllByRecursion (IsFiled names) rows → AllByRecursion (IsFiled names) (numbered_after last rows)
-filed_anew names last [] filed = tt
-filed_anew names last (r ∷ rows) filed = (record { hashed = filed.0.hashed; of_client = filed.0.of_client }, filed_anew names (last + 1) rows filed.1)
-
-pub newest_anew : (last : ℕ) (rows : List (Row Owner)) → newest_of (numbered_after last rows) ≤ last + length rows
-newest_anew last [] = omega arith
-newest_anew last (r ∷ []) = omega arith
-newest_anew last (r ∷ s ∷ rows) = omega (arith, newest_anew (last + 1) (s ∷ rows))
-
-pub same_owners : (old new : List (Row Owner)) → IsNumberedAnew old new → owners_in new ≡ owners_in old
-same_owners old new (inl same) = ap owners_in same
-same_owners old new (inr anew) = ap owners_in anew ∙ owners_anew 0 old
-
-pub same_filed : (names : RandomState) (old new : List (Row Owner)) → IsNumberedAnew old new → AllByRecursion (IsFiled names) old → AllByRecursion (IsFiled names) new
-same_filed names old new (inl same) filed = subst (AllByRecursion (IsFiled names)) (sym same) filed
-same_filed names old new (inr anew) filed = subst (AllByRecursion (IsFiled names)) (sym anew) (filed_anew names 0 old filed)
 
 pub all_true : {X : Type 0} (P : X → Type 0) → ((x : X) → P x) → (xs : List X) → AllByRecursion P xs
 all_true P h [] = tt

@@ -8,7 +8,7 @@ use Rattle.std.proofs.lemmas.List.Elements.{filter-append}
 use Rattle.std.proofs.lemmas.Slice.Eq.{bytes_eq-Decides}
 use Rattle.nfs_owners.specs.Choice.{chosen_slot, client_slots, free_slot, has_number_left, has_slot, is_free, is_in_use, is_live_slot, may_give_way, next_number, without_replaced}
 use Rattle.nfs_owners.specs.Registry.{AreRecords, HasOwnNumber, Registry, have_same_id, is_live, is_of, is_of_client, takes_number, without_id}
-use Rattle.nfs_owners.specs.SlotLaws.{OneGivesWay, UpdatesStay, giving_way, is_others_update}
+use Rattle.nfs_owners.specs.SlotLaws.{OneGivesWay, OthersStay, UpdatesStay, giving_way, is_others_elsewhere, is_others_update}
 use Rattle.nfs_owners.specs.Slots.{slot_of}
 use Rattle.nfs_owners.specs.declared.client_record.ClientRecord.{ClientRecord}
 use Rattle.nfs_owners.specs.declared.slots.TheConstants.{SLOTS}
@@ -173,3 +173,31 @@ updates_stay r old fits =
     apart s is =
         not_from_false (has_slot slot s) (false_from_ne_true (has_slot slot s) (λ has. true≢false
         (sym (and_parts (not (is_of r.id s)) (is_live s.state.client.number old) is).1 ∙ dead s has)))
+
+pub others_stay : OthersStay
+others_stay r old = (
+  filter-append stays waiting (r ∷ [])
+      ∙ ap (λ rest. filter stays waiting ++ rest) (cond-false (stays r) (r ∷ []) [] own)
+      ∙ append-nil (filter stays waiting)
+      ∙ filter_kept stays (λ s. not (is_of r.id s)) (λ s is. (and_parts (not (is_of r.id s)) (not (has_slot slot s)) is).0) elsewhere
+      ∙ filter_kept stays (λ s. not (has_slot slot s)) (λ s is. (and_parts (not (is_of r.id s)) (not (has_slot slot s)) is).1) old.unconfirmed,
+  refl,
+)
+  where
+    slot : ℕ
+    slot = slot_of r.state.client.number
+
+    stays : ClientRecord → Bool
+    stays = is_others_elsewhere r
+
+    elsewhere : List ClientRecord
+    elsewhere = filter (λ s. not (has_slot slot s)) old.unconfirmed
+
+    waiting : List ClientRecord
+    waiting = without_id r.id elsewhere
+
+    of_itself : is_of r.id r ≡ true
+    of_itself = (bytes_eq-Decides r.id r.id).1 refl
+
+    own : stays r ≡ false
+    own = ap (λ b. not b && not (has_slot slot r)) of_itself

@@ -1,6 +1,7 @@
 -- Lists of owners of which no two have one name.
-use Rattle.std.proofs.Common.{◌≡◌, ℕ, ◌<◌, Bool, true, false, List, [], ◌∷◌, ◌++◌, length, refl, ap, ◌∙◌, arith}
-use Rattle.std.specs.Prelude.{◌&&◌, ◌||◌, nat_lt, not, filter, if◌then◌else◌}
+use Rattle.std.proofs.Common.{◌≡◌, ℕ, ◌<◌, Bool, true, false, cond, find, option_copied, Option, Some, None, List, [], ◌∷◌, ◌++◌, length, refl, sym, subst, ap, ◌∙◌, arith}
+use Rattle.std.specs.Borrow.{Bor}
+use Rattle.std.specs.Prelude.{◌&&◌, ◌||◌, nat_lt, not, filter, IfSome, if◌then◌else◌}
 use Rattle.std.proofs.lemmas.Bool.{eqb-true, ltb-true}
 use Rattle.std.proofs.lemmas.List.{length-append, length-map}
 use Rattle.std.proofs.lemmas.List.Filters.{length-filter_both}
@@ -10,7 +11,7 @@ use Rattle.nfs_owners.specs.declared.kept.Kept.{Kept}
 use Rattle.nfs_owners.specs.declared.owner.Owner.{Owner}
 use Rattle.nfs_owners.specs.declared.owner.OwnerState.{OwnerState}
 use Rattle.nfs_owners.specs.declared.owner.TheConstants.{OWNER_LIMIT}
-use Rattle.nfs_owners.specs.Owner.{has_name, is_known, with_request, new_owner}
+use Rattle.nfs_owners.specs.Owner.{has_name, is_known, owner_of, with_request, new_owner}
 use Rattle.nfs_owners.specs.Owners.{AreApart, AreOwners, has_place, with_change, with_kept, without_owner}
 use Rattle.nfs_owners.specs.StateOwner.{is_same_kind, is_same_state_owner}
 use Rattle.nfs_owners.specs.declared.state_owner.OwnerKind.{OwnerKind}
@@ -20,6 +21,9 @@ use Rattle.nfs_owners.specs.declared.state_owner.StateOwner.{StateOwner}
 both : (a b : Bool) → a && b ≡ true → (a ≡ true) × (b ≡ true)
 both true b h = (refl, h)
 both false b h = cc
+
+some_owner : (a b : Owner) → Some a ≡ Some b → a ≡ b
+some_owner a b is = cc
 
 kind_exact : (a b : OwnerKind) → is_same_kind a b ≡ true → a ≡ b
 kind_exact kinds.Open kinds.Open same = refl
@@ -41,10 +45,10 @@ kind_same kinds.Lock = refl
 pub name_exact : (name : StateOwner) (o : Owner) → has_name name o ≡ true → o.name ≡ name
 name_exact name o same = grind (arith, kind_exact o.name.kind name.kind, bytes_eq-Decides o.name.name name.name, same, eqb-true, both)
 
-name_swap : (a b : Owner) → has_name a.name b ≡ has_name b.name a
+pub name_swap : (a b : Owner) → has_name a.name b ≡ has_name b.name a
 name_swap a b = grind (arith, kind_swap a.name.kind b.name.kind, bytes_eq-Decides a.name.name b.name.name, bytes_eq-Decides b.name.name a.name.name)
 
-name_same : (o : Owner) → has_name o.name o ≡ true
+pub name_same : (o : Owner) → has_name o.name o ≡ true
 name_same o = grind (arith, kind_same o.name.kind, bytes_eq-Decides o.name.name o.name.name)
 
 known_filter : (p : Owner → Bool) (name : StateOwner) (owners : List Owner) → is_known name owners ≡ false → is_known name (filter p owners) ≡ false
@@ -133,3 +137,28 @@ few_others name owners are place = by (is_known name (without_owner name owners)
     by : (b : Bool) → b ≡ false → b || nat_lt (length (without_owner name owners)) OWNER_LIMIT ≡ true → length (without_owner name owners) < OWNER_LIMIT
     by true known place = absurd cc
     by false known place = omega (arith, ltb-true _ _ place)
+
+-- the first owner that passes a test is found by its name
+pub own_name : (test : Owner → Bool) (owners : List Owner) (x : Owner) → AreApart owners → find test owners ≡ Some x → owner_of x.name owners ≡ Some x
+own_name test [] x apart found = absurd cc
+own_name test (o ∷ owners) x apart found = by (test o) refl found (λ there. own_name test owners x apart.1 there)
+  where
+    unlike : (ys : List Owner) → is_known o.name ys ≡ false → find test ys ≡ Some x → has_name o.name x ≡ false
+    unlike [] none there = absurd cc
+    unlike (y ∷ ys) none there = at (test y) refl there (λ rest. unlike ys (grind (arith, none)) rest)
+      where
+        at : (b : Bool) → test y ≡ b → cond b (Some y) (find test ys) ≡ Some x → (find test ys ≡ Some x → has_name o.name x ≡ false) → has_name o.name x ≡ false
+        at true is here rest = ap (has_name o.name) (sym (some_owner y x here)) ∙ grind (arith, none)
+        at false is there rest = rest there
+
+    by : (b : Bool) → test o ≡ b → cond b (Some o) (find test owners) ≡ Some x → (find test owners ≡ Some x → owner_of x.name owners ≡ Some x) → owner_of x.name (o ∷ owners) ≡ Some x
+    by true is here rest =
+        subst (λ (y : Owner). owner_of y.name (o ∷ owners) ≡ Some y) (some_owner o x here)
+        (ap (λ b. cond b (Some o) (owner_of o.name owners)) (name_same o))
+    by false is there rest =
+        ap (λ b. cond b (Some o) (owner_of x.name owners)) (name_swap x o ∙ unlike owners apart.0 there) ∙ rest there
+
+-- the same of one that is lent, if there is one
+pub own_lent : (test : Owner → Bool) (owners : List Owner) (found : Option (Bor Owner)) → AreApart owners → option_copied found ≡ find test owners → IfSome found (λ o. owner_of o.now.name owners ≡ Some o.now)
+own_lent test owners None apart is = tt
+own_lent test owners (Some o) apart is = own_name test owners o.now apart (sym is)

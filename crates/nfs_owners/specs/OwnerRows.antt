@@ -1,9 +1,9 @@
 -- How owners are kept: in rows, in the order in which they were recorded, found by a keyed hash of their names.
-use Rattle.std.specs.Prelude.{◌≡◌, ◌⊎◌, ℕ, ◌+◌, ◌*◌, ◌^◌, true, false, List, Option, Some, None, if◌then◌else◌, map}
+use Rattle.std.specs.Prelude.{◌≡◌, ℕ, ◌+◌, ◌*◌, ◌^◌, true, false, List, Option, Some, None, if◌then◌else◌, map}
 use Rattle.std.specs.List.{AllByRecursion}
 use Rattle.std.specs.declared.hash.RandomState.{RandomState}
 use Rattle.nfs_rows.specs.NameHash.{hash_of}
-use Rattle.nfs_rows.specs.Rows.{Row, is_numbered, numbered_after}
+use Rattle.nfs_rows.specs.Rows.{Row, is_numbered}
 use Rattle.nfs_forms.specs.declared.client_id.ClientId.{ClientId}
 use Rattle.nfs_owners.specs.Owner.{has_name, is_known}
 use Rattle.nfs_owners.specs.declared.owner.Owner.{Owner}
@@ -35,6 +35,7 @@ pub record RoomyOwnerRows : Type 0 where
 
 -- the row says of its owner what the owner is found by
 pub record IsFiled (names : RandomState) (r : Row Owner) : Type 0 where
+  pub numbered : r.number ≡ r.value.state.recorded
   pub hashed : r.hash ≡ name_hash names r.value.name
   pub of_client : r.client ≡ r.value.name.client.number
 
@@ -55,7 +56,3 @@ with_state_at change number rows =
 
 abbrev pub confirmed : OwnerState → OwnerState
 confirmed s = record s { confirmed = true }
-
--- the rows, or the rows with the numbers from 1 on
-abbrev pub IsNumberedAnew : List (Row Owner) → List (Row Owner) → Type 0
-IsNumberedAnew old new = (new ≡ old) ⊎ (new ≡ numbered_after 0 old)

@@ -1,5 +1,7 @@
 -- What the calls on owners tell and change.
-use Rattle.std.specs.Prelude.{◌≡◌, ℕ, ◌≤◌, nat_lt, ⊤, Bool, true, not, ◌||◌, IsFalse, List, [], ◌∷◌, ◌++◌, map, filter, length, Option, Some, None, if◌then◌else◌}
+use Rattle.std.specs.Prelude.{◌≡◌, ℕ, ◌<◌, ◌≤◌, nat_le, nat_lt, ⊤, Bool, true, not, ◌||◌, IsFalse, List, [], ◌∷◌, ◌++◌, map, filter, length, Option, Some, None, if◌then◌else◌}
+use Rattle.std.specs.List.{AllByRecursion}
+use Rattle.nfs_rows.specs.Rows.{StandSo}
 use Rattle.nfs_owners.specs.declared.kept.Kept.{Kept}
 use Rattle.nfs_owners.specs.declared.kept.KeptRequest.{KeptRequest}
 use Rattle.nfs_owners.specs.declared.kept.Verdict.{Verdict}
@@ -24,6 +26,18 @@ AreApart (o ∷ owners) = IsFalse (is_known o.name owners) × AreApart owners
 -- the server can know these owners at a time
 abbrev pub AreOwners : List Owner → Type 0
 AreOwners owners = (length owners ≤ OWNER_LIMIT) × AreApart owners
+
+-- no entry from this one on recorded the owners
+abbrev pub AreBefore : ℕ → List Owner → Type 0
+AreBefore entry owners = AllByRecursion (λ o. o.state.recorded < entry) owners
+
+-- this entry recorded the owner, or a later one
+abbrev pub is_from : ℕ → Owner → Bool
+is_from entry o = nat_le entry o.state.recorded
+
+-- The owners stand in the order of the entries that recorded them, no two of which are one.
+abbrev pub StandInOrder : List Owner → Type 0
+StandInOrder owners = StandSo (λ o p. o.state.recorded < p.state.recorded) owners
 
 -- the owner is known, or may be recorded without passing the limit
 abbrev pub has_place : StateOwner → List Owner → Bool

@@ -53,8 +53,8 @@ NoNumberIsLeft =
     (registry : Registry) (id : List ℕ) → AreRecords registry → registry.last_confirm < GENERATIONS
     → (choice id registry ≡ None) ↔ AreSlotsLive registry
 
--- The unconfirmed records that give way to a newcomer with this id: none where a slot is free, and else the oldest of the
--- other ids' that may.
+-- The unconfirmed records that give way to a newcomer with this id: none where a slot is free, and else the oldest of
+-- the other ids' that may.
 abbrev pub giving_way : List ℕ → Registry → List ClientRecord
 giving_way id registry =
     let others = without_replaced id registry in
@@ -80,3 +80,16 @@ UpdatesStay =
     (r : ClientRecord) (old : Registry) → FitsRecords (changes.Arrives r) old
     → filter (is_others_update r.id old) (with_newcomer r old).unconfirmed
     ≡ filter (is_others_update r.id old) old.unconfirmed
+
+-- the record has another id than the newcomer, and another slot
+abbrev pub is_others_elsewhere : ClientRecord → ClientRecord → Bool
+is_others_elsewhere newcomer r =
+    not (is_of newcomer.id r) && not (has_slot (slot_of newcomer.state.client.number) r)
+
+-- a newcomer leaves the unconfirmed records of other ids in other slots, in their order, and all confirmed ones
+abbrev pub OthersStay : Type 0
+OthersStay =
+    (r : ClientRecord) (old : Registry)
+    → (filter (is_others_elsewhere r) (with_newcomer r old).unconfirmed
+    ≡ filter (is_others_elsewhere r) old.unconfirmed)
+    × ((with_newcomer r old).confirmed ≡ old.confirmed)

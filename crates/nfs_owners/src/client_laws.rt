@@ -1,5 +1,5 @@
 ghost use Rattle.nfs_owners.specs.ClientLaws.{MarksKeepClients};
-ghost use Rattle.nfs_owners.specs.SlotLaws.{NoNumberIsLeft, NumbersComeOnce, OneGivesWay, SlotsAreApart, UpdatesStay};
+ghost use Rattle.nfs_owners.specs.SlotLaws.{NoNumberIsLeft, NumbersComeOnce, OneGivesWay, OthersStay, SlotsAreApart, UpdatesStay};
 
 /// The law that a mark of a client's path leaves all clients as they are, and changes nothing else of their records.
 pub fn marks_keep_clients()
@@ -32,4 +32,9 @@ pub fn one_gives_way()
 /// The law that a newcomer leaves the unconfirmed records of other ids that have a live client's number.
 pub fn updates_stay()
     ensures { UpdatesStay }
+{}
+
+/// The law that a newcomer leaves the unconfirmed records of other ids in other slots, and all confirmed ones.
+pub fn others_stay()
+    ensures { OthersStay }
 {}

@@ -10,8 +10,7 @@ use std::alloc::Global;
 pub(crate) struct Closers {
     // The row's number at that of the state.
     pub index: IndexMap<u32, u64>,
-    // The index may lack some: two rows had closed one state, there was no room in it, or the rows were numbered anew. So
-    // each row has to be looked at.
+    // The index may lack some: two rows had closed one state, or there was no room in it. So each row has to be looked at.
     pub partial: bool,
 }
 

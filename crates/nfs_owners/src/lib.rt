@@ -24,8 +24,8 @@ mod state_owner;
 
 pub use client_callback::{ADDRESS_LIMIT, ClientCallback};
 pub use client_laws::{
-    marks_keep_clients, no_number_is_left, numbers_come_once, one_gives_way, slots_are_apart,
-    updates_stay,
+    marks_keep_clients, no_number_is_left, numbers_come_once, one_gives_way, others_stay,
+    slots_are_apart, updates_stay,
 };
 pub use client_record::{ClientRecord, ClientState, PathMark};
 pub use client_ref::ClientRef;

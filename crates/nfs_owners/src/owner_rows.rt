@@ -1,13 +1,13 @@
-ghost use Rattle.std.specs.Prelude.{◌≡◌, ℕ, ◌<◌, ◌≤◌, ◌+◌, ◌-◌, ◌^◌, ◌++◌, ◌∷◌, [], IsOk, OnOk, Option, find, length};
+ghost use Rattle.std.specs.Prelude.{◌≡◌, ℕ, ◌<◌, ◌≤◌, ◌+◌, ◌&&◌, ◌++◌, ◌∷◌, [], Bool, IsOk, OnOk, Option, filter, find, length};
 ghost use Rattle.std.specs.Option.{option_copied};
-ghost use Rattle.nfs_rows.specs.Rows.{IsAbove, is_numbered, newest_of, without};
+ghost use Rattle.nfs_rows.specs.Rows.{AnswersAs, is_from as is_row_from, is_numbered, without};
 ghost use Rattle.nfs_owners.specs.Closers.{AreClosers, closed_at, closed_by, with_at};
 ghost use Rattle.nfs_owners.specs.Kept.{closes};
 ghost use Rattle.nfs_owners.specs.Owner.{has_client, owner_of, with_request};
-ghost use Rattle.nfs_owners.specs.OwnerRows.{IsNumberedAnew, IsRowOf, confirmed, name_hash, owners_in, with_state_at};
-ghost use Rattle.nfs_owners.specs.Owners.{AreOwners, without_owners_of};
+ghost use Rattle.nfs_owners.specs.OwnerRows.{IsRowOf, confirmed, name_hash, owners_in, with_state_at};
+ghost use Rattle.nfs_owners.specs.Owners.{AreBefore, AreOwners, StandInOrder, is_from};
 ghost use Rattle.nfs_owners.specs.StateOwner.{owner_seen};
-ghost use Rattle.nfs_owners.specs.declared.owner.TheConstants.{OWNER_LIMIT};
+ghost use Rattle.nfs_owners.specs.declared.owner.Owner.{Owner};
 
 use crate::closers::Closers;
 use crate::{Kept, Owner, OwnerRef};
@@ -17,8 +17,8 @@ use std::alloc::{AllocError, Global};
 use std::hash::RandomState;
 use std::marker::Model;
 
-// The owners in rows, in the order in which they were recorded, found by their names, and by the states that their kept
-// requests closed.
+// The owners in rows, each with the number of the entry that recorded it, found by these numbers, by their names, and by
+// the states that their kept requests closed.
 #[derive(Drop)]
 pub(crate) struct OwnerRows {
     rows: Rows<Owner>,
@@ -122,6 +122,18 @@ impl OwnerRows {
         }
     }
 
+    // The first owner that this entry recorded, or a later one, and that passes the test, if there is one.
+    pub fn find_from<F: Fn(&Owner) -> bool>(&self, entry: u32, test: F) -> Option<&Owner>
+        requires { F.IsAlwaysCallable test }
+        ensures found { (p : Owner → Bool) → AnswersAs F.Fn test p → option_copied result
+            ≡ find (λ o. is_from entry o && p o) (owners_in self.now.rows) }
+        ensures order { StandInOrder (owners_in self.now.rows) }
+    {
+        // `len` tells that the rows stand in the order of their numbers.
+        let _rows = self.rows.len();
+        found_from(&self.rows, u64::from(entry), test)
+    }
+
     // Makes room, so that the next row takes no memory.
     pub fn reserve(&mut self) -> Result<(), AllocError>
         ensures rows { self.new.rows ≡ self.old.rows }
@@ -134,15 +146,15 @@ impl OwnerRows {
         Ok(())
     }
 
-    // Adds a row with this owner, whose name has this hash. It takes no memory.
+    // Adds a row with this owner, whose name has this hash, and who was recorded after all others. It takes no memory.
     pub fn add(&mut self, hash: u64, owner: Owner)
         requires room { 0 < self.old.room }
         requires hash { hash ≡ name_hash self.old.names owner.name }
-        requires few { length self.old.rows ≤ OWNER_LIMIT }
+        requires newest { AreBefore owner.state.recorded (owners_in self.old.rows) }
         ensures owners { owners_in self.new.rows ≡ owners_in self.old.rows ++ owner ∷ [] }
         ensures room { self.old.room ≡ self.new.room + 1 }
     {
-        let row = next_row(&mut self.rows, &mut self.closers);
+        let row = u64::from(owner.state.recorded);
         self.closers.note(owner.state.kept.closed(), row);
         self.rows.add(row, hash, owner.name.client.number, owner);
     }
@@ -214,6 +226,20 @@ fn closed_in_row(rows: &Rows<Owner>, row: u64) -> Option<u32>
     }
 }
 
+// The first owner in the rows from this number on that passes the test, if there is one.
+fn found_from<F: Fn(&Owner) -> bool>(rows: &Rows<Owner>, number: u64, test: F) -> Option<&Owner>
+    requires { F.IsAlwaysCallable test }
+    ensures { (p : Owner → Bool) → AnswersAs F.Fn test p
+        → option_copied result ≡ find p (owners_in (filter (is_row_from number) rows.now.rows)) }
+{
+    for (_, owner) in rows.iter_from(number) {
+        if test(owner) {
+            return Some(owner);
+        }
+    }
+    None
+}
+
 // The first owner in these rows whose kept request closed the client's state with this number, if there is one.
 fn closer_among(rows: &Rows<Owner>, client: ClientId, number: u32) -> Option<&Owner>
     ensures { option_copied result
@@ -238,30 +264,4 @@ fn forget_client(rows: &Rows<Owner>, closers: &mut Closers, client: ClientId)
             closers.forget(owner.state.kept.closed());
         }
     }
-}
-
-// A number for the next row, above those of all others. Where none is left, the rows are numbered anew.
-#[tactic(auto, using(crate::proofs::Filing::newest_anew))]
-fn next_row(rows: &mut Rows<Owner>, closers: &mut Closers) -> u64
-    requires few { length rows.old.rows ≤ OWNER_LIMIT }
-    requires closers { AreClosers closers.old (closed_at rows.old.rows) }
-    ensures above { IsAbove result rows.new.rows }
-    ensures rows { IsNumberedAnew rows.old.rows rows.new.rows }
-    ensures room { rows.new.room ≡ rows.old.room }
-    ensures closers { AreClosers closers.new (closed_at rows.new.rows) }
-{
-    if rows.newest() < u64::MAX {
-        return after_newest(rows);
-    }
-    rows.renumber();
-    closers.partial = true;
-    after_newest(rows)
-}
-
-// The number after that of the newest row.
-fn after_newest(rows: &Rows<Owner>) -> u64
-    requires { newest_of rows.now.rows < 2 ^ 64 - 1 }
-    ensures { IsAbove result rows.now.rows }
-{
-    rows.newest() + 1
 }

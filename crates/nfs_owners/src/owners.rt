@@ -1,10 +1,12 @@
-ghost use Rattle.std.specs.Prelude.{◌≡◌, ◌<◌, ◌≤◌, ◌+◌, ◌↔◌, true, false, [], find, IsErrOf, IsFalse, IsOk, IsTrue, OnOk, length, option_map};
+ghost use Rattle.std.specs.Prelude.{◌≡◌, ◌<◌, ◌≤◌, ◌+◌, ◌↔◌, ◌&&◌, Bool, Some, IfSome, true, false, [], find, IsErrOf, IsFalse, IsOk, IsTrue, OnOk, length, option_map};
 ghost use Rattle.std.specs.Option.{option_copied};
+ghost use Rattle.nfs_rows.specs.Rows.{AnswersAs};
 ghost use Rattle.nfs_owners.specs.Kept.{closes, request_of};
 ghost use Rattle.nfs_owners.specs.StateOwner.{owner_seen};
+ghost use Rattle.nfs_owners.specs.declared.owner.Owner.{Owner};
 ghost use Rattle.nfs_owners.specs.declared.state_owner.StateOwner.{StateOwner};
 ghost use Rattle.nfs_owners.specs.Owner.{has_name, is_known, owner_of, standing_of};
-ghost use Rattle.nfs_owners.specs.Owners.{IsJudged, has_place, with_confirmed, with_kept, without_owner, without_owners_of};
+ghost use Rattle.nfs_owners.specs.Owners.{AreBefore, IsJudged, StandInOrder, has_place, is_from, with_confirmed, with_kept, without_owner, without_owners_of};
 
 use crate::owner_rows::OwnerRows;
 use crate::{
@@ -84,6 +86,19 @@ impl Owners {
         }
     }
 
+    /// The first owner that the journal's entry of this number recorded, or a later one, and that passes the test, if there
+    /// is one. It finds the first that was recorded so by halving, and looks at those behind it one by one.
+    pub fn find_from<F: Fn(&Owner) -> bool>(&self, entry: u32, test: F) -> Option<&Owner>
+        requires { F.IsAlwaysCallable test }
+        ensures found { (p : Owner → Bool) → AnswersAs F.Fn test p
+            → option_copied result ≡ find (λ o. is_from entry o && p o) self.now.owners }
+        ensures own { (p : Owner → Bool) → AnswersAs F.Fn test p → IfSome result
+            (λ owner. owner_of owner.now.name self.now.owners ≡ Some owner.now) }
+        ensures order { StandInOrder self.now.owners }
+    {
+        self.owners.find_from(entry, test)
+    }
+
     /// The verdict on a request of the owner with this name, or `None` if the owner is unknown.
     pub fn judge(
         &self,
@@ -134,10 +149,12 @@ impl Owners {
     }
 
     /// Makes this the kept request of the owner with this name, in the journal's entry `number`; an unknown owner is
-    /// recorded by it. It takes no memory.
+    /// recorded by it, after all others. It takes no memory.
     pub fn keep(&mut self, name: StateOwner, number: u32, kept: Kept)
         requires place { IsTrue (has_place name self.old.owners) }
         requires room { IsFalse (is_known name self.old.owners) → 0 < self.old.room }
+        requires newest { IsFalse (is_known name self.old.owners)
+            → AreBefore number self.old.owners }
         ensures owners { self.new.owners ≡ with_kept name number kept self.old.owners }
         ensures room { self.old.room ≤ self.new.room + 1 }
         ensures known { IsTrue (is_known name self.old.owners) → self.new.room ≡ self.old.room }

@@ -1,9 +1,9 @@
 -- For callers whose own view is a list that is seen of the rows, as that of their values.
-use Rattle.std.proofs.Common.{◌≡◌, ℕ, ◌<◌, ◌≤◌, Bool, true, false, not, cond, ◌&&◌, List, [], ◌∷◌, filter, find, map, option_map, Option, Some, None, refl, sym, ap, subst, ◌∙◌, arith}
+use Rattle.std.proofs.Common.{◌≡◌, ℕ, ◌<◌, Bool, true, false, not, cond, ◌&&◌, List, [], ◌∷◌, filter, find, map, option_map, Option, Some, None, refl, sym, ap, subst, ◌∙◌, arith}
 use Rattle.std.specs.List.{AllByRecursion}
 use Rattle.std.proofs.lemmas.Bool.{eqb-true, eqb-false, false_from_ne_true, true_from_ne_false}
-use Rattle.nfs_rows.specs.Rows.{IsAbove, Row, StandInOrder, StandSo, is_named, is_numbered, is_of_client, newest_of, pair_in, pair_of, value_in, with_value, without}
-use Rattle.nfs_rows.proofs.Each.{all_both, all_filter, all_weaken, change_none}
+use Rattle.nfs_rows.specs.Rows.{Row, StandInOrder, StandSo, is_named, is_numbered, is_of_client, pair_in, pair_of, value_in, with_value, without}
+use Rattle.nfs_rows.proofs.Each.{all_both, all_weaken, change_none}
 
 module _ {V W : Type 0} (seen : Row V → W) where
   -- what is found, and what is left, where a test of what is seen answers as one of the rows
@@ -183,27 +183,3 @@ module _ {V : Type 0} where
       by false fails there rest =
           let below = found_all (λ s. q.number < s.number) test r rows order.0 there in
           (false_from_ne_true _ (λ equal. omega (arith, below, eqb-true q.number r.number equal)) ∙ sym fails, rest there)
-
-  -- the newest number, for callers that count on from it
-
-  pub above_newest : (number : ℕ) (rows : List (Row V)) → StandInOrder rows → newest_of rows < number → IsAbove number rows
-  above_newest number [] order above = tt
-  above_newest number (r ∷ []) order above = (above, tt)
-  above_newest number (r ∷ s ∷ rows) order above =
-      let rest = above_newest number (s ∷ rows) order.1 above in
-      (omega (arith, order.0.0, rest.0), rest)
-
-  pub within_newest : (rows : List (Row V)) → StandInOrder rows → AllByRecursion (λ r. r.number ≤ newest_of rows) rows
-  within_newest [] order = tt
-  within_newest (r ∷ []) order = (omega arith, tt)
-  within_newest (r ∷ s ∷ rows) order =
-      let rest = within_newest (s ∷ rows) order.1 in
-      (omega (arith, order.0.0, rest.0), rest)
-
-  pub newest_within : (most : ℕ) (rows : List (Row V)) → AllByRecursion (λ r. r.number ≤ most) rows → newest_of rows ≤ most
-  newest_within most [] h = omega arith
-  newest_within most (r ∷ []) h = h.0
-  newest_within most (r ∷ s ∷ rows) h = newest_within most (s ∷ rows) h.1
-
-  pub newest_without : (test : Row V → Bool) (rows : List (Row V)) → StandInOrder rows → newest_of (without test rows) ≤ newest_of rows
-  newest_without test rows order = newest_within (newest_of rows) (without test rows) (all_filter (λ r. r.number ≤ newest_of rows) (λ r. not (test r)) rows (within_newest rows order))

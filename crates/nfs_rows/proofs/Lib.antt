@@ -5,4 +5,4 @@ pub mod Lending
 pub mod Clearing
 pub mod Callers
 pub mod Leading
-pub mod Renumbering
+pub mod Starting

@@ -24,13 +24,13 @@ non_decreasing ps rise i j d more below =
     one : (i j : ℕ) → i ≤ j → j ≤ i → i ≡ j
     one i j a b = omega (arith, a, b)
 
-abbrev IsPoint : ℕ → List Place → ℕ → Type 0
+abbrev pub IsPoint : ℕ → List Place → ℕ → Type 0
 IsPoint number ps at = IsPartitionPoint (λ p. nat_lt p.number number ≡ true) (λ p. nat_lt p.number number ≡ false) ps at
 
-below_point : (number : ℕ) (ps : List Place) (at : ℕ) → IsPoint number ps at → (k : ℕ) (d : Place) → k < at → (get_or ps k d).number < number
+pub below_point : (number : ℕ) (ps : List Place) (at : ℕ) → IsPoint number ps at → (k : ℕ) (d : Place) → k < at → (get_or ps k d).number < number
 below_point number ps at point k d below = grind (arith, point.0 k d (omega arith) below)
 
-from_point : (number : ℕ) (ps : List Place) (at : ℕ) → IsPoint number ps at → (k : ℕ) (d : Place) → at ≤ k → k < length ps → number ≤ (get_or ps k d).number
+pub from_point : (number : ℕ) (ps : List Place) (at : ℕ) → IsPoint number ps at → (k : ℕ) (d : Place) → at ≤ k → k < length ps → number ≤ (get_or ps k d).number
 from_point number ps at point k d above below = grind (arith, point.1 k d above below)
 
 -- no other place than the one at the point has the number

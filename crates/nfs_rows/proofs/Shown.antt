@@ -1,5 +1,5 @@
 -- Rows that a slab has, by places that lead to them.
-use Rattle.std.proofs.Common.{vec_len, ◌≡◌, ◌≢◌, ℕ, suc, ◌+◌, ◌*◌, ◌-◌, ◌<◌, ◌≤◌, length-append, nat_eq, slice_get, take, drop, ◌&&◌, ◌==◌, Bool, true, false, not, cond, List, [], ◌∷◌, ◌++◌, length, get_or, find, option_map, Option, Some, None, is_some, IsSome, inl, inr, refl, sym, ap, ◌∙◌, subst, arith}
+use Rattle.std.proofs.Common.{vec_len, ◌≡◌, ◌≢◌, ℕ, suc, ◌+◌, ◌*◌, ◌<◌, ◌≤◌, length-append, nat_eq, take, drop, ◌&&◌, ◌==◌, Bool, true, false, not, cond, List, [], ◌∷◌, ◌++◌, length, get_or, find, option_map, Option, Some, None, is_some, IsSome, inl, inr, refl, sym, ap, ◌∙◌, subst, arith}
 use Rattle.std.specs.List.{AllByRecursion, cons_option}
 use Rattle.std.specs.Prelude.{◌⊎◌}
 use Rattle.std.specs.Option.{option_map_or}
@@ -13,10 +13,10 @@ use Rattle.std.proofs.lemmas.List.Sums.{sum_by-set}
 use Rattle.slab.specs.Slab.{Slab, get, slab_len, with_value, Updates}
 use Rattle.slab.proofs.SlabLemmas.{ContainsKey-within, Updates-with_value}
 use Rattle.nfs_rows.specs.declared.place.Place.{Place}
-use Rattle.nfs_rows.specs.Rows.{IsAbove, Row, StandInOrder, is_named, is_numbered, newest_of, pair_in, value_in, with_value as with_row, without}
+use Rattle.nfs_rows.specs.Rows.{IsAbove, Row, StandInOrder, is_named, is_numbered, pair_in, value_in, with_value as with_row, without}
 use Rattle.nfs_rows.specs.Places.{AreFew, AreKept, has_row, row_of, EndsKept, HasRoom, HasRow, HasRowAt, IsIndexed, IsPlaceOf, KeysDiffer, NumbersRise, kept, marked, number_at, row_with, rows_at, rows_of}
 use Rattle.nfs_rows.proofs.Leading.{hashes_before, hashes_behind, indexed_less, led, none_led}
-use Rattle.nfs_rows.proofs.Marks.{Cut, above_marks, cut, ends_last, kept_first, kept_mark, kept_push, live_not, last_is, number_is, rise_kept, rise_marked}
+use Rattle.nfs_rows.proofs.Marks.{Cut, above_marks, cut, kept_first, kept_mark, kept_push, live_not, number_is, rise_kept, rise_marked}
 use Rattle.nfs_rows.proofs.Each.{all_append, all_around, all_back, all_weaken, change_none, drop_none, find_none, find_past, so_around, so_before, so_behind, so_push}
 
 and_yes : (a b : Bool) → (a && b) ≡ true → (a ≡ true) × (b ≡ true)
@@ -167,12 +167,6 @@ module _ {V : Type 0} where
       by : slab_len (with_value slab key w) + cond (is_some (get_or slab.slots key None)) 1 0 ≡ slab_len slab + 1 → slab_len (with_value slab key w) ≡ slab_len slab
       by sums = omega (arith, subst (λ (o : Option V). slab_len (with_value slab key w) + cond (is_some o) 1 0 ≡ slab_len slab + 1) is sums)
 
-  -- the number of the last row
-  pub newest_push : (rows : List (Row V)) (r : Row V) → newest_of (rows ++ r ∷ []) ≡ r.number
-  newest_push [] r = refl
-  newest_push (q ∷ []) r = refl
-  newest_push (q ∷ s ∷ rows) r = newest_push (s ∷ rows) r
-
   -- by what `place_of` answers
 
   pub none_found : (slab : Slab V) (number : ℕ) (ps : List Place) → IsPlaceOf number ps None → find (is_numbered number) (rows_at slab ps) ≡ None
@@ -247,16 +241,6 @@ module _ {V : Type 0} where
         ++ row_with p w ∷ rows_elsewhere slab new p.key (Some w) here.back updates (keys_behind here.front p here.back apart) i)
         ∙ sym (change_cut here.front p here.back rise slab v.0 w v.1)
         ∙ (λ i. with_row (numbered i) w (rows_of slab (sym here.whole i)))
-
-  pub newest_last : (slab : Slab V) (ps : List Place) (p : Place) → AllByRecursion (HasRow slab) (kept ps) → EndsKept ps → Some p ≡ slice_get ps (length ps - 1)
-      → p.number ≡ newest_of (rows_at slab ps)
-  newest_last slab ps p there ends last =
-      let is = last_is ps p last in
-      let front = take (length ps - 1) ps in
-      let live = ends_last front p (subst EndsKept is ends) in
-      let whole : kept ps ≡ kept front ++ p ∷ [] = ap kept is ∙ kept_push front p live in
-      let v = value_at slab p (all_back (HasRow slab) (kept front) (p ∷ []) (subst (AllByRecursion (HasRow slab)) whole there)).0 in
-      sym (ap newest_of (ap (rows_of slab) whole ∙ rows_cut slab (kept front) p [] v.0 v.1) ∙ newest_push (rows_of slab (kept front)) (row_with p v.0))
 
   -- where a place gets a mark, and its row is removed
   module _ (old new : Slab V) (ps : List Place) (at : ℕ) (p : Place) (there : HasRowAt at ps) (is : (d : Place) → get_or ps at d ≡ p) where

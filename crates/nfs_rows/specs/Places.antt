@@ -1,5 +1,5 @@
 -- How rows are kept.
-use Rattle.std.specs.Prelude.{◌≡◌, ◌≢◌, ◌⊎◌, ℕ, ◌+◌, ◌*◌, zero, suc, ◌<◌, ◌≤◌, Bool, ◌&&◌, false, true, not, List, [], ◌∷◌, Option, Some, None, filter, filter_map, IsSome, length, map, slice_index_or, vec_capacity, vec_len, nat_eq, ⊤}
+use Rattle.std.specs.Prelude.{◌≡◌, ◌≢◌, ◌⊎◌, ℕ, ◌+◌, ◌*◌, zero, suc, ◌<◌, ◌≤◌, Bool, ◌&&◌, false, true, not, List, [], ◌∷◌, Option, Some, None, nat_le, filter, filter_map, IsSome, length, map, slice_index_or, vec_capacity, vec_len, nat_eq, ⊤}
 use Rattle.std.specs.Global.{Vec}
 use Rattle.std.specs.Option.{option_map, option_map_or}
 use Rattle.std.specs.List.{AllByRecursion}
@@ -15,6 +15,10 @@ kept places = filter (λ p. not p.gone) places
 
 abbrev pub NumbersRise : List Place → Type 0
 NumbersRise places = StandSo (λ p q. p.number < q.number) places
+
+-- the place's number isn't below this one
+abbrev pub is_from : ℕ → Place → Bool
+is_from number p = nat_le number p.number
 
 abbrev pub KeysDiffer : List Place → Type 0
 KeysDiffer places = StandSo (λ p q. p.key ≢ q.key) places
@@ -45,12 +49,6 @@ number_at at places = slice_index_or (map (λ p. p.number) places) at 0
 -- and the key
 abbrev pub key_at : ℕ → List Place → ℕ
 key_at at places = slice_index_or (map (λ p. p.key) places) at 0
-
--- the places in their order, with the numbers that follow this one
-abbrev pub placed_after : ℕ → List Place → List Place
-placed_after last [] = []
-placed_after last (p ∷ places) =
-    record p { number = last + 1 } ∷ placed_after (last + 1) places
 
 -- the places, with a mark at this one
 abbrev pub marked : ℕ → List Place → List Place

@@ -1,5 +1,5 @@
 -- What contracts see of rows.
-use Rattle.std.specs.Prelude.{◌≡◌, ℕ, ◌+◌, ◌<◌, ◌==◌, Bool, ◌&&◌, not, if◌then◌else◌, List, [], ◌∷◌, filter, map, Option, refl, ⊤}
+use Rattle.std.specs.Prelude.{◌≡◌, ℕ, ◌<◌, ◌==◌, Bool, ◌&&◌, nat_le, not, if◌then◌else◌, List, [], ◌∷◌, filter, map, Option, refl, ⊤}
 use Rattle.std.specs.Option.{option_map}
 use Rattle.std.specs.Borrow.{Bor}
 use Rattle.std.specs.Fn.{Shared}
@@ -49,6 +49,10 @@ module _ {V : Type 0} where
   abbrev pub is_numbered : ℕ → Row V → Bool
   is_numbered number r = r.number == number
 
+  -- the row's number isn't below this one
+  abbrev pub is_from : ℕ → Row V → Bool
+  is_from number r = nat_le number r.number
+
   -- the row is of the client, and its value passes the test
   abbrev pub is_of_client : ℕ → (V → Bool) → Row V → Bool
   is_of_client client test r = r.client == client && test r.value
@@ -81,12 +85,6 @@ module _ {V : Type 0} where
   abbrev pub IsAbove : ℕ → List (Row V) → Type 0
   IsAbove number rows = AllByRecursion (λ r. r.number < number) rows
 
-  -- the number of the last row, or 0
-  abbrev pub newest_of : List (Row V) → ℕ
-  newest_of [] = 0
-  newest_of (r ∷ []) = r.number
-  newest_of (r ∷ s ∷ rows) = newest_of (s ∷ rows)
-
   -- the rows, with this value in the one with the number
   abbrev pub with_value : ℕ → V → List (Row V) → List (Row V)
   with_value number value rows =
@@ -95,9 +93,3 @@ module _ {V : Type 0} where
   -- the rows that fail the test
   abbrev pub without : (Row V → Bool) → List (Row V) → List (Row V)
   without test rows = filter (λ r. not (test r)) rows
-
-  -- the rows in their order, with the numbers that follow this one
-  abbrev pub numbered_after : ℕ → List (Row V) → List (Row V)
-  numbered_after last [] = []
-  numbered_after last (r ∷ rows) =
-      record r { number = last + 1 } ∷ numbered_after (last + 1) rows

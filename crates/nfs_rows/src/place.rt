@@ -1,6 +1,6 @@
-ghost use Rattle.std.specs.Prelude.{◌≡◌, ◌≤◌, ◌*◌, false, length, nat_lt, slice_index_or, true, vec_capacity, vec_len};
+ghost use Rattle.std.specs.Prelude.{◌≡◌, ◌≤◌, ◌*◌, false, filter, length, nat_lt, slice_index_or, true, vec_capacity, vec_len};
 ghost use Rattle.std.specs.List.Sorted.{IsPartitionPoint};
-ghost use Rattle.nfs_rows.specs.Places.{EndsKept, HasRowAt, IsPlaceOf, NumbersRise, kept, marked, placed_after};
+ghost use Rattle.nfs_rows.specs.Places.{EndsKept, HasRowAt, IsPlaceOf, NumbersRise, is_from, kept, marked};
 ghost use Rattle.nfs_rows.specs.declared.place.Place.{Place};
 
 /// Where a row is kept, and what the row is found by.
@@ -26,6 +26,14 @@ pub fn place_of(places: &[Place], number: u64) -> Option<usize>
     } else {
         None
     }
+}
+
+/// The places whose numbers aren't below this one.
+pub fn places_from(places: &[Place], number: u64) -> &[Place]
+    requires { NumbersRise places.now }
+    ensures { result.now ≡ filter (is_from number) places.now }
+{
+    &places[first_from(places, number)..]
 }
 
 // How many numbers are below this one, by halving.
@@ -71,24 +79,5 @@ pub fn drop_marks(places: &mut Vec<Place>, rows: usize)
             break;
         }
         places.pop();
-    }
-}
-
-/// Drops the marks, and numbers the places anew, from 1 on.
-pub fn renumber(places: &mut Vec<Place>)
-    ensures places { places.new.items ≡ placed_after 0 (kept places.old.items) }
-    ensures length { vec_len places.new ≤ vec_len places.old }
-    ensures capacity { vec_capacity places.new ≡ vec_capacity places.old }
-{
-    places.retain(|place| !place.gone);
-    number_each(places.as_mut_slice());
-}
-
-// Numbers the places anew, from 1 on.
-fn number_each(places: &mut [Place])
-    ensures { places.new ≡ placed_after 0 places.old }
-{
-    for at in 0..places.len() {
-        places[at].number = at as u64 + 1;
     }
 }

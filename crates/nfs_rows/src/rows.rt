@@ -1,11 +1,11 @@
-ghost use Rattle.std.specs.Prelude.{◌≡◌, ◌<◌, ◌≤◌, ◌==◌, ◌+◌, [], ◌∷◌, ◌++◌, IsOk, OnErr, OnOk, Bool, find, length, map};
+ghost use Rattle.std.specs.Prelude.{◌≡◌, ◌<◌, ◌≤◌, ◌==◌, ◌+◌, [], ◌∷◌, ◌++◌, IsOk, OnErr, OnOk, Bool, filter, find, length, map};
 ghost use Rattle.std.specs.Option.{option_copied, option_copied_mut};
 ghost use Rattle.std.specs.Borrow.{sem};
-ghost use Rattle.nfs_rows.specs.Rows.{AnswersAs, IsAbove, StandInOrder, is_named, is_numbered, is_of_client, newest_of, numbered_after, pair_in, pair_of, pair_seen, value_in, without};
+ghost use Rattle.nfs_rows.specs.Rows.{AnswersAs, IsAbove, StandInOrder, is_from, is_named, is_numbered, is_of_client, pair_in, pair_of, pair_seen, value_in, without};
 
 use crate::iter::Iter;
 use crate::parts::{has_row_of, named_among, stay_clashed, take};
-use crate::place::{Place, drop_marks, place_of, renumber};
+use crate::place::{Place, drop_marks, place_of, places_from};
 use indexmap::IndexMap;
 use slab::Slab;
 use std::alloc::{AllocError, Global};
@@ -20,7 +20,7 @@ pub struct Rows<T> {
     places: Vec<Place>,
     // The number of the row with a hash, as long as no two rows had one.
     index: IndexMap<u64, u64>,
-    // Two rows have had one hash, or the rows were numbered anew, and there have been rows since.
+    // Two rows have had one hash, and there have been rows since.
     clashed: bool,
     // How many additions were promised to take no memory.
     room: usize,
@@ -76,17 +76,6 @@ impl<T> Rows<T> {
         self.slab.is_empty()
     }
 
-    /// The number of the newest row, or 0 where there is none.
-    pub fn newest(&self) -> u64
-        ensures number { result ≡ newest_of self.now.rows }
-        ensures order { StandInOrder self.now.rows }
-    {
-        match self.places.last() {
-            Some(place) => place.number,
-            None => 0,
-        }
-    }
-
     /// The row with this number, if there is one.
     pub fn find(&self, number: u64) -> Option<&T>
         ensures { option_copied result ≡ value_in (find (is_numbered number) self.now.rows) }
@@ -132,6 +121,16 @@ impl<T> Rows<T> {
         Iter {
             slab: &self.slab,
             places: &self.places,
+        }
+    }
+
+    /// The same of those rows whose numbers aren't below this one. It finds the first of them by halving.
+    pub fn iter_from(&self, number: u64) -> Iter<'_, T>
+        ensures { result ≡ map pair_of (filter (is_from number) self.now.rows) }
+    {
+        Iter {
+            slab: &self.slab,
+            places: places_from(&self.places, number),
         }
     }
 
@@ -211,14 +210,5 @@ impl<T> Rows<T> {
         }
         drop_marks(&mut self.places, self.slab.len());
         self.clashed = stay_clashed(&mut self.index, self.clashed, self.slab.len());
-    }
-
-    /// Numbers the rows anew, from 1 on. Then look-ups by hash look at each row, as long as there are rows.
-    pub fn renumber(&mut self)
-        ensures rows { self.new.rows ≡ numbered_after 0 self.old.rows }
-        ensures room { self.new.room ≡ self.old.room }
-    {
-        renumber(&mut self.places);
-        self.clashed = true;
     }
 }

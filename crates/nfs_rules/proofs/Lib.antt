@@ -6,3 +6,5 @@ pub mod OpeningLaws
 pub mod Uniqueness
 pub mod Judging
 pub mod FoundDelegations
+pub mod Closing
+pub mod Forgetting

@@ -20,6 +20,7 @@ mod turn;
 pub use decision::Decision;
 pub use demand::{Demand, Kinds};
 pub use entries::expire::{NotExpired, expire};
+pub use entries::forget::{NotForgotten, forget, next_idle};
 pub use entries::path::mark_path;
 pub use entries::revoke::revoke;
 pub use laws::{at_most_one_decision, judged_as_sequenced};

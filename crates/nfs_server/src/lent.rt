@@ -1,5 +1,5 @@
-ghost use Rattle.std.specs.Prelude.{◌≡◌, ◌≤◌, ◌^◌, ◌∷◌, [], IfErr, IfNone, IfOk, IfSome, IsFalse, OnErr, ℕ, refl};
-ghost use Rattle.nfs_core.specs.Events.{EndsNoClient, IsNotEntered, entry_by};
+ghost use Rattle.std.specs.Prelude.{◌≡◌, ◌↔◌, ◌≤◌, ◌^◌, ◌∷◌, [], IfErr, IfNone, IfOk, IfSome, IsFalse, None, Ok, OnErr, ℕ, refl};
+ghost use Rattle.nfs_core.specs.Events.{EndsNoClient, IsForgotten, IsNotEntered, IsNotForgottenFor, NoneIsIdle, entry_by};
 ghost use Rattle.nfs_core.specs.Server.{AreAlike, Enters, IsLawful};
 ghost use Rattle.nfs_owners.specs.Registry.{is_live};
 ghost use Rattle.nfs_server.specs.Leases.{IsLent};
@@ -60,7 +60,8 @@ impl Lent {
     }
 
     /// Removes each client whose lease is over at this moment, with all that it has. Then it revokes the delegations that
-    /// are due, until none is, or there is no room for an entry.
+    /// are due, and then forgets the open owners that may be forgotten, until none is left of both, or there is no room for
+    /// an entry.
     pub fn sweep(&mut self, now: Moment) -> Swept
         ensures sweeps { Sweeps Happens now (leased_server self.old.core self.old.book) result
             (leased_server self.new.core self.new.book) }
@@ -81,6 +82,20 @@ impl Lent {
         ensures lawful { IsLawful self.new.core }
     {
         self.leased.enter(event)
+    }
+
+    /// Forgets the next open owner that may be forgotten at this moment, if one may, and returns the entry's number.
+    pub fn forget(&mut self, now: Moment) -> Result<Option<u32>, CoreError>
+        ensures forgotten { IfOk result (IsForgotten self.old.core self.new.core now) }
+        ensures none { result ≡ Ok None ↔ NoneIsIdle self.old.core now }
+        ensures error { IfErr result (IsNotForgottenFor self.old.core now) }
+        ensures same { OnErr result (AreAlike self.old.core self.new.core) }
+        ensures room { OnErr result (self.old.core.room ≤ self.new.core.room) }
+        ensures recalls { self.new.core.recalls ≡ self.old.core.recalls }
+        ensures book { self.new.book ≡ self.old.book }
+        ensures lawful { IsLawful self.new.core }
+    {
+        self.leased.forget(now)
     }
 
     /// Takes out the first of the recalls that are pending. It makes no entry.

@@ -35,6 +35,10 @@ is_of_client client o = is_same_client o.owner.client client
 abbrev pub is_numbered : ℕ → OpenState → Bool
 is_numbered number o = o.number == number
 
+-- the owner with this name at this client
+abbrev pub owner_named : ClientId → List ℕ → OpenOwner
+owner_named client name = record { client = client; name = name }
+
 -- the open of the owner, if there is one
 abbrev pub open_of : OpenOwner → List OpenState → Option OpenState
 open_of owner opens = find (is_of owner) opens

@@ -2,7 +2,7 @@ ghost use Rattle.std.specs.Prelude.{◌≡◌, ◌≤◌, ◌<◌, ◌+◌, ◌�
 ghost use Rattle.std.specs.List.{list_any};
 ghost use Rattle.std.specs.Option.{option_copied};
 ghost use Rattle.nfs_share.specs.Delegations.{IsAboveLent, IsNextDueOf, bars, can_delegate, conflicts, delegation_named_by, delegation_stateid, delegation_with_number, first_delegation, has_conflict, has_delegation, is_delegation_numbered, is_due_from, is_lent_to, is_stateid_of_delegation, with_recalls, without_lent};
-ghost use Rattle.nfs_share.specs.Opens.{CanDowngrade, IsNewestFor, with_next_seqid, after_downgrade, is_denied, is_numbered, is_of, is_of_client, is_refused, is_stateid_of, open_named_by, open_with_number, open_of, share_of, stateid_of, with_each, with_opening, without};
+ghost use Rattle.nfs_share.specs.Opens.{CanDowngrade, IsNewestFor, with_next_seqid, after_downgrade, is_denied, is_numbered, is_of, is_of_client, is_refused, is_stateid_of, open_named_by, open_with_number, open_of, owner_named, share_of, stateid_of, with_each, with_opening, without};
 ghost use Rattle.nfs_share.specs.ShareError.{IsHeldFor, IsWhyNotLent, IsWhyNotOpened};
 ghost use Rattle.nfs_share.specs.declared.delegation.FileUse.TheVariants as uses;
 
@@ -110,6 +110,13 @@ impl FileShare {
         ensures { result ≡ list_any (is_of_client client) self.now.opens }
     {
         self.opens.has_client(client)
+    }
+
+    /// Whether the owner with this name at this client has an open.
+    pub fn has_owner(&self, client: ClientId, name: &[u8]) -> bool
+        ensures { result ≡ list_any (is_of (owner_named client name.now)) self.now.opens }
+    {
+        self.opens.has_owner(client, name)
     }
 
     /// How many opens there are of other owners.

@@ -15,7 +15,7 @@ pub struct OpenState {
 
 impl OpenState {
     ghost use Rattle.std.specs.Prelude.{◌≡◌};
-    ghost use Rattle.nfs_share.specs.Opens.{with_next_seqid, after_downgrade, first_open, is_of, is_of_client, is_stateid_of, after_open, next_stateid_of, share_of, stateid_of};
+    ghost use Rattle.nfs_share.specs.Opens.{with_next_seqid, after_downgrade, first_open, is_of, is_of_client, is_stateid_of, after_open, next_stateid_of, owner_named, share_of, stateid_of};
 
     /// The open that an owner's first OPEN of the file makes.
     pub fn new(owner: OpenOwner, share: Share, number: u32) -> OpenState
@@ -59,6 +59,13 @@ impl OpenState {
         ensures { result ≡ is_of owner.now self.now }
     {
         self.owner == *owner
+    }
+
+    /// Whether the owner with this name at this client has the open.
+    pub(crate) fn is_of_name(&self, client: ClientId, name: &[u8]) -> bool
+        ensures { result ≡ is_of (owner_named client name.now) self.now }
+    {
+        self.owner.client == client && self.owner.name.as_slice() == name
     }
 
     /// Whether the stateid is one of the open's, no matter its seqid.

@@ -3,14 +3,14 @@ ghost use Rattle.std.specs.List.{list_any};
 ghost use Rattle.std.specs.Option.{option_copied};
 ghost use Rattle.nfs_share.specs.Delegations.{bars};
 ghost use Rattle.nfs_share.specs.KeptOpens.{bars_reading, mark_in, opens_kept};
-ghost use Rattle.nfs_share.specs.Opens.{IsAbove, after_downgrade, after_open, is_denied, is_numbered, is_of, is_of_client, is_refused, next_stateid_of, open_named_by, open_of, open_with_number, share_of, stateid_of, with_each, with_next_seqid, without};
+ghost use Rattle.nfs_share.specs.Opens.{IsAbove, after_downgrade, after_open, is_denied, is_numbered, is_of, is_of_client, is_refused, next_stateid_of, open_named_by, open_of, open_with_number, owner_named, share_of, stateid_of, with_each, with_next_seqid, without};
 ghost use Rattle.nfs_share.specs.ShareCounts.{counts_of};
 ghost use Rattle.nfs_share.specs.Shares.{union_of};
 ghost use Rattle.nfs_share.specs.Tally.{IsTally, Mark, mark_of, room_of};
 ghost use Rattle.nfs_share.specs.declared.share.Share.{Share};
 
 use crate::changes::{advance_in, downgrade_in, join_in};
-use crate::owner_hash::hash_of_owner;
+use crate::owner_hash::{hash_of_name, hash_of_owner};
 use crate::share_counts::ShareCounts;
 use crate::tally::Tally;
 use crate::{DelegationKind, Modes, OpenState, Share};
@@ -97,6 +97,20 @@ impl OpenTable {
             Some((_, open)) => Some(open),
             None => None,
         }
+    }
+
+    /// Whether the owner with this name at this client has an open.
+    pub fn has_owner(&self, client: ClientId, name: &[u8]) -> bool
+        ensures { result ≡ list_any (is_of (owner_named client name.now)) self.now.opens }
+    {
+        // A hash costs more than this look.
+        if self.rows.is_empty() {
+            return false;
+        }
+        let hash = hash_of_name(self.names, client, name);
+        self.rows
+            .find_named(hash, |open| open.is_of_name(client, name))
+            .is_some()
     }
 
     /// How many opens there are of other owners.

@@ -4,7 +4,7 @@ ghost use Rattle.std.specs.Option.{option_copied};
 ghost use Rattle.nfs_share.specs.AllOpens.{HasLendingRoomAt, HasRoomAt, IsAboveAllLent, IsNewestAt, IsNextDue, at_node, delegation_count, delegation_named_in, delegation_numbered_in, delegations_in, delegations_of, lent_at, lesser_at, named_in, open_count, opens_in, opens_of, with_delegations, with_opens};
 ghost use Rattle.nfs_share.specs.Delegations.{can_delegate, first_delegation, has_conflict, has_delegation, is_delegation_numbered, is_lent_to, is_stateid_of_delegation, with_recalls, without_lent};
 ghost use Rattle.nfs_share.specs.OpenFound.{delegation_ref_seen, delegation_seen, open_seen};
-ghost use Rattle.nfs_share.specs.Opens.{after_downgrade, is_denied, is_numbered, is_of, is_of_client, is_refused, is_stateid_of, open_of, open_with_number, with_each, with_next_seqid, with_opening, without};
+ghost use Rattle.nfs_share.specs.Opens.{after_downgrade, is_denied, is_numbered, is_of, is_of_client, is_refused, is_stateid_of, open_of, open_with_number, owner_named, with_each, with_next_seqid, with_opening, without};
 
 use crate::numbers::{close_in, give_back_in, grant_in, reserve_delegation_number, reserve_number};
 use crate::{Delegation, DelegationKind, FileShare, FileUse, Modes, OpenState, Share};
@@ -133,6 +133,14 @@ impl Opens {
         ensures { result ≡ list_any (list_any (is_of_client client)) (opens_in self.now) }
     {
         has_client_in(&self.files, client)
+    }
+
+    /// Whether the owner with this name at this client has an open of any file.
+    pub fn has_owner(&self, client: ClientId, name: &[u8]) -> bool
+        ensures { result
+            ≡ list_any (list_any (is_of (owner_named client name.now))) (opens_in self.now) }
+    {
+        has_owner_in(&self.files, client, name)
     }
 
     /// Whether there are fewer opens than this limit.
@@ -423,6 +431,13 @@ fn has_client_in(files: &[FileShare], client: ClientId) -> bool
     ensures { result ≡ list_any (λ f. list_any (is_of_client client) f.opens) files.now }
 {
     files.iter().any(|file| file.has_client(client))
+}
+
+fn has_owner_in(files: &[FileShare], client: ClientId, name: &[u8]) -> bool
+    ensures { result
+        ≡ list_any (λ f. list_any (is_of (owner_named client name.now)) f.opens) files.now }
+{
+    files.iter().any(|file| file.has_owner(client, name))
 }
 
 fn has_delegation_in(files: &[FileShare], client: ClientId) -> bool

@@ -3,17 +3,18 @@ use Rattle.std.proofs.Common.{◌≡◌, ℕ, List, [], ◌∷◌, ◌++◌, ref
 use Rattle.std.proofs.lemmas.List.{append-nil}
 use Rattle.std.specs.List.{AllByRecursion}
 use Rattle.nfs_core.specs.Entered.{IsEntered}
-use Rattle.nfs_core.specs.Events.{EndsNoClient, entry_by, expire_of, revoke_of}
+use Rattle.nfs_core.specs.Events.{EndsNoClient, entry_by, expire_of, forget_of, revoke_of}
 use Rattle.nfs_core.specs.Lawful as lawful
 use Rattle.nfs_core.specs.Server.{Enters, Server}
 use Rattle.nfs_core.specs.Step.{Step}
 use Rattle.nfs_core.specs.declared.entered.Entered.{Entered}
 use Rattle.nfs_core.specs.declared.event.Event.{Event}
 use Rattle.nfs_core.specs.declared.event.Event.TheVariants as events
+use Rattle.nfs_forms.specs.declared.open_owner.OpenOwner.{OpenOwner}
 use Rattle.nfs_leases.specs.BookEvent.{AllHappen, BookEvent}
 use Rattle.nfs_leases.specs.BookEvent as book
 use Rattle.nfs_leases.specs.BookOf.{events_of_change}
-use Rattle.nfs_leases.specs.Sweeps.{entries_of_sweep, events_of_all, revocations}
+use Rattle.nfs_leases.specs.Sweeps.{entries_of_sweep, events_of_all, forgettings, revocations}
 use Rattle.nfs_leases.specs.Visit.{Visit, expiries, with_entries}
 use Rattle.nfs_leases.specs.declared.closing.Closing.TheVariants as closing
 use Rattle.nfs_leases.specs.laws.Visiting.{IsOfVisit, visits_look_and_close}
@@ -132,11 +133,18 @@ deeds_of_call old new call entered before after was is happen =
     ∙ ap (λ (deeds : List BookEvent). keeper_deeds before.view.own ++ deeds) (lasting_change entered.live call.request.moment)
     ∙ ap (λ (change : LiveChange). keeper_deeds before.view.own ++ events_of_change change call.request.moment) is.1)
 
--- the ends of delegations do nothing to leases
-revoked_deeds : (now : ℕ) (numbers : List ℕ) (journal : History) (old new : State)
-    → lawful.Leads journal old (revocations now numbers) new → AreDeeds journal old (revocations now numbers) new []
-revoked_deeds now [] journal old new h = (h, refl)
-revoked_deeds now (number ∷ numbers) journal old new h = (h.0, h.1, [], refl, revoked_deeds now numbers (with_entry (entries.Revoke (revoke_of number now)) journal) h.0 new h.2)
+-- forgetting an owner does nothing to leases
+forgotten_deeds : (now : ℕ) (owners : List OpenOwner) (journal : History) (old new : State)
+    → lawful.Leads journal old (forgettings now owners) new → AreDeeds journal old (forgettings now owners) new []
+forgotten_deeds now [] journal old new h = (h, refl)
+forgotten_deeds now (owner ∷ owners) journal old new h = (h.0, h.1, [], refl, forgotten_deeds now owners (with_entry (entries.Forget (forget_of owner now)) journal) h.0 new h.2)
+
+-- nor do the ends of delegations before that
+removed_deeds : (now : ℕ) (numbers : List ℕ) (owners : List OpenOwner) (journal : History) (old new : State)
+    → lawful.Leads journal old (revocations now numbers ++ forgettings now owners) new
+    → AreDeeds journal old (revocations now numbers ++ forgettings now owners) new []
+removed_deeds now [] owners journal old new h = forgotten_deeds now owners journal old new h
+removed_deeds now (number ∷ numbers) owners journal old new h = (h.0, h.1, [], refl, removed_deeds now numbers owners (with_entry (entries.Revoke (revoke_of number now)) journal) h.0 new h.2)
 
 -- looks and attempts to close, and then entries that do nothing to leases
 visit_deeds : (calls : List BookEvent) (more : List Entry) (new : State)
@@ -162,24 +170,24 @@ visit_deeds (book.Open client moment ∷ calls) more new none all journal old h 
 visit_deeds (book.Retire client ∷ calls) more new none all journal old h = absurd all.0
 
 -- the entries of a sweep
-sweep_deeds : (now : ℕ) (visits : List Visit) (numbers : List ℕ) (new : State) (journal : History) (old : State)
-    → lawful.Leads journal old (entries_of_sweep now visits numbers) new
-    → AreDeeds journal old (entries_of_sweep now visits numbers) new (lasting (events_of_all now visits))
-sweep_deeds now visits numbers new journal old h =
-    visit_deeds (events_of_all now visits) (revocations now numbers) new
-    (λ later from leads. revoked_deeds now numbers later from new leads)
+sweep_deeds : (now : ℕ) (visits : List Visit) (numbers : List ℕ) (owners : List OpenOwner) (new : State) (journal : History) (old : State)
+    → lawful.Leads journal old (entries_of_sweep now visits numbers owners) new
+    → AreDeeds journal old (entries_of_sweep now visits numbers owners) new (lasting (events_of_all now visits))
+sweep_deeds now visits numbers owners new journal old h =
+    visit_deeds (events_of_all now visits) (revocations now numbers ++ forgettings now owners) new
+    (λ later from leads. removed_deeds now numbers owners later from new leads)
     (visits_look_and_close now visits) journal old h
 
 -- a sweep, with what was asked of the book in its visits
-pub deeds_of_sweep : (now : ℕ) (visits : List Visit) (numbers : List ℕ) (old new : Server) (before after : Sitting)
+pub deeds_of_sweep : (now : ℕ) (visits : List Visit) (numbers : List ℕ) (owners : List OpenOwner) (old new : Server) (before after : Sitting)
     → AreDeedsOf old.journal (meaning old.stored) (keeper_deeds before.view.own)
-    → new.journal ≡ with_entries (entries_of_sweep now visits numbers) old.journal
-    → lawful.Leads old.journal (meaning old.stored) (entries_of_sweep now visits numbers) (meaning new.stored)
+    → new.journal ≡ with_entries (entries_of_sweep now visits numbers owners) old.journal
+    → lawful.Leads old.journal (meaning old.stored) (entries_of_sweep now visits numbers owners) (meaning new.stored)
     → AllHappen Happens before (events_of_all now visits) after
     → AreDeedsOf new.journal (meaning new.stored) (keeper_deeds after.view.own)
-deeds_of_sweep now visits numbers old new before after was journal leads happen =
-    deeds_gained old new (entries_of_sweep now visits numbers) (keeper_deeds before.view.own) (lasting (events_of_all now visits)) (keeper_deeds after.view.own)
-    was (sweep_deeds now visits numbers (meaning new.stored) old.journal (meaning old.stored) leads) journal
+deeds_of_sweep now visits numbers owners old new before after was journal leads happen =
+    deeds_gained old new (entries_of_sweep now visits numbers owners) (keeper_deeds before.view.own) (lasting (events_of_all now visits)) (keeper_deeds after.view.own)
+    was (sweep_deeds now visits numbers owners (meaning new.stored) old.journal (meaning old.stored) leads) journal
     (all_happen_deeds (events_of_all now visits) before after happen)
 
 -- an event that ends no client does nothing to leases, whatever its effect
@@ -187,6 +195,7 @@ event_deeds : (event : Event) → EndsNoClient event → (change : LiveChange) �
 event_deeds (events.Expire expire) ends change = absurd ends
 event_deeds (events.Revoke revoke) ends change = refl
 event_deeds (events.Path path) ends change = refl
+event_deeds (events.Forget forget) ends change = refl
 
 -- such an event, which leaves the book as it was
 pub deeds_of_event : (old new : Server) (event : Event) (number : ℕ) (before after : Sitting)

@@ -7,9 +7,10 @@ use Rattle.std.specs.List.{cons_option, filter_map, zip}
 use Rattle.nfs_core.specs.Events.{entry_by}
 use Rattle.nfs_core.specs.declared.event.Event.{Event}
 use Rattle.nfs_core.specs.declared.event.Event.TheVariants as events
+use Rattle.nfs_forms.specs.declared.open_owner.OpenOwner.{OpenOwner}
 use Rattle.nfs_leases.specs.BookEvent.{BookEvent, Close}
 use Rattle.nfs_shared.specs.Receipts.{calls_in, numbered_calls, receipt_of, receipts_of, others_in}
-use Rattle.nfs_leases.specs.Sweeps.{entries_of_sweep, events_of_all, revocations}
+use Rattle.nfs_leases.specs.Sweeps.{entries_of_sweep, events_of_all, forgettings, revocations}
 use Rattle.nfs_leases.specs.Visit.{Visit, expiries}
 use Rattle.nfs_leases.specs.declared.closing.Closing.TheVariants as closing
 use Rattle.nfs_shared.specs.declared.receipt.Receipt.{Receipt}
@@ -64,16 +65,30 @@ pub revocations_no_calls : (now : ℕ) (numbers : List ℕ) → calls_in (revoca
 revocations_no_calls now [] = refl
 revocations_no_calls now (number ∷ numbers) = revocations_no_calls now numbers
 
+-- nor those by which open owners are forgotten
+pub forgettings_no_calls : (now : ℕ) (owners : List OpenOwner) → calls_in (forgettings now owners) ≡ 0
+forgettings_no_calls now [] = refl
+forgettings_no_calls now (owner ∷ owners) = forgettings_no_calls now owners
+
 -- nor does an event make one
 pub event_no_call : (event : Event) → calls_in (entry_by event ∷ []) ≡ 0
 event_no_call (events.Expire expire) = refl
 event_no_call (events.Revoke revoke) = refl
 event_no_call (events.Path path) = refl
+event_no_call (events.Forget forget) = refl
 
-pub sweep_no_calls : (now : ℕ) (visits : List Visit) (numbers : List ℕ) → calls_in (entries_of_sweep now visits numbers) ≡ 0
-sweep_no_calls now visits numbers =
+pub sweep_no_calls : (now : ℕ) (visits : List Visit) (numbers : List ℕ) (owners : List OpenOwner)
+    → calls_in (entries_of_sweep now visits numbers owners) ≡ 0
+sweep_no_calls now visits numbers owners =
     let events = events_of_all now visits in
-    omega (arith, calls_in_append (expiries events) (revocations now numbers), expiries_no_calls events, revocations_no_calls now numbers)
+    omega (
+      arith,
+      calls_in_append (expiries events) (revocations now numbers ++ forgettings now owners),
+      calls_in_append (revocations now numbers) (forgettings now owners),
+      expiries_no_calls events,
+      revocations_no_calls now numbers,
+      forgettings_no_calls now owners,
+    )
 
 -- how many entries are no calls
 others_in_append : (es more : List Entry) → others_in (es ++ more) ≡ others_in es + others_in more
@@ -91,6 +106,7 @@ calls_and_others (entries.Call call ∷ es) = omega (arith, calls_and_others es)
 calls_and_others (entries.Expire expire ∷ es) = omega (arith, calls_and_others es)
 calls_and_others (entries.Revoke revoke ∷ es) = omega (arith, calls_and_others es)
 calls_and_others (entries.Path path ∷ es) = omega (arith, calls_and_others es)
+calls_and_others (entries.Forget forget ∷ es) = omega (arith, calls_and_others es)
 
 pub others_in_more : (es more : List Entry) → calls_in more ≡ 0 → others_in (es ++ more) ≡ others_in es + length more
 others_in_more es more none = omega (arith, none, others_in_append es more, calls_and_others more)

@@ -38,6 +38,7 @@ deeds_at (entries.Call call) change = events_of_change change call.request.momen
 deeds_at (entries.Expire end) change = book.Close end.client end.seen end.now closing.Closed ∷ []
 deeds_at (entries.Revoke revoke) change = []
 deeds_at (entries.Path path) change = []
+deeds_at (entries.Forget forget) change = []
 
 -- Starting in the state old with this journal, the entries lead one after the other to the state new, and these are their
 -- deeds, in order.

@@ -5,6 +5,7 @@ use Rattle.nfs_core.specs.Server.{Server}
 use Rattle.nfs_owners.specs.Registry.{is_live}
 use Rattle.nfs_state.specs.State.{History}
 use Rattle.nfs_tree.specs.declared.policy.Callbacks.TheVariants.{Probe}
+use Rattle.nfs_tree.specs.declared.policy.CloseLocks.TheVariants.{Free}
 use Rattle.nfs_tree.specs.declared.policy.Delegations.TheVariants.{All}
 use Rattle.nfs_words.specs.Sitting.{Words}
 
@@ -64,6 +65,6 @@ no_start = record {
   nodes = [];
   epoch = 0;
   lease = 0;
-  policy = record { delegations = All; callbacks = Probe };
+  policy = record { delegations = All; callbacks = Probe; close_locks = Free };
   entries = [];
 }

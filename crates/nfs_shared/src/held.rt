@@ -189,13 +189,15 @@ fn call_at(core: &Core, number: u32) -> SeenCall
 }
 
 /// Goes through the live clients, and removes each whose lease is over at `now`, but for those that are renewed between
-/// the look and the closing, and those for whose entry there is no room. Then it revokes the delegations that are due,
-/// until none is, or there is no room for an entry. No receipt is made: the entries are the sweeper's.
+/// the look and the closing, and those for whose entry there is no room. Then it revokes the delegations that are due, and
+/// then forgets the open owners that may be forgotten, until none is left of both, or there is no room for an entry. No
+/// receipt is made: the entries are the sweeper's.
 pub fn sweep_held<N: Naming>(held: &mut Held<N>, sweeper: &mut Sweeper<N>, now: Moment) -> Swept
     ensures sweeps { Sweeps Happens now (leased_server held.old.server held.old.leases) result
         (leased_server held.new.server held.new.leases) }
     ensures known { SweeperMayFind N.start sweeper.old held.old }
-    ensures count { sweeper.new.count ≡ sweeper.old.count + result.expired + result.revoked }
+    ensures count { sweeper.new.count
+        ≡ sweeper.old.count + result.expired + result.revoked + result.forgotten }
     ensures queue { HasQueued held.old held.new }
     ensures places { held.new.places ≡ held.old.places }
     ensures receipts { held.new.receipts ≡ held.old.receipts }
@@ -205,7 +207,7 @@ pub fn sweep_held<N: Naming>(held: &mut Held<N>, sweeper: &mut Sweeper<N>, now: 
     held.other_count.audit(&mut sweeper.share);
     let swept = held.leased.sweep(now);
     recalls_are_left(&held.leased.core);
-    let entries = swept.expired as u64 + swept.revoked as u64;
+    let entries = swept.expired as u64 + swept.revoked as u64 + swept.forgotten as u64;
     held.other_count.add(&mut sweeper.share, entries);
     swept
 }

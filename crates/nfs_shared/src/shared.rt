@@ -248,14 +248,16 @@ impl<N: Naming> Shared<N> {
     }
 
     /// Removes each client whose lease is over at this moment, with all that it has, but for those that are renewed
-    /// meanwhile, and those for whose entry there is no room. Then it revokes the delegations that are due, until none
-    /// is, or there is no room for an entry. All is done in one hold of the lock. No clause says that the lock guarded
-    /// the value that is swept, but that it may have.
+    /// meanwhile, and those for whose entry there is no room. Then it revokes the delegations that are due, and then
+    /// forgets the open owners that may be forgotten, until none is left of both, or there is no room for an entry. All
+    /// is done in one hold of the lock. No clause says that the lock guarded the value that is swept, but that it may
+    /// have.
     pub fn sweep<R: Wait>(&self, rt: &R, sweeper: &mut Sweeper<N>, now: Moment) -> Swept
         ensures sweeps { (old : HeldView) × (new : HeldView) × SweeperMayFind N.start sweeper.old old
             × Sweeps Happens now (leased_server old.server old.leases) result
             (leased_server new.server new.leases) }
-        ensures count { sweeper.new.count ≡ sweeper.old.count + result.expired + result.revoked }
+        ensures count { sweeper.new.count
+            ≡ sweeper.old.count + result.expired + result.revoked + result.forgotten }
     {
         sweep_held(&mut *self.hold(rt).guard, sweeper, now)
     }

@@ -1,7 +1,8 @@
 -- What is stored of the owners agrees with the journal, entry after entry.
-use Rattle.std.proofs.Common.{◌≡◌, ℕ, zero, suc, Bool, true, false, Option, None, Some, List, [], ◌∷◌, ◌++◌, length, map, refl, ap, ◌∙◌, subst, sym}
+use Rattle.std.proofs.Common.{◌≡◌, ◌<◌, ℕ, zero, suc, Bool, true, false, Option, None, Some, List, [], ◌∷◌, ◌++◌, length, map, refl, ap, ◌∙◌, subst, sym, arith}
+use Rattle.std.proofs.lemmas.List.{length-append}
 use Rattle.std.specs.Str.{bytes_eq}
-use Rattle.std.specs.Prelude.{◌&&◌, not, option_and_then, option_map, slice_get, if◌then◌else◌}
+use Rattle.std.specs.Prelude.{◌+◌, ◌&&◌, not, option_and_then, option_map, slice_get, if◌then◌else◌}
 use Rattle.nfs_state.specs.declared.entry.Entry.{Entry}
 use Rattle.nfs_state.specs.declared.owner_change.OwnerChange.{OwnerChange}
 use Rattle.nfs_state.specs.declared.owner_change.OwnerChange.TheVariants as owner_changes
@@ -17,13 +18,27 @@ use Rattle.nfs_owners.specs.declared.state_owner.StateOwner.{StateOwner}
 use Rattle.nfs_owners.specs.declared.kept.Kept.{Kept}
 use Rattle.nfs_owners.specs.declared.owner.Owner.{Owner}
 use Rattle.nfs_owners.specs.Owner.{has_name, is_known, new_owner, with_request}
-use Rattle.nfs_owners.specs.Owners.{with_kept, without_owner}
+use Rattle.nfs_owners.specs.Owners.{AreBefore, with_kept, without_owner}
 
 -- what an owner keeps of an entry, it keeps of it in a longer journal
 kept_longer : (kind : OwnerKind) (entries more : List Entry) (number : ℕ) (kept : Kept) → option_map (λ (k : OwnerKind → Kept). k kind) (option_and_then kept_in (slice_get entries number)) ≡ Some kept → option_map (λ (k : OwnerKind → Kept). k kind) (option_and_then kept_in (slice_get (entries ++ more) number)) ≡ Some kept
 kept_longer kind [] more number kept is = absurd cc
 kept_longer kind (first ∷ entries) more zero kept is = is
 kept_longer kind (first ∷ entries) more (suc number) kept is = kept_longer kind entries more number kept is
+
+-- what it keeps is of an entry that the journal has
+kept_within : (kind : OwnerKind) (entries : List Entry) (number : ℕ) (kept : Kept) → option_map (λ (k : OwnerKind → Kept). k kind) (option_and_then kept_in (slice_get entries number)) ≡ Some kept → number < length entries
+kept_within kind [] number kept is = absurd cc
+kept_within kind (first ∷ entries) zero kept is = omega arith
+kept_within kind (first ∷ entries) (suc number) kept is = omega (arith, kept_within kind entries number kept is)
+
+-- so each owner was recorded before the journal's next entry
+pub Agrees-before : (journal : History) (owners : List Owner) → Agrees journal owners → AreBefore (length journal.entries) owners
+Agrees-before journal [] agrees = tt
+Agrees-before journal (o ∷ owners) agrees = (
+  omega (arith, agrees.0.recorded, kept_within o.name.kind journal.entries o.state.number o.state.kept agrees.0.entry),
+  Agrees-before journal owners agrees.1,
+)
 
 -- what it keeps of the last entry
 kept_last : (kind : OwnerKind) (entries : List Entry) (entry : Entry) → option_map (λ (k : OwnerKind → Kept). k kind) (option_and_then kept_in (slice_get (entries ++ entry ∷ []) (length entries))) ≡ option_map (λ (k : OwnerKind → Kept). k kind) (kept_in entry)
@@ -37,6 +52,7 @@ Agrees-longer journal entry (o ∷ owners) agrees = (
   record {
     entry = kept_longer o.name.kind journal.entries (entry ∷ []) o.state.number o.state.kept agrees.0.entry;
     sendable = agrees.0.sendable;
+    recorded = agrees.0.recorded;
   },
   Agrees-longer journal entry owners agrees.1,
 )
@@ -58,6 +74,8 @@ Agrees-without journal name (o ∷ owners) agrees =
 record IsEntryOf (journal : History) (number : ℕ) (kept : OwnerKind → Kept) : Type 0 where
   pub entry : (kind : OwnerKind) → kept_at journal kind number ≡ Some (kept kind)
   pub sendable : (kind : OwnerKind) → IsSendable (kept kind).request.op (kept kind).answer
+  -- it is the last one
+  pub last : length journal.entries ≡ number + 1
 
 -- an owner with the name is of its kind
 same_kind : (a b : OwnerKind) → is_same_kind a b ≡ true → a ≡ b
@@ -71,17 +89,18 @@ kind_of_name name o has =
     let beside_name = and_parts (is_same_kind o.name.kind name.kind && is_same_client o.name.client name.client) (bytes_eq o.name.name name.name) has in
     same_kind o.name.kind name.kind (and_parts (is_same_kind o.name.kind name.kind) (is_same_client o.name.client name.client) beside_name.0).0
 
-kept_by : (journal : History) (name : StateOwner) (number : ℕ) (kept : OwnerKind → Kept) (o : Owner) → IsEntryOf journal number kept → o.name.kind ≡ name.kind → IsKeptIn journal (record o { state = with_request number (kept name.kind) o.state })
-kept_by journal name number kept o is kind = record {
+kept_by : (journal : History) (name : StateOwner) (number : ℕ) (kept : OwnerKind → Kept) (o : Owner) → IsEntryOf journal number kept → IsKeptIn journal o → o.name.kind ≡ name.kind → IsKeptIn journal (record o { state = with_request number (kept name.kind) o.state })
+kept_by journal name number kept o is was kind = record {
   entry = is.entry o.name.kind ∙ ap (λ k. Some (kept k)) kind;
   sendable = is.sendable name.kind;
+  recorded = omega (arith, was.recorded, kept_within o.name.kind journal.entries o.state.number o.state.kept was.entry, is.last);
 }
 
 Agrees-change : (journal : History) (name : StateOwner) (number : ℕ) (kept : OwnerKind → Kept) (owners : List Owner) → IsEntryOf journal number kept → Agrees journal owners → Agrees journal (map (λ o. if has_name name o then record o { state = with_request number (kept name.kind) o.state } else o) owners)
 Agrees-change journal name number kept [] is agrees = agrees
 Agrees-change journal name number kept (o ∷ owners) is agrees = (
   cond_both (has_name name o) (record o { state = with_request number (kept name.kind) o.state }) o (IsKeptIn journal)
-      (λ has. kept_by journal name number kept o is (kind_of_name name o has)) (λ _. agrees.0),
+      (λ has. kept_by journal name number kept o is agrees.0 (kind_of_name name o has)) (λ _. agrees.0),
   Agrees-change journal name number kept owners is agrees.1,
 )
 
@@ -90,7 +109,7 @@ Agrees-kept journal name number kept owners is agrees = by (is_known name owners
   where
     by : (b : Bool) → Agrees journal (if b then map (λ o. if has_name name o then record o { state = with_request number (kept name.kind) o.state } else o) owners else owners ++ new_owner name number (kept name.kind) ∷ [])
     by true = Agrees-change journal name number kept owners is agrees
-    by false = Agrees-push journal owners (new_owner name number (kept name.kind)) agrees (record { entry = is.entry name.kind; sendable = is.sendable name.kind })
+    by false = Agrees-push journal owners (new_owner name number (kept name.kind)) agrees (record { entry = is.entry name.kind; sendable = is.sendable name.kind; recorded = omega arith })
 
 after_update : (journal : History) (change : OwnerChange) (number : ℕ) (kept : OwnerKind → Kept) (owners : List Owner) → IsEntryOf journal number kept → Agrees journal owners → Agrees journal (owners_after (update_of change kept) number owners)
 after_update journal owner_changes.Nothing number kept owners is agrees = agrees
@@ -108,7 +127,7 @@ after_update journal (owner_changes.Drops name) number kept owners is agrees = A
 Agrees-after : (journal : History) (entry : Entry) (found : Option (OwnerKind → Kept)) (change : OwnerChange) (owners : List Owner) → kept_in entry ≡ found → CanBeKept found change → Agrees journal owners → Agrees (with_entry entry journal) (owners_after (update_by change found) (length journal.entries) owners)
 Agrees-after journal entry None change owners is keeps agrees = Agrees-longer journal entry owners agrees
 Agrees-after journal entry (Some kept) change owners is sendable agrees =
-    after_update (with_entry entry journal) change (length journal.entries) kept owners (record { entry = λ kind. kept_last kind journal.entries entry ∙ ap (option_map (λ (k : OwnerKind → Kept). k kind)) is; sendable = sendable }) (Agrees-longer journal entry owners agrees)
+    after_update (with_entry entry journal) change (length journal.entries) kept owners (record { entry = λ kind. kept_last kind journal.entries entry ∙ ap (option_map (λ (k : OwnerKind → Kept). k kind)) is; sendable = sendable; last = length-append journal.entries (entry ∷ []) }) (Agrees-longer journal entry owners agrees)
 
 -- after an entry that may be kept, and its change, the stored owners agree with the journal; the journal, the number and
 -- the owners after the change have names of their own

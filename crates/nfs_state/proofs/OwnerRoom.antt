@@ -100,6 +100,7 @@ limits_alike (changes.Locks node number change) old new clients states locks has
     ap (λ all. is_full_for number change (locks_of node all)) locks ∙ has
 limits_alike (changes.Releases owner) old new clients states locks has = tt
 limits_alike (changes.Expires client) old new clients states locks has = tt
+limits_alike (changes.Forgets owner) old new clients states locks has = tt
 limits_alike (changes.Recalls node file_use moment) old new clients states locks has = tt
 limits_alike (changes.Returns node number) old new clients states locks has = tt
 limits_alike (changes.Writes node offset bytes) old new clients states locks has = has

@@ -29,7 +29,7 @@ use Rattle.nfs_owners.specs.declared.owner.Owner.{Owner}
 use Rattle.nfs_owners.specs.declared.owner.OwnerState.{OwnerState}
 use Rattle.nfs_owners.specs.declared.owner.TheConstants.{OWNER_LIMIT}
 use Rattle.nfs_owners.specs.Owner.{has_name, is_known, new_owner, with_request}
-use Rattle.nfs_owners.specs.Owners.{has_place, with_change, with_confirmed, with_kept, without_owner, without_owners_of}
+use Rattle.nfs_owners.specs.Owners.{AreBefore, has_place, with_change, with_confirmed, with_kept, without_owner, without_owners_of}
 use Rattle.nfs_share.specs.AllOpens.{with_opens}
 use Rattle.nfs_share.specs.Delegations.{is_lent_to, without_lent}
 use Rattle.nfs_share.specs.declared.delegation.Delegation.{Delegation}
@@ -100,7 +100,7 @@ agrees_filter journal p (o ∷ owners) agrees =
     (λ fails. agrees_filter journal p owners agrees.1)
 
 confirmed_kept : (journal : History) (b : Bool) (o : Owner) → IsKeptIn journal o → IsKeptIn journal (if b then record o { state = record o.state { confirmed = true } } else o)
-confirmed_kept journal true o is = record { entry = is.entry; sendable = is.sendable }
+confirmed_kept journal true o is = record { entry = is.entry; sendable = is.sendable; recorded = is.recorded }
 confirmed_kept journal false o is = is
 
 pub agrees_confirmed : (journal : History) (name : StateOwner) (owners : List Owner) → Agrees journal owners → Agrees journal (with_confirmed name owners)
@@ -247,6 +247,31 @@ pub releases_seen : (old : Stored) (name : LockOwner) (new : List Owner) (locked
 releases_seen old name new locked fewer freed change is =
     (λ i. record (meaning old) { owners = (ap (map known_owner) fewer ∙ without_seen (lock_owner name) old.owners) i; locks = freed i })
     ∙ ap (λ ch. with_state_change ch (meaning old)) (sym is)
+
+-- what is stored after an open owner is forgotten
+pub forgets_seen : (old : Stored) (name : OpenOwner) (new : List Owner) → new ≡ without_owner (open_owner name) old.owners
+    → (change : Change) → change ≡ own_changes.Forgets name
+    → meaning (record old { owners = new }) ≡ with_state_change change (meaning old)
+forgets_seen old name new fewer change is =
+    (λ i. record (meaning old) { owners = (ap (map known_owner) fewer ∙ without_seen (open_owner name) old.owners) i })
+    ∙ ap (λ ch. with_state_change ch (meaning old)) (sym is)
+
+-- owners that were recorded before an entry, without some, and after one of them keeps a request
+pub before_filter : (entry : ℕ) (p : Owner → Bool) (owners : List Owner) → AreBefore entry owners → AreBefore entry (filter p owners)
+before_filter entry p [] before = tt
+before_filter entry p (o ∷ owners) before =
+    cond_both (p o) (o ∷ filter p owners) (filter p owners) (AreBefore entry)
+    (λ passes. (before.0, before_filter entry p owners before.1))
+    (λ fails. before_filter entry p owners before.1)
+
+pub before_change : (entry : ℕ) (change : OwnerState → OwnerState) → ((s : OwnerState) → (change s).recorded ≡ s.recorded) → (name : StateOwner) (owners : List Owner) → AreBefore entry owners
+    → AreBefore entry (with_change change name owners)
+before_change entry change keeps name [] before = tt
+before_change entry change keeps name (o ∷ owners) before = (
+  cond_both (has_name name o) (record o { state = change o.state }) o (λ (x : Owner). x.state.recorded < entry)
+      (λ has. omega (arith, keeps o.state, before.0)) (λ _. before.0),
+  before_change entry change keeps name owners before.1,
+)
 
 -- what is stored without the owners, the opens, the lock states and the delegations of a client
 pub left_seen : (old : Stored) (client : ClientId) (new : List Owner) (opened : List (List OpenState)) (locked : List (List StoredLock)) (lent : List (List Delegation)) → new ≡ without_owners_of client old.owners

@@ -1,5 +1,5 @@
 -- What an entry of the journal changes in the state: first what it means for an owner, and then the operation's own change.
-use Rattle.std.specs.Prelude.{ℕ, ◌+◌, Bool, not, List, [], ◌∷◌, ◌++◌, filter, map, Option, Some, None, is_some, if◌then◌else◌}
+use Rattle.std.specs.Prelude.{ℕ, ◌+◌, Bool, not, [], ◌∷◌, ◌++◌, filter, map, Option, Some, None, is_some, if◌then◌else◌}
 use Rattle.nfs_forms.specs.ClientId.{is_same_client}
 use Rattle.nfs_forms.specs.OpenOwner.{is_same_owner}
 use Rattle.nfs_forms.specs.declared.client_id.ClientId.{ClientId}
@@ -118,6 +118,9 @@ with_state_change (changes.Releases owner) old = record old {
   owners = without_owner (lock_owner owner) old.owners;
   locks = map (locks.without (locks.is_lock_of owner)) old.locks;
 }
+-- the owner has no open, and so there is nothing else of it (section 9.1.10)
+with_state_change (changes.Forgets owner) old =
+    record old { owners = without_owner (open_owner owner) old.owners }
 with_state_change (changes.Expires client) old =
     let left = without_client client old in
     record left { clients = registry.without_client client.number old.clients }

@@ -1,5 +1,5 @@
 -- Requests and answers as the journal records them.
-use Rattle.std.specs.Prelude.{◌≡◌, ◌≢◌, ℕ, ◌<◌, nat_lt, Bool, true, ◌&&◌, List, [], ◌∷◌, ◌++◌, Option, Some, None, IfSome}
+use Rattle.std.specs.Prelude.{◌≡◌, ◌≢◌, ℕ, ◌<◌, nat_lt, Bool, true, ◌&&◌, [], ◌∷◌, ◌++◌, Option, Some, None, IfSome}
 use Rattle.nfs_forms.specs.declared.principal.Principal.{Principal}
 use Rattle.nfs_forms.specs.declared.status.Refusal.TheVariants.{Resource}
 use Rattle.nfs_state.specs.State.{History}
@@ -13,7 +13,6 @@ use Rattle.nfs_xdr.specs.OpResult as results
 use Rattle.nfs_xdr.specs.OpResult.{refusal_of}
 use Rattle.nfs_xdr.specs.Short.{IsShort}
 use Rattle.nfs_xdr.specs.declared.op.Op.{Op}
-use Rattle.nfs_xdr.specs.declared.op.Op.TheVariants as ops
 use Rattle.nfs_xdr.specs.declared.op_result.OpResult.{OpResult}
 
 -- NFS4ERR_RESOURCE as the operation's result

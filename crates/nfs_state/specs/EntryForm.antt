@@ -4,12 +4,14 @@ use Rattle.std.proofs.Common.{refl, ap, sym, ◌∙◌}
 use Rattle.std.proofs.lemmas.Bool.{eqb-true}
 use Rattle.std.specs.List.{find}
 use Rattle.nfs_forms.specs.MomentForm.{moment}
+use Rattle.nfs_forms.specs.OpenOwner.{open_owner}
 use Rattle.nfs_forms.specs.declared.principal.Principal.{Principal}
 use Rattle.nfs_forms.specs.declared.principal.Principal.TheVariants.{AuthNone, AuthSys}
 use Rattle.nfs_state.specs.declared.entry.Call.{Call}
 use Rattle.nfs_state.specs.declared.entry.Entry.{Entry}
 use Rattle.nfs_state.specs.declared.entry.Entry.TheVariants as entries
 use Rattle.nfs_state.specs.declared.entry.Expire.{Expire}
+use Rattle.nfs_state.specs.declared.entry.Forget.{Forget}
 use Rattle.nfs_state.specs.declared.entry.Path.{Path}
 use Rattle.nfs_state.specs.declared.entry.Revoke.{Revoke}
 use Rattle.nfs_state.specs.declared.request.Request.{Request}
@@ -112,15 +114,21 @@ unfoldable pub path : Form Path
 path = of (λ p. record { client = p.0; up = p.1 }) (λ m. (m.client, m.up)) (λ p. refl) (λ m. refl)
     (u32 and flag)
 
+-- struct { owner; now; }
+unfoldable pub forget : Form Forget
+forget = of (λ p. record { owner = p.0; now = p.1 }) (λ f. (f.owner, f.now)) (λ p. refl) (λ f. refl)
+    (open_owner and moment)
+
 -- union switch (kind): a kind's row is its number, and what an entry of the kind has after that
 abbrev pub row_of_kind : EntryKind → ℕ × Case Entry
 row_of_kind kinds.Call = (1, case call entries.Call)
 row_of_kind kinds.Expire = (2, case expire entries.Expire)
 row_of_kind kinds.Revoke = (3, case revoke entries.Revoke)
 row_of_kind kinds.Path = (4, case path entries.Path)
+row_of_kind kinds.Forget = (5, case forget entries.Forget)
 
 abbrev pub entry_kinds : List EntryKind
-entry_kinds = kinds.Call ∷ kinds.Expire ∷ kinds.Revoke ∷ kinds.Path ∷ []
+entry_kinds = kinds.Call ∷ kinds.Expire ∷ kinds.Revoke ∷ kinds.Path ∷ kinds.Forget ∷ []
 
 abbrev pub number_of : EntryKind → ℕ
 number_of k = (row_of_kind k).0
@@ -144,6 +152,7 @@ row_of (entries.Call c) = row kinds.Call c
 row_of (entries.Expire e) = row kinds.Expire e
 row_of (entries.Revoke r) = row kinds.Revoke r
 row_of (entries.Path p) = row kinds.Path p
+row_of (entries.Forget f) = row kinds.Forget f
 
 abbrev pub kind_of : Entry → EntryKind
 kind_of e = (row_of e).0

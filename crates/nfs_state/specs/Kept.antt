@@ -1,5 +1,5 @@
 -- What is kept for an owner, and that what is stored of it is what the owner's entry in the journal has.
-use Rattle.std.specs.Prelude.{◌≡◌, ℕ, List, Option, None, Some, option_and_then, option_map, slice_get}
+use Rattle.std.specs.Prelude.{◌≡◌, ◌≤◌, ℕ, List, Option, None, Some, option_and_then, option_map, slice_get}
 use Rattle.std.specs.List.{AllByRecursion}
 use Rattle.nfs_state.specs.Entries.{IsSendable, call_of}
 use Rattle.nfs_state.specs.State.{History}
@@ -61,10 +61,12 @@ kept_at journal kind number =
 abbrev pub kept_for : History → KnownOwner → Option Kept
 kept_for journal o = kept_at journal o.name.kind o.kept_entry
 
--- the owner keeps the request and the answer of its entry, which can be sent again
+-- The owner keeps the request and the answer of its entry, which can be sent again. That entry recorded it, or came later
+-- than the one that did.
 pub record IsKeptIn (journal : History) (o : Owner) : Type 0 where
   pub entry : kept_at journal o.name.kind o.state.number ≡ Some o.state.kept
   pub sendable : IsSendable o.state.kept.request.op o.state.kept.answer
+  pub recorded : o.state.recorded ≤ o.state.number
 
 abbrev pub Agrees : History → List Owner → Type 0
 Agrees journal owners = AllByRecursion (IsKeptIn journal) owners

@@ -69,6 +69,7 @@ result_len result = 0
 -- all that an entry counts
 abbrev pub entry_len : Entry → ℕ
 entry_len (entries.Call call) = ENTRY_LEN + op_len call.request.op + result_len call.answer
+entry_len (entries.Forget forget) = ENTRY_LEN + length forget.owner.name
 entry_len entry = ENTRY_LEN
 
 -- the entry is no call

@@ -77,6 +77,8 @@ pub enum Change {
     },
     /// The client is removed with all its records, its owners, its opens, its lock states and its delegations.
     Expires(ClientId),
+    /// The open owner, which has no open, is forgotten.
+    Forgets(OpenOwner),
 }
 
 impl Change {
@@ -101,7 +103,8 @@ impl Change {
             | Change::Closes { .. }
             | Change::Begins { .. }
             | Change::Locks { .. }
-            | Change::Releases { .. } => LiveChange::Same,
+            | Change::Releases { .. }
+            | Change::Forgets(_) => LiveChange::Same,
         }
     }
 }

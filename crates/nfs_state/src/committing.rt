@@ -1,4 +1,5 @@
 ghost use Rattle.std.specs.Prelude.{◌≡◌, ◌<◌, ◌≤◌, IfErr, IfOk, IsOk, None, OnErr, OnOk, length};
+ghost use Rattle.nfs_owners.specs.Owners.{AreBefore};
 ghost use Rattle.nfs_state.specs.Changes.{after};
 ghost use Rattle.nfs_state.specs.Entries.{with_entry};
 ghost use Rattle.nfs_state.specs.Files.{CanChange};
@@ -102,6 +103,7 @@ fn make_changes(
         × HasOwnerRoom effect.owner tables.old }
     requires given { HasGivenNumbers (state_of tables.old) }
     requires changes { CanChange (state_of tables.old).files }
+    requires newest { AreBefore number tables.old.owners.owners }
     ensures state { OnOk result (state_of tables.new
         ≡ after number effect (state_of tables.old)) }
     ensures kept { OnOk result ((journal : History) → Agrees journal (owners_after

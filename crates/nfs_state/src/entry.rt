@@ -3,7 +3,7 @@ ghost use Rattle.nfs_state.specs.Kept.{kept_with, lock_owner_seqid, seqid_for};
 ghost use Rattle.nfs_xdr.specs.Names.{seqid_of};
 
 use crate::{Moment, Request};
-use nfs_forms::Locker;
+use nfs_forms::{Locker, OpenOwner};
 use nfs_owners::{Kept, KeptRequest, OwnerKind};
 use nfs_xdr::{Names, Op, OpResult};
 use std::alloc::AllocError;
@@ -19,6 +19,8 @@ pub enum Entry {
     Revoke(Revoke),
     /// It became known whether callbacks reach a client.
     Path(Path),
+    /// An open owner that had no open was forgotten.
+    Forget(Forget),
 }
 
 /// A request and its answer.
@@ -54,6 +56,15 @@ pub struct Path {
     /// The client's number.
     pub client: u32,
     pub up: bool,
+}
+
+/// The end of what is kept for an open owner that has no open, and whose kept request is older than a lease (RFC 7530,
+/// section 9.1.10).
+#[derive(Drop)]
+pub struct Forget {
+    pub owner: OpenOwner,
+    /// When it was forgotten.
+    pub now: Moment,
 }
 
 /// How many entries a journal can have.

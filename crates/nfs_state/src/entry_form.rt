@@ -7,7 +7,8 @@ ghost use Rattle.xdr.specs.Reading.{Gives};
 ghost use Rattle.xdr.specs.Switch.{case_at};
 
 use crate::entry_kind::each_kind;
-use crate::{Call, Entry, EntryKind, Expire, Moment, Path, Request, Revoke};
+use crate::{Call, Entry, EntryKind, Expire, Forget, Moment, Path, Request, Revoke};
+use nfs_forms::OpenOwner;
 use nfs_xdr::{Op, OpResult, Principal};
 use std::alloc::Global;
 use xdr::{Wire, WireError, write_four, write_three, write_two};
@@ -65,6 +66,24 @@ impl Wire for Path {
     #[tactic(auto, unfolding(crate::specs::EntryForm::path))]
     fn write(&self, out: &mut Vec<u8>) -> Result<(), WireError> {
         write_two(out, &self.client, &self.up)
+    }
+}
+
+impl Wire for Forget {
+    ghost form = { forms.forget };
+
+    #[tactic(auto, unfolding(crate::specs::EntryForm::forget))]
+    fn read(alloc: Global, bytes: &[u8]) -> Result<(Forget, &[u8]), WireError> {
+        let (owner, rest) = OpenOwner::read(alloc, bytes)?;
+        match Moment::read(alloc, rest) {
+            Ok((now, rest)) => Ok((Forget { owner, now }, rest)),
+            Err(error) => Err(error),
+        }
+    }
+
+    #[tactic(auto, unfolding(crate::specs::EntryForm::forget))]
+    fn write(&self, out: &mut Vec<u8>) -> Result<(), WireError> {
+        write_two(out, &self.owner, &self.now)
     }
 }
 

@@ -7,7 +7,7 @@ use xdr::{Wire, WireError, read_u32, write_u32};
 // Hands to a macro the kinds of entries with their numbers. An entry of a kind has what the type of that name has.
 macro_rules! each_kind {
     ($then:ident $($given:tt)*) => {
-        $then!([Call = 1, Expire = 2, Revoke = 3, Path = 4] $($given)*)
+        $then!([Call = 1, Expire = 2, Revoke = 3, Path = 4, Forget = 5] $($given)*)
     };
 }
 
@@ -29,6 +29,7 @@ pub enum EntryKind {
     Expire = 2,
     Revoke = 3,
     Path = 4,
+    Forget = 5,
 }
 
 impl Wire for EntryKind {

@@ -27,7 +27,7 @@ mod tables;
 pub use change::Change;
 pub use committing::commit_entry;
 pub use effect::Effect;
-pub use entry::{Call, Entry, Expire, JOURNAL_LIMIT, Path, Revoke, copy_of_answer};
+pub use entry::{Call, Entry, Expire, Forget, JOURNAL_LIMIT, Path, Revoke, copy_of_answer};
 pub use entry_kind::EntryKind;
 pub use journal::{Journal, LEASE_MAX, LEASE_MIN};
 pub use lease::is_over;

@@ -86,6 +86,9 @@ fn entry_len(entry: &Entry) -> u64
         Entry::Call(call) => ENTRY_LEN
             .saturating_add(op_len(&call.request.op))
             .saturating_add(result_len(&call.answer)),
+        Entry::Forget(forget) => {
+            ENTRY_LEN.saturating_add(forget.owner.name.as_slice().len() as u64)
+        }
         Entry::Expire(_) | Entry::Revoke(_) | Entry::Path(_) => ENTRY_LEN,
     }
 }

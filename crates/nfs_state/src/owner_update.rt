@@ -41,7 +41,9 @@ impl OwnerUpdate {
                 Some(seqid) => OwnerUpdate::of_call(change, call, seqid),
                 None => Ok(OwnerUpdate::Nothing),
             },
-            Entry::Expire(_) | Entry::Revoke(_) | Entry::Path(_) => Ok(OwnerUpdate::Nothing),
+            Entry::Expire(_) | Entry::Revoke(_) | Entry::Path(_) | Entry::Forget(_) => {
+                Ok(OwnerUpdate::Nothing)
+            }
         }
     }
 

@@ -44,7 +44,7 @@ impl Tables {
     ghost use Rattle.nfs_owners.specs.declared.state_owner.StateOwner.{StateOwner};
     ghost use Rattle.nfs_locks.specs.AllLocks.{HasLockRoomAt};
     ghost use Rattle.nfs_state.specs.Places.{has_state_place, has_state_place_beside};
-    ghost use Rattle.nfs_owners.specs.Owners.{has_place, without_owner};
+    ghost use Rattle.nfs_owners.specs.Owners.{AreBefore, has_place, without_owner};
     ghost use Rattle.nfs_share.specs.AllOpens.{HasLendingRoomAt, HasRoomAt, IsAboveAllLent, delegation_count, delegations_in, opens_in};
     ghost use Rattle.nfs_locks.specs.AllLocks.{lock_count};
     ghost use Rattle.nfs_share.specs.Opens.{is_of, without};
@@ -178,6 +178,7 @@ impl Tables {
             | Change::Closes { .. }
             | Change::Releases { .. }
             | Change::Expires(_)
+            | Change::Forgets(_)
             | Change::Recalls { .. }
             | Change::Returns { .. }
             | Change::MarksPath { .. } => {}
@@ -210,6 +211,7 @@ impl Tables {
     /// Makes what the entry with this number means for an owner, for which there has to be room. It takes no memory.
     pub(crate) fn commit_owner(&mut self, update: OwnerUpdate, number: u32)
         requires room { HasUpdateRoom update self.old }
+        requires newest { AreBefore number self.old.owners.owners }
         ensures state { (change : OwnerChange) (kept : OwnerKind → Kept)
             → update ≡ update_of change kept
             → HasOwnerPlace change (state_of self.old)
@@ -239,6 +241,7 @@ impl Tables {
     // Makes the request and the answer the kept ones of an owner, in the entry with this number.
     fn keep(&mut self, keeping: Keeping, number: u32)
         requires room { CanKeep keeping.owner self.old.owners }
+        requires newest { AreBefore number self.old.owners.owners }
         ensures stored { stored_of self.new ≡ record (stored_of self.old) {
           owners = kept_by keeping number self.old.owners.owners;
         } }
@@ -247,6 +250,8 @@ impl Tables {
         ensures known { (other : StateOwner)
             → IsTrue (is_known keeping.owner self.old.owners.owners)
             → CanKeep other self.old.owners → CanKeep other self.new.owners }
+        ensures before { IsTrue (is_known keeping.owner self.old.owners.owners)
+            → AreBefore number self.new.owners.owners }
     {
         self.owners.keep(keeping.owner, number, keeping.kept);
     }
@@ -332,6 +337,7 @@ impl Tables {
                 self.owners.remove(OwnerRef::of_lock(&owner));
                 self.locks.remove_owner(&owner);
             }
+            Change::Forgets(owner) => self.owners.remove(OwnerRef::of_open(&owner)),
             Change::Expires(client) => {
                 self.leave(client);
                 self.clients.remove(client.number);

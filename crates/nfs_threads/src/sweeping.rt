@@ -11,8 +11,8 @@ const PERIOD: u64 = 1;
 // How many looks the watcher has after a sweep at most.
 const MOST_LOOKS: u32 = 4_096;
 
-/// Removes the clients whose leases are over, and revokes the delegations that are due, once a second, and then has the
-/// watcher look, until the end of the connections is told. Gives the sweeper back.
+/// Once a second removes the clients whose leases are over, revokes the delegations that are due and forgets the open owners
+/// that may be forgotten, and then has the watcher look, until the end of the connections is told. Gives the sweeper back.
 pub(crate) fn sweep_until<N: Naming, R: Wait + Timer, W: Watcher>(
     setting: &Setting<'_, R, W>,
     shared: &Shared<N>,

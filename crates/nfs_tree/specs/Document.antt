@@ -11,6 +11,8 @@ use Rattle.nfs_tree.specs.declared.node.TreeEntry.{TreeEntry}
 use Rattle.nfs_tree.specs.declared.node.NodeKind.TheVariants.{Directory, File}
 use Rattle.nfs_tree.specs.declared.policy.Callbacks.{Callbacks}
 use Rattle.nfs_tree.specs.declared.policy.Callbacks.TheVariants as callbacks
+use Rattle.nfs_tree.specs.declared.policy.CloseLocks.{CloseLocks}
+use Rattle.nfs_tree.specs.declared.policy.CloseLocks.TheVariants as close_locks
 use Rattle.nfs_tree.specs.declared.policy.Delegations.{Delegations}
 use Rattle.nfs_tree.specs.declared.policy.Delegations.TheVariants as delegations
 use Rattle.nfs_tree.specs.declared.policy.Policy.{Policy}
@@ -77,16 +79,29 @@ callbacks_of value = as_str value >>= λ word.
     else if bytes_eq word (codes "assume") then Some callbacks.Assume
     else None
 
+abbrev pub close_locks_of : Data → Option CloseLocks
+close_locks_of value = as_str value >>= λ word.
+    if bytes_eq word (codes "free") then Some close_locks.Free
+    else if bytes_eq word (codes "refuse") then Some close_locks.Refuse
+    else None
+
 abbrev pub default_policy : Policy
-default_policy = record { delegations = delegations.All; callbacks = callbacks.Probe }
+default_policy = record {
+  delegations = delegations.All;
+  callbacks = callbacks.Probe;
+  close_locks = close_locks.Free;
+}
 
 abbrev pub policy_of : Data → Option Policy
 policy_of value =
-    table_of (codes "delegations" ∷ codes "callbacks" ∷ []) value >>= λ table.
+    table_of (codes "delegations" ∷ codes "callbacks" ∷ codes "close_locks" ∷ []) value
+    >>= λ table.
     or_absent delegations.All delegations_of (get_member (codes "delegations") table)
     >>= λ delegations.
     or_absent callbacks.Probe callbacks_of (get_member (codes "callbacks") table) >>= λ callbacks.
-    Some (record { delegations = delegations; callbacks = callbacks })
+    or_absent close_locks.Free close_locks_of (get_member (codes "close_locks") table)
+    >>= λ close_locks.
+    Some (record { delegations = delegations; callbacks = callbacks; close_locks = close_locks })
 
 -- The description of a tree in a TOML document, if it contains one: the entries of directories, followed by those of
 -- files.

@@ -4,6 +4,8 @@ use Rattle.std.proofs.Common.{refl}
 use Rattle.std.specs.List.{find}
 use Rattle.nfs_tree.specs.declared.policy.Callbacks.{Callbacks}
 use Rattle.nfs_tree.specs.declared.policy.Callbacks.TheVariants as callback
+use Rattle.nfs_tree.specs.declared.policy.CloseLocks.{CloseLocks}
+use Rattle.nfs_tree.specs.declared.policy.CloseLocks.TheVariants as locks
 use Rattle.nfs_tree.specs.declared.policy.Delegations.{Delegations}
 use Rattle.nfs_tree.specs.declared.policy.Delegations.TheVariants as delegation
 use Rattle.nfs_tree.specs.declared.policy.Policy.{Policy}
@@ -40,7 +42,23 @@ known_callbacks c = refl
 unfoldable pub callbacks : Form Callbacks
 callbacks = enumeration number_of_callbacks all_callbacks known_callbacks
 
--- struct { delegations; callbacks; }
+-- enum { free = 0, refuse = 1 }
+abbrev pub number_of_close_locks : CloseLocks → ℕ
+number_of_close_locks locks.Free = 0
+number_of_close_locks locks.Refuse = 1
+
+abbrev pub all_close_locks : List CloseLocks
+all_close_locks = locks.Free ∷ locks.Refuse ∷ []
+
+pub known_close_locks : (c : CloseLocks) → find (λ v. number_of_close_locks v == number_of_close_locks c) all_close_locks ≡ Some c
+known_close_locks locks.Free = refl
+known_close_locks c = refl
+
+unfoldable pub close_locks : Form CloseLocks
+close_locks = enumeration number_of_close_locks all_close_locks known_close_locks
+
+-- struct { delegations; callbacks; close_locks; }
 unfoldable pub policy : Form Policy
-policy = of (λ p. record { delegations = p.0; callbacks = p.1 }) (λ p. (p.delegations, p.callbacks))
-    (λ p. refl) (λ p. refl) (delegations and callbacks)
+policy = of (λ p. record { delegations = p.0; callbacks = p.1.0; close_locks = p.1.1 })
+    (λ p. (p.delegations, (p.callbacks, p.close_locks))) (λ p. refl) (λ p. refl)
+    (delegations and callbacks and close_locks)

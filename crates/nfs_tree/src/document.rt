@@ -1,11 +1,13 @@
 ghost use Rattle.std.specs.Prelude.{◌≡◌, ◌∷◌, [], codes, map, option_map};
 ghost use Rattle.std.specs.List.{list_any};
 ghost use Rattle.std.specs.Str.{bytes_eq};
-ghost use Rattle.nfs_tree.specs.Document.{Reads, callbacks_of, delegations_of, document_at, document_of, entries_of, entry_of, has_only, entries_in, or_absent, or_missing, policy_of, table_of};
+ghost use Rattle.nfs_tree.specs.Document.{Reads, callbacks_of, close_locks_of, delegations_of, document_at, document_of, entries_of, entry_of, has_only, entries_in, or_absent, or_missing, policy_of, table_of};
 ghost use Rattle.toml.specs.Data.{as_str, get_member};
 ghost use Rattle.toml.specs.View.{items_view, table_view, view};
 
-use crate::{Callbacks, DEFAULT_POLICY, Delegations, NodeKind, Policy, TreeEntry, TreeError};
+use crate::{
+    Callbacks, CloseLocks, DEFAULT_POLICY, Delegations, NodeKind, Policy, TreeEntry, TreeError,
+};
 use std::alloc::Global;
 use toml::{Table, Value};
 use xdr::{Bytes, Sequence};
@@ -132,7 +134,7 @@ fn read_file(alloc: Global, value: &Value) -> Result<TreeEntry, TreeError>
 fn read_policy(value: &Value) -> Result<Policy, TreeError>
     ensures { Reads result (policy_of (view value.now)) }
 {
-    let Some(table) = table_of(value, &["delegations", "callbacks"]) else {
+    let Some(table) = table_of(value, &["delegations", "callbacks", "close_locks"]) else {
         return Err(TreeError::Syntax);
     };
     let delegations = match member(table, "delegations") {
@@ -143,9 +145,14 @@ fn read_policy(value: &Value) -> Result<Policy, TreeError>
         None => Callbacks::Probe,
         Some(word) => read_callbacks(word)?,
     };
+    let close_locks = match member(table, "close_locks") {
+        None => CloseLocks::Free,
+        Some(word) => read_close_locks(word)?,
+    };
     Ok(Policy {
         delegations,
         callbacks,
+        close_locks,
     })
 }
 
@@ -166,6 +173,16 @@ fn read_callbacks(value: &Value) -> Result<Callbacks, TreeError>
     match value.as_str() {
         Some("probe") => Ok(Callbacks::Probe),
         Some("assume") => Ok(Callbacks::Assume),
+        _ => Err(TreeError::Syntax),
+    }
+}
+
+fn read_close_locks(value: &Value) -> Result<CloseLocks, TreeError>
+    ensures { Reads result (close_locks_of (view value.now)) }
+{
+    match value.as_str() {
+        Some("free") => Ok(CloseLocks::Free),
+        Some("refuse") => Ok(CloseLocks::Refuse),
         _ => Err(TreeError::Syntax),
     }
 }

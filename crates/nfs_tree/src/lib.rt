@@ -25,6 +25,6 @@ pub use operations::{
     ACCESS_DELETE, ACCESS_EXECUTE, ACCESS_EXTEND, ACCESS_LOOKUP, ACCESS_MODIFY, ACCESS_READ,
 };
 pub use path::{NAME_LIMIT, PATH_LIMIT, paths_are_joined_names};
-pub use policy::{Callbacks, DEFAULT_POLICY, Delegations, Policy};
+pub use policy::{Callbacks, CloseLocks, DEFAULT_POLICY, Delegations, Policy};
 pub use tree::{DIRECTORY_LIMIT, FILE_LIMIT, HANDLE_LEN, ROOT, TEXT_LIMIT, Tree};
 pub use tree_error::TreeError;

@@ -2,7 +2,7 @@ ghost use Rattle.nfs_tree.specs.PolicyForm as forms;
 ghost use Rattle.xdr.specs.Reading.{Answers};
 
 use std::alloc::Global;
-use xdr::{Wire, WireError, read_u32, write_two, write_u32};
+use xdr::{Wire, WireError, read_u32, write_three, write_u32};
 
 /// Which delegations the server gives.
 #[derive(Clone, Copy, PartialEq, Eq)]
@@ -22,17 +22,28 @@ pub enum Callbacks {
     Assume,
 }
 
+/// What CLOSE does where a lock state of the open holds a byte (RFC 7530, section 16.2).
+#[derive(Clone, Copy, PartialEq, Eq)]
+pub enum CloseLocks {
+    /// It frees the bytes.
+    Free,
+    /// It refuses, with NFS4ERR_LOCKS_HELD.
+    Refuse,
+}
+
 /// The choices that a document makes for the server.
 #[derive(Clone, Copy, PartialEq, Eq)]
 pub struct Policy {
     pub delegations: Delegations,
     pub callbacks: Callbacks,
+    pub close_locks: CloseLocks,
 }
 
 /// The policy if a document doesn't contain one.
 pub const DEFAULT_POLICY: Policy = Policy {
     delegations: Delegations::All,
     callbacks: Callbacks::Probe,
+    close_locks: CloseLocks::Free,
 };
 
 impl Wire for Delegations {
@@ -78,6 +89,27 @@ impl Wire for Callbacks {
     }
 }
 
+impl Wire for CloseLocks {
+    ghost form = { forms.close_locks };
+
+    #[tactic(auto, unfolding(crate::specs::PolicyForm::close_locks, xdr::specs::Reading::value_at))]
+    fn read(alloc: Global, bytes: &[u8]) -> Result<(CloseLocks, &[u8]), WireError>
+        ensures { Answers (λ x. (x.0, x.1.now)) result (forms.close_locks.at bytes.now) }
+    {
+        let (number, rest) = read_u32(bytes)?;
+        match number {
+            0 => Ok((CloseLocks::Free, rest)),
+            1 => Ok((CloseLocks::Refuse, rest)),
+            _ => Err(WireError::Short),
+        }
+    }
+
+    #[tactic(auto, unfolding(crate::specs::PolicyForm::close_locks))]
+    fn write(&self, out: &mut Vec<u8>) -> Result<(), WireError> {
+        write_u32(out, *self as u32)
+    }
+}
+
 impl Wire for Policy {
     ghost form = { forms.policy };
 
@@ -87,15 +119,17 @@ impl Wire for Policy {
     {
         let (delegations, rest) = Delegations::read(alloc, bytes)?;
         let (callbacks, rest) = Callbacks::read(alloc, rest)?;
+        let (close_locks, rest) = CloseLocks::read(alloc, rest)?;
         let policy = Policy {
             delegations,
             callbacks,
+            close_locks,
         };
         Ok((policy, rest))
     }
 
     #[tactic(auto, unfolding(crate::specs::PolicyForm::policy))]
     fn write(&self, out: &mut Vec<u8>) -> Result<(), WireError> {
-        write_two(out, &self.delegations, &self.callbacks)
+        write_three(out, &self.delegations, &self.callbacks, &self.close_locks)
     }
 }

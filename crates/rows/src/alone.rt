@@ -72,7 +72,8 @@ impl Alone<'_> {
             Order::Serve(batch) => self.serve(batch)?.put(answer)?,
             Order::Sweep(now) => answer.put_swept(self.lent.sweep(now))?,
             Order::Mark(mark) => answer.put_marked(self.mark(mark))?,
-            Order::Revoke(now) => answer.put_revoked(self.revoke(now))?,
+            Order::Revoke(now) => answer.put_removed(self.revoke(now))?,
+            Order::Forget(now) => answer.put_removed(self.forget(now))?,
             Order::Take(xid) => answer.put_recall(xid, self.lent.take_recall())?,
             Order::Pending => answer.put_count(self.lent.core().pending().len())?,
             Order::Probe(after) => answer.put_client(self.lent.core().probe(after))?,
@@ -96,6 +97,15 @@ impl Alone<'_> {
                 Ok(entry) => Ok(Some(entry)),
                 Err(error) => Err(error),
             },
+        }
+    }
+
+    // The number of the entry, if an owner was due.
+    fn forget(&mut self, now: Moment) -> Result<Option<u32>, CoreError> {
+        match self.lent.forget(now) {
+            Ok(None) => Ok(None),
+            Ok(Some(entry)) => Ok(Some(entry)),
+            Err(error) => Err(error),
         }
     }
 

@@ -49,13 +49,14 @@ impl Answer {
         Ok(())
     }
 
-    /// How many clients a sweep treated in which way, and how many delegations it revoked.
+    /// How many clients a sweep treated in which way, how many delegations it revoked, and how many open owners it forgot.
     pub(crate) fn put_swept(&mut self, swept: Swept) -> Result<(), AllocError> {
         self.put_word(swept.expired)?;
         self.put_word(swept.kept)?;
         self.put_word(swept.changed)?;
         self.put_word(swept.refused)?;
         self.put_word(swept.revoked)?;
+        self.put_word(swept.forgotten)?;
         self.put_word(swept.stopped as u32)
     }
 
@@ -67,12 +68,12 @@ impl Answer {
         }
     }
 
-    /// Why a delegation that is due wasn't revoked, or 0; how many were; and the number of the entry, or 0.
-    pub(crate) fn put_revoked(
+    /// Why a delegation or an open owner that is due wasn't removed, or 0; how many were; and the number of the entry, or 0.
+    pub(crate) fn put_removed(
         &mut self,
-        revoked: Result<Option<u32>, CoreError>,
+        removed: Result<Option<u32>, CoreError>,
     ) -> Result<(), AllocError> {
-        let (error, count, entry) = match revoked {
+        let (error, count, entry) = match removed {
             Ok(Some(entry)) => (0, 1, entry),
             Ok(None) => (0, 0, 0),
             Err(error) => (error.number(), 0, 0),

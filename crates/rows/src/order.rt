@@ -10,7 +10,7 @@ use std::io::Read;
 pub(crate) enum Order {
     /// To serve these connections.
     Serve(Batch),
-    /// To look through the leases and the delegations, as at this moment.
+    /// To look through the leases, the delegations and the open owners, as at this moment.
     Sweep(Moment),
     /// To say of a client whether callbacks reach it.
     Mark(Mark),
@@ -22,6 +22,8 @@ pub(crate) enum Order {
     Pending,
     /// To tell of whose path nothing is known: of the least client number above this one.
     Probe(u32),
+    /// To forget the next open owner that may be forgotten, as at this moment.
+    Forget(Moment),
 }
 
 /// Whether callbacks reach the client with this number.
@@ -46,6 +48,7 @@ impl Order {
             Some(5) => Ok(Some(Order::Take(input.word()?))),
             Some(6) => Ok(Some(Order::Pending)),
             Some(7) => Ok(Some(Order::Probe(input.word()?))),
+            Some(8) => Ok(Some(Order::Forget(input.moment()?))),
             Some(_) => Err(Failure::Input),
         }
     }

@@ -241,8 +241,8 @@ impl<'a, N: Naming + Send + Sync, R: Threads + Wait + Sync> Together<'a, N, R> {
                 answer.put_client(found.as_ref())?;
             }
             Order::Pending => answer.put_count(self.waiting())?,
-            // No call of the shared state revokes alone: its sweeps do. And who serves has the server by value.
-            Order::Revoke(_) | Order::Serve(_) => return Err(Failure::Input),
+            // No call of the shared state revokes or forgets alone: its sweeps do. And who serves has the server by value.
+            Order::Revoke(_) | Order::Forget(_) | Order::Serve(_) => return Err(Failure::Input),
         }
         Ok(())
     }

@@ -1,9 +1,11 @@
--- How many clients a sweep ends, how many delegations it revokes, and how many entries it makes.
+-- How many clients a sweep ends, how many delegations it revokes, how many open owners it forgets, and how many entries it
+-- makes.
 use Rattle.std.proofs.Common.{◌≡◌, ℕ, ◌+◌, List, [], ◌∷◌, ◌++◌, length, refl, ap, arith, length-append}
 use Rattle.std.proofs.lemmas.List.{length-map}
 use Rattle.nfs_core.specs.Events.{expire_of}
+use Rattle.nfs_forms.specs.declared.open_owner.OpenOwner.{OpenOwner}
 use Rattle.nfs_leases.specs.BookEvent.{BookEvent, Look, Renew, Close, Open, Retire}
-use Rattle.nfs_leases.specs.Sweeps.{entries_of_sweep, events_of_all, none_swept, revocations, tally}
+use Rattle.nfs_leases.specs.Sweeps.{entries_of_sweep, events_of_all, forgettings, none_swept, revocations, tally}
 use Rattle.nfs_leases.specs.Visit.{Visit, events_by, events_of, expiries, with_case}
 use Rattle.nfs_leases.specs.declared.visit_case.VisitCase.{VisitCase}
 use Rattle.nfs_leases.specs.declared.visit_case.VisitCase.TheVariants as cases
@@ -45,19 +47,27 @@ expired_tally now swept (t ∷ visits) =
 pub revoked_entries : (now : ℕ) (numbers : List ℕ) → length (revocations now numbers) ≡ length numbers
 revoked_entries now numbers = length-map numbers _
 
--- A sweep that is counted so makes as many entries as clients ended and delegations were revoked.
-pub sweep_tally : (now : ℕ) (visits : List Visit) (numbers : List ℕ) (swept : Swept)
+-- and each owner that is forgotten
+pub forgotten_entries : (now : ℕ) (owners : List OpenOwner) → length (forgettings now owners) ≡ length owners
+forgotten_entries now owners = length-map owners _
+
+-- A sweep that is counted so makes as many entries as clients ended, delegations were revoked and owners were forgotten.
+pub sweep_tally : (now : ℕ) (visits : List Visit) (numbers : List ℕ) (owners : List OpenOwner) (swept : Swept)
     → swept ≡ record (tally none_swept visits) {
       revoked = length numbers;
+      forgotten = length owners;
       stopped = swept.stopped;
     }
-    → swept.expired + swept.revoked ≡ length (entries_of_sweep now visits numbers)
-sweep_tally now visits numbers swept counts =
+    → swept.expired + swept.revoked + swept.forgotten ≡ length (entries_of_sweep now visits numbers owners)
+sweep_tally now visits numbers owners swept counts =
     omega (
       arith,
       ap (λ (s : Swept). s.expired) counts,
       ap (λ (s : Swept). s.revoked) counts,
+      ap (λ (s : Swept). s.forgotten) counts,
       expired_tally now none_swept visits,
       revoked_entries now numbers,
-      length-append (expiries (events_of_all now visits)) (revocations now numbers),
+      forgotten_entries now owners,
+      length-append (revocations now numbers) (forgettings now owners),
+      length-append (expiries (events_of_all now visits)) (revocations now numbers ++ forgettings now owners),
     )

@@ -1,9 +1,10 @@
 -- What a journal gains, and then gains beside.
-use Rattle.std.proofs.Common.{◌≡◌, ℕ, List, [], ◌∷◌, ◌++◌, refl, sym, ap, subst, ◌∙◌, append_assoc}
+use Rattle.std.proofs.Common.{◌≡◌, ℕ, Bool, true, false, List, [], ◌∷◌, ◌++◌, refl, sym, ap, subst, ◌∙◌, append_assoc}
 use Rattle.nfs_core.specs.Lawful as lawful
 use Rattle.nfs_core.specs.Server.{Server}
+use Rattle.nfs_forms.specs.declared.open_owner.OpenOwner.{OpenOwner}
 use Rattle.nfs_leases.specs.BookEvent.{BookEvent}
-use Rattle.nfs_leases.specs.Sweeps.{LeasedServer, Sweeps, entries_of_sweep}
+use Rattle.nfs_leases.specs.Sweeps.{ForgetsUnless, LeasedServer, Sweeps, entries_of_sweep, forgettings}
 use Rattle.nfs_leases.specs.Visit.{Gains, with_entries}
 use Rattle.nfs_leases.specs.declared.swept.Swept.{Swept}
 use Rattle.nfs_state.specs.State.{History, State}
@@ -50,9 +51,19 @@ gains_more more others old mid new h k = record {
       (subst (λ (j : History). lawful.Leads j (meaning mid.stored) others (meaning new.stored)) h.journal k.leads);
 }
 
--- In a sweep the journal gains the ends of clients, and then those of delegations.
+-- the last part of a sweep
+pub gains_of_forgettings : (halted : Bool) (now : ℕ) (owners : List OpenOwner) (stopped : Bool) (old new : Server)
+    → ForgetsUnless halted now owners stopped old new → Gains (forgettings now owners) old new
+gains_of_forgettings true now owners stopped old new forgets =
+    subst (λ (os : List OpenOwner). Gains (forgettings now os) old new) (sym forgets.0)
+    (subst (λ (s : Server). Gains [] old s) (sym forgets.2) (gains_none old))
+gains_of_forgettings false now owners stopped old new forgets = forgets.entries
+
+-- In a sweep the journal gains the ends of clients, then those of delegations, and then those of open owners.
 pub gains_of_sweep : {Book : Type 0} (happens : Book → BookEvent → Book → Type 0) (now : ℕ) (old : LeasedServer Book)
     (swept : Swept) (new : LeasedServer Book) (sweeps : Sweeps happens now old swept new)
-    → Gains (entries_of_sweep now sweeps.visits sweeps.numbers) old.core new.core
+    → Gains (entries_of_sweep now sweeps.visits sweeps.numbers sweeps.owners) old.core new.core
 gains_of_sweep happens now old swept new sweeps =
-    gains_more _ _ old.core sweeps.mid new.core sweeps.ends.entries sweeps.revokes.entries
+    let forgets = gains_of_forgettings sweeps.halted now sweeps.owners swept.stopped sweeps.revoked new.core sweeps.forgets in
+    gains_more _ _ old.core sweeps.ended new.core sweeps.ends.entries
+    (gains_more _ _ sweeps.ended sweeps.revoked new.core sweeps.revokes.entries forgets)

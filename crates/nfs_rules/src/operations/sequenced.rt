@@ -93,7 +93,10 @@ fn rule(alloc: Global, store: &Store, request: &Request, turn: Turn<'_>) -> Resu
         Op::Open(args) => open::rule(alloc, store, node, passage, args, request.moment),
         Op::OpenConfirm(args) => open_confirm::rule(&store.tables, node, args, target),
         Op::OpenDowngrade(args) => Ok(open_downgrade::rule(&store.tables, node, args, target)),
-        Op::Close(args) => Ok(close::rule(&store.tables, node, args, target)),
+        Op::Close(args) => {
+            let policy = store.journal.policy().close_locks;
+            Ok(close::rule(&store.tables, node, args, policy, target))
+        }
         Op::Lock(args) => lock::rule(&store.tables, node, args, target),
         Op::Locku(args) => locku::rule(&store.tables, node, args, target),
         _ => unreachable!(),

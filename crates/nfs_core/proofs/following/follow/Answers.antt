@@ -23,3 +23,8 @@ pub returns-in-Path-clause-not_next : goal.returns-in-Path-clause-not_next
 returns-in-Path-clause-not_next c is new step =
     let before : Entry → Type 0 = λ e. Step c.args.held.now.store.journal.history (state_of c.args.held.now.store.tables) e new in
     c.follow_event-in-Path.ensures.not_next is new (subst before (search rules) step)
+
+pub returns-in-Forget-clause-not_next : goal.returns-in-Forget-clause-not_next
+returns-in-Forget-clause-not_next c is new step =
+    let before : Entry → Type 0 = λ e. Step c.args.held.now.store.journal.history (state_of c.args.held.now.store.tables) e new in
+    c.follow_event-in-Forget.ensures.not_next is new (subst before (search rules) step)

@@ -1,7 +1,6 @@
-use Rattle.std.proofs.Common.{◌≡◌, ◌∙◌, ◌++◌, ℕ, Some, ap, arith, get_or, length, List, rules, subst, sym, append_assoc, take}
+use Rattle.std.proofs.Common.{◌≡◌, ◌∙◌, Some, ap, rules, sym, append_assoc}
 use Rattle.std.specs.Option.{option_copied}
 use Rattle.std.specs.Prelude.{slice_get}
-use Rattle.std.specs.List.{flat_map}
 use Rattle.nfs_journal.proofs.WritingEntries.{fails_at, fit_more, one_more}
 use Rattle.nfs_journal.proofs.file.write_each.Goals as goal
 use Rattle.nfs_state.specs.EntryForm.{entry}

@@ -1,4 +1,4 @@
--- A sweep enters no call: the ends of clients, and then those of delegations.
+-- A sweep enters no call: the ends of clients, then those of delegations, and then those of open owners.
 use Rattle.std.proofs.Common.{◌∙◌, ap, refl, arith}
 use Rattle.nfs_core.specs.Recalls.{RecallsLeft}
 use Rattle.nfs_shared.proofs.Deeds.{all_happen_fits, deeds_of_sweep}
@@ -39,13 +39,13 @@ invariant_of-held g c =
     let now = c.args.now in
     let sweeps = swept.ensures.sweeps in
     let gains = gains_of_sweep Happens now (leased_server old.server old.leases) swept.result (leased_server new.server new.leases) sweeps in
-    let more = entries_of_sweep now sweeps.visits sweeps.numbers in
-    let none = sweep_no_calls now sweeps.visits sweeps.numbers in
+    let more = entries_of_sweep now sweeps.visits sweeps.numbers sweeps.owners in
+    let none = sweep_no_calls now sweeps.visits sweeps.numbers sweeps.owners in
     let keeps : KeepsRules new = record {
       lawful = swept.ensures.lawful;
       safe = c.lawful_is_safe.ensures.safe _ _ swept.ensures.lawful;
       agrees = swept.new.self.agrees;
-      deeds = deeds_of_sweep now sweeps.visits sweeps.numbers old.server new.server old.leases new.leases c.held.invariant.0.deeds gains.journal gains.leads sweeps.ends.events;
+      deeds = deeds_of_sweep now sweeps.visits sweeps.numbers sweeps.owners old.server new.server old.leases new.leases c.held.invariant.0.deeds gains.journal gains.leads sweeps.ends.events;
       recalls = c.recalls_are_left.ensures;
       queued =
           queued_kept c.recalls_stay.ensures.one c.recalls_stay.ensures.begin old new more c.held.invariant.0.recalls
@@ -64,7 +64,7 @@ invariant_of-held g c =
         c.held.invariant.5,
         ap (λ (j : History). others_in j.entries) gains.journal,
         others_in_more old.server.journal.entries more none,
-        sweep_tally now sweeps.visits sweeps.numbers swept.result sweeps.counts,
+        sweep_tally now sweeps.visits sweeps.numbers sweeps.owners swept.result sweeps.counts,
       ),
       all_happen_fits g.N.Naming.run.words (events_of_all now sweeps.visits) old.leases new.leases sweeps.ends.events c.held.invariant.6,
       c.held.invariant.7,

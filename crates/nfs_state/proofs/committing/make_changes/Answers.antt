@@ -19,10 +19,10 @@ returns-then-is_nothing-clause-kept c = λ journal agrees.
     let nothing = ap (λ (e : Effect). owners_after (update_by e.owner (kept_in c.args.entry.now)) c.args.number owners) (c.is_nothing.ensures.0 c.if-is_nothing.true) in
     subst (Agrees journal) (nothing ∙ nothing_kept (kept_in c.args.entry.now) c.args.number owners) agrees
 
-pub commit_owner-requires : goal.commit_owner-requires
-commit_owner-requires c =
+pub commit_owner-requires-clause-room : goal.commit_owner-requires-clause-room
+commit_owner-requires-clause-room c =
     let tables = c.args.tables.now in
-    record { room = subst (λ u. HasUpdateRoom u tables) (sym c.in-Ok.ensures.update) (update_room_by c.args.effect.owner (kept_in c.args.entry.now) tables c.requires.fits.place c.requires.room.1) }
+    subst (λ u. HasUpdateRoom u tables) (sym c.in-Ok.ensures.update) (update_room_by c.args.effect.owner (kept_in c.args.entry.now) tables c.requires.fits.place c.requires.room.1)
 
 pub commit-requires-clause-numbers : goal.commit-requires-clause-numbers
 commit-requires-clause-numbers c =

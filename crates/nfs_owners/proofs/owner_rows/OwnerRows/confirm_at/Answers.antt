@@ -21,7 +21,7 @@ invariant_of-self c =
       | in-Some w ↦
           let set = with_value_is c.args.row (λ (o : Owner). record o { state = confirmed o.state }) w.in-Some.owner.now rows w.in-Some.ensures.order w.in-Some.ensures.value in
           subst AreKept (sym w.self-inside-is) (
-            subst (AllByRecursion (IsFiled names)) (sym set) (filed_change names confirmed c.args.row rows c.self.invariant.0),
+            subst (AllByRecursion (IsFiled names)) (sym set) (filed_change names confirmed (λ s. refl) c.args.row rows c.self.invariant.0),
             subst (AreClosers c.self.inside.closers) (closed_same confirmed (λ s. refl) c.args.row rows ∙ ap closed_at (sym set)) c.self.invariant.1,
           )
       | in_default w ↦ subst AreKept (sym w.self-inside-is) c.self.invariant

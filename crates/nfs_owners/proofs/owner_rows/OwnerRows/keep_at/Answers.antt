@@ -14,7 +14,7 @@ invariant_of-self c =
     let rows = c.self.inside.rows.rows in
     let change = with_request c.args.number c.args.kept in
     let set = state_set change c.args.row rows c.in-Some.owner.now c.change_kept.new.owner c.change_kept.ensures.owner c.in-Some.ensures.order c.in-Some.ensures.value in (
-      subst (AllByRecursion (IsFiled c.self.inside.names)) (sym set) (filed_change c.self.inside.names change c.args.row rows c.self.invariant.0),
+      subst (AllByRecursion (IsFiled c.self.inside.names)) (sym set) (filed_change c.self.inside.names change (λ s. refl) c.args.row rows c.self.invariant.0),
       subst (AreClosers c.change_kept.new.closers) (closed_changed change c.args.row c.in-Some.owner.now (closed_by c.args.kept) rows c.in-Some.ensures.value refl ∙ ap closed_at (sym set))
           (c.change_kept.ensures.closers (closed_at rows) (ap closed_of (sym c.in-Some.ensures.value)) c.self.invariant.1),
     )

@@ -1,9 +1,10 @@
-use Rattle.std.proofs.Common.{Ok, refl, subst}
+use Rattle.std.proofs.Common.{Ok, ap, refl, subst, sym}
 use Rattle.nfs_rules.specs.Deciding.{IsTargetOf}
 use Rattle.nfs_rules.specs.Finding.{target_seen}
 use Rattle.nfs_rules.proofs.Sequenced.{rules_of}
 use Rattle.nfs_state.specs.Room.{state_of}
 use Rattle.nfs_rules.proofs.operations.sequenced.rule.Goals as goal
+use Rattle.nfs_tree.specs.declared.policy.Policy.{Policy}
 use Rattle.nfs_xdr.specs.Names.{names_of}
 use Rattle.nfs_xdr.specs.declared.op.Op.{Op}
 use Rattle.nfs_xdr.specs.declared.op.Op.TheVariants as ops
@@ -44,7 +45,7 @@ returns-in-Close c =
     let turn = c.args.turn in
     let named : Op → Type 0 = λ op. IsTargetOf (names_of op) journal state (target_seen turn.target) in
     rules_of request.op (ops.Close c.in-Close.args) journal state request turn.node turn.passage (Ok c.rule-in-Close.result) c.in-Close.is
-    (c.rule-in-Close.ensures journal request turn.passage (subst named c.in-Close.is c.requires.target))
+    (c.rule-in-Close.ensures journal request turn.passage (ap (λ (p : Policy). p.close_locks) (sym c.policy-policy.ensures)) (subst named c.in-Close.is c.requires.target))
 
 pub returns-in-Lock : goal.returns-in-Lock
 returns-in-Lock c =

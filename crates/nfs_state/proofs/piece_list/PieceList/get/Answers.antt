@@ -1,6 +1,5 @@
-use Rattle.std.proofs.Common.{◌≡◌, ◌∙◌, ◌%◌, ap, arith, rules, sym, Some, None}
-use Rattle.std.proofs.lemmas.Option.{gets, slice_get_past, slice_get_read}
-use Rattle.std.proofs.lemmas.Grind.{common_steps}
+use Rattle.std.proofs.Common.{◌≡◌, ◌∙◌, ◌%◌, ap, rules, sym, Some, None}
+use Rattle.std.proofs.lemmas.Option.{gets}
 use Rattle.std.specs.Prelude.{slice_get}
 use Rattle.nfs_state.proofs.Pieces.{get_in_piece}
 use Rattle.nfs_state.specs.declared.piece_list.TheConstants.{PIECE_LEN}

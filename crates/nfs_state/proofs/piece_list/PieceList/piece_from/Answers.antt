@@ -1,4 +1,4 @@
-use Rattle.std.proofs.Common.{◌≡◌, ◌∙◌, ◌≤◌, ap, arith, drop, length, rules, sym, []}
+use Rattle.std.proofs.Common.{◌≡◌, ◌∙◌, ap, arith, drop, rules, sym, []}
 use Rattle.std.proofs.lemmas.Grind.{common_steps}
 use Rattle.std.proofs.lemmas.List.{drop_all, take_rest}
 use Rattle.std.specs.Prelude.{◌%◌}

@@ -5,7 +5,7 @@ use Rattle.nfs_owners.specs.Owners.{with_confirmed, without_owner}
 use Rattle.nfs_owners.specs.StateOwner.{lock_owner, open_owner}
 use Rattle.nfs_state.specs.Kept.{Agrees}
 use Rattle.nfs_state.specs.Room.{stored_of}
-use Rattle.nfs_state.proofs.StoredOwners.{agrees_confirmed, agrees_filter, confirms_seen, releases_seen}
+use Rattle.nfs_state.proofs.StoredOwners.{agrees_confirmed, agrees_filter, confirms_seen, forgets_seen, releases_seen}
 use Rattle.nfs_state.proofs.tables.Tables.commit.Goals as goal
 
 pub returns-in-Confirms-clause-state : goal.returns-in-Confirms-clause-state
@@ -31,3 +31,15 @@ returns-in-Releases-clause-kept c journal agrees =
     let owners = c.args.self.now.owners.owners in
     subst (Agrees journal) (sym (c.remove.ensures.owners ∙ ap (λ n. without_owner n owners) c.of_lock.ensures))
     (agrees_filter journal (λ o. not (has_name (lock_owner c.in-Releases.owner) o)) owners agrees)
+
+pub returns-in-Forgets-clause-state : goal.returns-in-Forgets-clause-state
+returns-in-Forgets-clause-state c =
+    let owners = c.args.self.now.owners.owners in
+    forgets_seen (stored_of c.args.self.now) c.in-Forgets.owner c.remove-in-Forgets.new.self.owners
+    (c.remove-in-Forgets.ensures.owners ∙ ap (λ n. without_owner n owners) c.of_open-in-Forgets.ensures) c.args.change c.in-Forgets.is
+
+pub returns-in-Forgets-clause-kept : goal.returns-in-Forgets-clause-kept
+returns-in-Forgets-clause-kept c journal agrees =
+    let owners = c.args.self.now.owners.owners in
+    subst (Agrees journal) (sym (c.remove-in-Forgets.ensures.owners ∙ ap (λ n. without_owner n owners) c.of_open-in-Forgets.ensures))
+    (agrees_filter journal (λ o. not (has_name (open_owner c.in-Forgets.owner) o)) owners agrees)

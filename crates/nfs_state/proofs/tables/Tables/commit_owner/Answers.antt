@@ -1,7 +1,10 @@
-use Rattle.std.proofs.Common.{ap, sym, ◌∙◌}
-use Rattle.nfs_owners.specs.Owners.{with_kept}
+use Rattle.std.proofs.Common.{ap, not, subst, sym, ◌∙◌}
+use Rattle.nfs_owners.specs.Owner.{has_name}
+use Rattle.nfs_owners.specs.StateOwner.{open_owner}
+use Rattle.nfs_state.specs.Stored.{Stored}
+use Rattle.nfs_owners.specs.Owners.{AreBefore, with_kept}
 use Rattle.nfs_state.specs.Room.{stored_of}
-use Rattle.nfs_state.proofs.StoredOwners.{drops_seen, keeps_both_seen, keeps_seen, restarts_seen}
+use Rattle.nfs_state.proofs.StoredOwners.{before_filter, drops_seen, keeps_both_seen, keeps_seen, restarts_seen}
 use Rattle.nfs_state.proofs.tables.Tables.commit_owner.Goals as goal
 
 pub returns-in-Keeps-clause-state : goal.returns-in-Keeps-clause-state
@@ -21,3 +24,9 @@ pub returns-in-KeepsBoth-clause-state : goal.returns-in-KeepsBoth-clause-state
 returns-in-KeepsBoth-clause-state c change kept update place =
     keeps_both_seen (stored_of c.args.self.now) (stored_of c.keep-in-KeepsBoth.new.self) (stored_of c.keep-in-KeepsBoth-2.new.self) c.in-KeepsBoth.keeping c.in-KeepsBoth.newcomer c.args.number
     c.keep-in-KeepsBoth.ensures.stored c.keep-in-KeepsBoth-2.ensures.stored change kept (sym c.in-KeepsBoth.is ∙ update) place
+
+pub keep-requires-in-Restarts-clause-newest : goal.keep-requires-in-Restarts-clause-newest
+keep-requires-in-Restarts-clause-newest c = λ _.
+    let stored_before : Stored → Type 0 = λ stored. AreBefore c.args.number stored.owners in
+    subst stored_before (sym c.remove_owner.ensures.stored)
+    (before_filter c.args.number (λ o. not (has_name (open_owner c.in-Restarts.owner) o)) c.args.self.now.owners.owners c.requires.newest)

@@ -1,0 +1,8 @@
+/// An open owner that was forgotten.
+#[derive(Clone, Copy, PartialEq, Eq)]
+pub struct Forgotten {
+    /// The number of the journal's entry of its end.
+    pub number: u32,
+    /// The number of the entry that had recorded it.
+    pub recorded: u32,
+}

@@ -1,0 +1,8 @@
+/// What came of those that were due: delegations, or open owners.
+#[derive(Clone, Copy)]
+pub(crate) struct Removals {
+    /// How many were removed.
+    pub(crate) count: u32,
+    /// Whether one stays because the journal had no room for an entry, or memory ran out.
+    pub(crate) stopped: bool,
+}
