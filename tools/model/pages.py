@@ -2,11 +2,11 @@
 what random calls choose to meet the ends of pages, and the count of how often they come to each case that a server with
 pages may have."""
 PAGE = 4096
-# From so many bytes on an answer may be a part of a page itself.
-SHARED = 2048
+# The fewest bytes of an answer that may be a part of a page itself.
+PART = 2048
 
 # How many bytes are read or written, where that is chosen by pages.
-LENGTHS = [1, 2, SHARED - 1, SHARED, SHARED + 1, PAGE - 1, PAGE, PAGE, PAGE + 1, 2 * PAGE]
+LENGTHS = [1, 2, PART - 1, PART, PART + 1, PAGE - 1, PAGE, PAGE, PAGE + 1, 2 * PAGE]
 
 # The cases: how the bytes of a READ or a WRITE lie; how many whole pages there are between a file's end and what is
 # written behind it; and pages that are written in a part, of which there are bytes in an answer, or all in a WRITE.
@@ -43,7 +43,7 @@ class Pages:
         """These bytes are answered."""
         if begin < end:
             self.counts[f"READs {way_of(begin, end)}"] += 1
-        if end - begin >= SHARED and len(pages_of(begin, end)) == 1:
+        if end - begin >= PART and len(pages_of(begin, end)) == 1:
             self.had[file, begin // PAGE] = ANSWERED
 
     def write(self, file, size, begin, end):
