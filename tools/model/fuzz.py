@@ -6,11 +6,12 @@ Replies, outcomes and the journal are compared with the model's, until so many L
 Each run is one server and one connection. In a third of the runs most operations are LOCK, LOCKU and LOCKT, of a few
 lock owners of two clients, at the first and the last bytes; in another third most are OPEN, CLOSE and DELEGRETURN of
 three clients, which get delegations and are called back; and in the last READ and WRITE, by special stateids and by
-those of what these clients have, at the first bytes, round the size, and at the most that a file has. In half of the
-runs a CLOSE is refused where bytes are locked. The other operations with a rule come too. Each operation is made when
-the model comes to it, so that most of them name what is there by then; some are a little off, and some are an earlier
-one again. At a difference the steps that lead to it are printed as a row, without those that it needs not, and the
-status is 1.
+those of what these clients have, at the first bytes, round the size, where pages of 4,096 bytes begin and end, and at
+the most that a file has. In half of the runs a CLOSE is refused where bytes are locked. The other operations with a
+rule come too. Each operation is made when the model comes to it, so that most of them name what is there by then; some
+are a little off, and some are an earlier one again. At a difference the steps that lead to it are printed as a row,
+without those that it needs not, and the status is 1; and so it is where many runs have no READ or WRITE of a case that
+pages have (`pages.py`).
 
 With --ids clients of so many ids come, of which many aren't confirmed: with 300 all slots of clients are taken, again
 and again."""
@@ -31,6 +32,7 @@ from driver import ALONE, PROGRAM, SHARED
 from entries import Expire, Forget as Forgetting, Path, Revoke as Revocation
 from journal import Recorder, journal_bytes
 from model import CLIENTS_LIMIT
+from pages import CASES, LENGTHS, PAGE, Pages
 from ranges import ALL_ONES, LAST_BYTE
 from rows import Forget, Mark, Part, Pending, Probe, Revoke, Row, Sweep, Take
 from running import WHOLE, run as run_row
@@ -62,6 +64,8 @@ WHAT = {Expire: "clients removed", Revocation: "delegations revoked", Path: "pat
         Forgetting: "owners forgotten"}
 AGAIN, YIELDED, NONE_LEFT = "slots given again", "records that gave way", "newcomers without a slot"
 BACK = "forgotten owners that came again"
+# In so many operations of a few clients each case of pages comes.
+ENOUGH = 50_000
 
 
 class Counting(Recorder):
@@ -71,6 +75,7 @@ class Counting(Recorder):
         super().__init__(*given)
         # All records of clients, also those that are gone; and the owners that were forgotten, by their names.
         self.counts, self.introduced, self.forgotten = Counter(), [], {}
+        self.pages = Pages(self.counts)
 
     def setclientid(self, arguments, principal):
         rest = super().setclientid(arguments, principal)
@@ -102,6 +107,19 @@ class Counting(Recorder):
     def delegate(self, client, file, kind):
         self.counts.update([LENT[kind]] if kind in LENT else [])
         return super().delegate(client, file, kind)
+
+    def read(self, arguments, file):
+        rest = super().read(arguments, file)
+        begin, count = arguments.offset, int.from_bytes(rest[4:8], "big")
+        self.pages.read(file, begin, begin + count)
+        return rest
+
+    def write(self, arguments, file):
+        before = self.texts.get(file)
+        rest = super().write(arguments, file)
+        begin, size = arguments.offset, len(self.tree.nodes[file].text if before is None else before)
+        self.pages.write(file, size, begin, begin + len(arguments.data))
+        return rest
 
     def apply(self, opnum, arguments, filehandle, principal, is_refused=False):
         result = super().apply(opnum, arguments, filehandle, principal, is_refused)
@@ -362,27 +380,36 @@ class Caller:
         file, stateid, _ = self.state(self.chance.choice([found for found in kinds if found] or [[]]))
         return file, stateid
 
-    def offset(self, file):
-        """Mostly within the file or near its ends, or the most that it may have; seldom far."""
+    def offset(self, file, pages):
+        """Mostly within the file or near its ends, near the beginning of a page that it has, or of one of so many
+        behind these, or near the most that it may have; seldom far."""
         size = len(self.server.text_of(file))
-        base = self.chance.choice([0] * 8 + [size] * 8 + [self.chance.randint(0, size)] * 4 + [TEXT_LIMIT, 2**64 - 1])
+        last = min(size // PAGE + pages, TEXT_LIMIT // PAGE)
+        page = PAGE * min(self.chance.choice([1, 1, 2, last, self.chance.randint(0, last)]), last)
+        near = [0] * 8 + [size] * 8 + [self.chance.randint(0, size)] * 4 + [page] * 12
+        base = self.chance.choice(near + [TEXT_LIMIT, 2**64 - 1])
         return min(max(0, base + self.chance.choice([0, 0, 0, 1, -1, 2, -2, 9])), 2**64 - 1)
 
     def read(self):
         file, stateid = self.io_state()
-        count = self.chance.choice([0, 1, 5, 64, self.chance.randint(0, 400)] * 3 + [65535, 65536, 65537, LAST])
-        return self.handle(file) + [u32(Opnum.READ) + stateid + u64(self.offset(file)) + u32(count)]
+        few = [0, 1, 5, 64, self.chance.randint(0, 400)] * 6
+        count = self.chance.choice(few + LENGTHS * 2 + [65535, 65536, 65537, LAST])
+        return self.handle(file) + [u32(Opnum.READ) + stateid + u64(self.offset(file, 0)) + u32(count)]
 
     def write(self):
         file, stateid = self.io_state()
-        head = u32(Opnum.WRITE) + stateid + u64(self.offset(file))
+        head = u32(Opnum.WRITE) + stateid + u64(self.offset(file, self.chance.choice([0, 0, 0, 1, 2, 5])))
         return self.handle(file) + [head + u32(self.chance.choice([0, 1, 2] * 30 + [3])) + opaque(self.file_bytes())]
 
     def file_bytes(self):
-        """Mostly a few; seldom as many as a file may have, or one more."""
+        """Mostly a few, or by pages; seldom as many as a file may have, or one more."""
         count = self.chance.choice([0, 1, 2, 3, 4, 5, 9, self.chance.randint(0, 300)])
-        if self.is_rare(0.01) and len(self.drawn.data) < DATA_ROOM:
-            count = self.chance.choice([TEXT_LIMIT - 1, TEXT_LIMIT, TEXT_LIMIT + 1, self.chance.randint(0, TEXT_LIMIT)])
+        if len(self.drawn.data) < DATA_ROOM:
+            if self.is_rare(0.25):
+                count = self.chance.choice(LENGTHS)
+            if self.is_rare(0.01):
+                most = [TEXT_LIMIT - 1, TEXT_LIMIT, TEXT_LIMIT + 1, self.chance.randint(0, TEXT_LIMIT)]
+                count = self.chance.choice(most)
         return self.chance.randbytes(count)
 
     # Byte-range locks.
@@ -522,13 +549,23 @@ def report(program, seed, row, way):
         print(f"  # The last step, of the program: {got[:LETTERS]}{' ..' * (len(got) > LETTERS)}")
 
 
+def operations_in(counts):
+    return sum(number for what, number in counts.items() if isinstance(what, tuple))
+
+
+def missing_cases(counts, ids):
+    """The cases of pages that should have come."""
+    is_enough = ids <= IDS and operations_in(counts) >= ENOUGH
+    return [case for case in CASES if is_enough and not counts[case]]
+
+
 def tell(counts, runs, calls):
-    total = sum(number for what, number in counts.items() if isinstance(what, tuple))
+    total = operations_in(counts)
     changes = counts[Opnum.LOCK, Status.OK] + counts[Opnum.LOCKU, Status.OK]
     asked = counts[Opnum.LOCKT, Status.OK] + counts[Opnum.LOCKT, Status.DENIED] + counts[Opnum.LOCK, Status.DENIED]
     print(f"fuzz: {runs} runs of {calls} steps agree with the model: {total} operations on the state, of them "
           f"{changes} changes of ranges and {asked} questions or refusals of them")
-    for what in [*LENT.values(), *WHAT.values(), BACK, AGAIN, YIELDED, NONE_LEFT]:
+    for what in [*LENT.values(), *WHAT.values(), BACK, AGAIN, YIELDED, NONE_LEFT, *CASES]:
         print(f"    {what}: {counts.pop(what, 0)}")
     for (opnum, status), number in sorted(counts.items()):
         print(f"    {opnum.name} {status.name}: {number}")
@@ -554,8 +591,11 @@ def main():
                     return 1
                 counts, runs = counts + answered, runs + 1
             seed = seeds.stop
+    missing = missing_cases(counts, words.ids)
+    if missing:
+        print(f"fuzz: no {', '.join(missing)}, so that the runs show too little")
     tell(counts, runs, words.calls)
-    return 0
+    return 1 if missing else 0
 
 
 if __name__ == "__main__":

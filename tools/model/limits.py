@@ -1,7 +1,8 @@
 #!/usr/bin/env python3
 """limits.py PROGRAM: a built nfs4state at its limits of 16,384 owners, of 65,536 opens, of as many opens and
-delegations together, and of a journal of 1,000,000 entries, each met and passed by one. The journal is that of a client
-which begins anew again and again, and so gets 500,000 numbers.
+delegations together, of 65,536 bytes of a file, and of a journal of 1,000,000 entries, each met and passed by one. The
+bytes are written and read at once, and one by one. The journal is that of a client which begins anew again and again,
+and so gets 500,000 numbers.
 
 What is wanted is written beside each call, since the model would take minutes for so many. lock_limits.py does the same
 with lock owners and lock states."""
@@ -14,8 +15,10 @@ sys.dont_write_bytecode = True
 
 import wire
 from model import JOURNAL_LIMIT, OWNERS_LIMIT, STATES_LIMIT
+from pages import PAGE
 from states import SLOTS, handle_of
-from wire import Opnum, Status, opaque, u32, u64
+from tree import TEXT_LIMIT
+from wire import FILE_SYNC4, Opnum, Status, opaque, u32, u64
 
 # A file more than each owner opens; many files keep the opens of each few.
 FILES = 33
@@ -154,6 +157,42 @@ def delegations_at_their_limit(limit=STATES_LIMIT):
     yield opening(0, 1, files, client=2, number=last + 6, flags=6)
 
 
+def writing(offset, data, status=Status.OK):
+    """By the special stateid of zeros, as the READs."""
+    rest = u32(len(data), FILE_SYNC4, 1, 0) if status == Status.OK else b""
+    words = u32(Opnum.WRITE, 0, 0, 0, 0) + u64(offset) + u32(FILE_SYNC4) + opaque(data)
+    return words, result(Opnum.WRITE, status, rest)
+
+
+def reading(text, offset, count):
+    """So many bytes of a file that has this text."""
+    data = bytes(text[offset:offset + count])
+    return (u32(Opnum.READ, 0, 0, 0, 0) + u64(offset) + u32(count),
+            result(Opnum.READ, rest=u32(offset + count >= len(text)) + opaque(data)))
+
+
+def on_a_file(pairs):
+    """Steps of so many operations as there may be in a COMPOUND beside the PUTFH."""
+    put = u32(Opnum.PUTFH) + opaque(handle_of(1)), result(Opnum.PUTFH)
+    return [[put, *pairs[first:first + 63]] for first in range(0, len(pairs), 63)]
+
+
+def bytes_at_their_limit(limit=TEXT_LIMIT):
+    """They come one by one, and are read; then others at once; and then the first ones again, from the last to the
+    first, where now and then the page of the last one that was written is read."""
+    first, others = (bytes(place % prime for place in range(limit)) for prime in (251, 241))
+    one_by_one = [writing(at, first[at:at + 1]) for at in range(limit)]
+    yield from on_a_file(one_by_one + [reading(first, 0, limit)])
+    yield from on_a_file([reading(first, at, 1) for at in range(limit)])
+    yield from on_a_file([writing(0, others), reading(others, 0, limit)])
+    text, pairs = bytearray(others), []
+    for at in reversed(range(limit)):
+        text[at] = first[at]
+        pairs += [one_by_one[at]] + [reading(text, at - at % PAGE, PAGE)] * (at % 61 == 0)
+    yield from on_a_file(pairs + [reading(first, 0, limit)])
+    yield from on_a_file([writing(limit, b"x", Status.FBIG)])
+
+
 def journal_at_its_limit(limit=JOURNAL_LIMIT):
     """The client gets the next number of that of the slots 1 and 2 which it hasn't."""
     for turn in range(limit // 2):
@@ -206,7 +245,7 @@ def compare(program, name, steps, document=TREE):
 def main(program):
     sides = (("owners", owners_at_their_limit(), TREE), ("opens", opens_at_their_limit(), TREE),
              ("opens and delegations", delegations_at_their_limit(), LENDING),
-             ("the journal", journal_at_its_limit(), TREE))
+             ("the bytes of a file", bytes_at_their_limit(), TREE), ("the journal", journal_at_its_limit(), TREE))
     agree = [compare(program, *side)[0] for side in sides]
     return 0 if all(agree) else 1
 
