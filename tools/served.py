@@ -160,6 +160,14 @@ class Peer:
         self.rest = self.rest[len(found[0]):]
         return found[0]
 
+    def receive_each(self, seconds=REPLY_PATIENCE):
+        """The records that come, each looked at once, however many there are together."""
+        is_more = True
+        while is_more:
+            found, self.rest = split(self.rest)
+            yield from found
+            is_more = self.take_more(seconds)
+
     def receive_all(self, seconds=REPLY_PATIENCE):
         """All that comes up to the end of the connection."""
         while self.take_more(seconds):
