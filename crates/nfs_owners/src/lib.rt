@@ -30,7 +30,7 @@ pub use client_laws::{
 pub use client_record::{ClientRecord, ClientState, PathMark};
 pub use client_ref::ClientRef;
 pub use clients::{ClientChange, Clients};
-pub use kept::{Kept, KeptRequest, Verdict};
+pub use kept::{KeptCall, KeptSummary, Verdict};
 pub use limits::limits_of_owners;
 pub use live_change::LiveChange;
 pub use numbers::{Numbers, numbers_rise};

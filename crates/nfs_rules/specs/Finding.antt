@@ -1,6 +1,6 @@
 -- What the functions that look up a stateid and an owner return, as the rules speak of it; used only in the contracts
 -- of this crate's own functions.
-use Rattle.std.specs.Prelude.{ℕ, Option, Some, None, option_map, Result, Ok, Err}
+use Rattle.std.specs.Prelude.{◌≡◌, ℕ, Option, Some, None, option_map, Result, Ok, Err}
 use Rattle.std.specs.Option.{option_copied}
 use Rattle.nfs_locks.specs.AllLocks.{LockAt}
 use Rattle.nfs_locks.specs.LockFound.{lock_found_seen}
@@ -26,10 +26,14 @@ use Rattle.nfs_rules.specs.Stateids.{as_delegation, as_lock, as_open, verdict_on
 use Rattle.nfs_rules.specs.declared.demand.Demand.{Demand}
 use Rattle.nfs_rules.specs.operations.Lock as lock
 use Rattle.nfs_share.specs.AllOpens.{DelegationAt, OpenAt}
-use Rattle.nfs_state.specs.State.{State}
+use Rattle.nfs_state.specs.Kept.{kept_at}
+use Rattle.nfs_state.specs.State.{State, History}
 use Rattle.nfs_forms.specs.declared.stateid.Stateid.{Stateid}
 use Rattle.nfs_forms.specs.declared.status.Refusal.{Refusal}
 use Rattle.nfs_forms.specs.declared.status.Refusal.TheVariants as refusals
+use Rattle.nfs_owners.specs.Kept.{Kept, request_of}
+use Rattle.nfs_owners.specs.declared.kept.KeptCall.{KeptCall}
+use Rattle.nfs_owners.specs.declared.state_owner.OwnerKind.{OwnerKind}
 use Rattle.nfs_owners.specs.StateOwner.{owner_seen}
 use Rattle.nfs_owners.specs.declared.state_owner.StateOwner.{StateOwner}
 
@@ -105,3 +109,15 @@ stored_or_bad seqid (Some name) = sequences.Owner name seqid
 abbrev pub sequence_seen : SequenceStep → sequences.SequenceStep
 sequence_seen (found_sequences.Answered answer) = sequences.Answered answer
 sequence_seen (found_sequences.GoesOn passage name) = sequences.GoesOn passage (owner_seen name)
+
+-- owners of some kind keep something of the journal's entry with this number
+abbrev pub HasKept : History → ℕ → Type 0
+HasKept journal number =
+    (kind : OwnerKind) × (kept : Kept) × (kept_at journal kind number ≡ Some kept)
+
+-- the request and the answer that owners of each kind keep of the journal's entry with this number
+abbrev pub IsKeptCall : History → ℕ → KeptCall → Type 0
+IsKeptCall journal number call =
+    (kind : OwnerKind) (kept : Kept) → kept_at journal kind number ≡ Some kept
+    → (kept.request ≡ request_of call.op.now call.filehandle)
+    × (kept.answer ≡ call.answer.now)
