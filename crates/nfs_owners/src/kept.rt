@@ -55,7 +55,8 @@ impl KeptSummary {
         op: &Op,
         filehandle: Option<u32>,
     ) -> Verdict<'a>
-        ensures { IsVerdict (kept_seen self.now kept.entry) seqid (request_of op.now filehandle) result }
+        ensures { IsVerdict (kept_seen self.now kept.entry) seqid
+            (request_of op.now filehandle) result }
     {
         if self.precedes(seqid) {
             Verdict::New
