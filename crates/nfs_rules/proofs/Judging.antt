@@ -30,13 +30,13 @@ of_known false kept name seqid request (verdicts.Replay answer) is = (verdicts.R
 abbrev kept_by : History → Option Owner → Option Kept
 kept_by journal found = option_and_then (λ o. kept_for journal (known_owner o)) found
 
+none_some : (kept : Kept) → None ≡ Some kept → ⊥
+none_some kept same = cc
+
 -- the rules take this step
 of_owner : (journal : History) (stored : Stored) (name : StateOwner) (seqid : ℕ) (request : Request) (o : Owner) (kept : Option Kept) (verdict : Option Verdict) → IsKeptIn journal o → owners.owner_of name stored.owners ≡ Some o → kept_for journal (known_owner o) ≡ kept → IsJudged kept seqid (request_of request.op request.filehandle) verdict
     → IsSequence journal (meaning stored) (sequences.Owner name seqid) request (step_by (is_open request.op && is_unconfirmed (Some o)) name request.op verdict)
 of_owner journal stored name seqid request o None verdict is there keeps judged = absurd (none_some is.kept (sym keeps ∙ is.entry))
-  where
-    none_some : (k : Kept) → None ≡ Some k → ⊥
-    none_some k same = cc
 of_owner journal stored name seqid request o (Some kept) None is there keeps judged = absurd judged
 of_owner journal stored name seqid request o (Some kept) (Some verdict) is there keeps judged =
     let starts_anew = is_open request.op && is_unconfirmed (Some o) in
