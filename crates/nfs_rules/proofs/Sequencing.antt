@@ -4,13 +4,13 @@ use Rattle.std.specs.Prelude.{◌≢◌, ◌&&◌, ◌==◌, not, map, find, opt
 use Rattle.std.specs.List.{AllByRecursion}
 use Rattle.std.specs.Result.{OnErr}
 use Rattle.nfs_rules.specs.Deciding.{HasPassage}
-use Rattle.nfs_state.specs.Entries.{IsSendable}
-use Rattle.nfs_rules.specs.Finding.{HasKept, IsKeptCall, stored_or_bad}
-use Rattle.nfs_state.specs.Kept.{Agrees, IsKeptIn, kept_at, kept_for, kept_in, kept_with}
+use Rattle.nfs_state.specs.Entries.{IsSendable, call_of}
+use Rattle.nfs_rules.specs.Finding.{IsCallAt, call_at, parts_of, parts_seen, stored_or_bad}
+use Rattle.nfs_state.specs.Kept.{Agrees, IsKeptIn, kept_for, kept_in, kept_of, kept_with}
 use Rattle.nfs_state.specs.Owners.{KnownOwner, confirmed_if_known, has_name, is_confirmed, owner_of}
 use Rattle.nfs_rules.specs.declared.passage.Passage.TheVariants as passages
 use Rattle.nfs_state.specs.declared.entry.Call.{Call}
-use Rattle.nfs_state.specs.declared.entry.Entry.TheVariants as entries
+use Rattle.nfs_state.specs.declared.entry.Entry.{Entry}
 use Rattle.nfs_state.specs.declared.request.Request.{Request}
 use Rattle.nfs_state.specs.Room.{is_known}
 use Rattle.nfs_forms.specs.declared.locker.NewLocker.{NewLocker}
@@ -86,23 +86,40 @@ closer_known journal id seqid stored agrees =
     ∙ stored_as_known seqid (find (λ o. summary_closes id.client id.number o.state.kept) stored)
 
 -- what owners keep of an entry is of the call that it records
-pub kept_of_call : (journal : History) (kind : OwnerKind) (number : ℕ) (call : Call) (kept : Kept) → slice_get journal.entries number ≡ Some (entries.Call call) → kept_at journal kind number ≡ Some kept
-    → (kept.request ≡ request_of call.request.op call.request.filehandle) × (kept.answer ≡ call.answer)
-kept_of_call journal kind number call kept there is = by (seqid_of call.request.op) (sym (ap (λ found. option_map (λ (k : OwnerKind → Kept). k kind) (option_and_then kept_in found)) there) ∙ is)
+kept_parts : (kind : OwnerKind) (found : Option Entry) (kept : Kept) (call : KeptCall) → option_map (λ (k : OwnerKind → Kept). k kind) (option_and_then kept_in found) ≡ Some kept → option_map parts_of (option_and_then call_of found) ≡ Some (parts_seen call)
+    → (kept.request ≡ request_of call.op.now call.filehandle) × (kept.answer ≡ call.answer.now)
+kept_parts kind None kept call is there = absurd cc
+kept_parts kind (Some entry) kept call is there = of_call (call_of entry) is there
   where
     some_kept : (a b : Kept) → Some a ≡ Some b → a ≡ b
     some_kept a b same = cc
 
-    by : (seqid : Option ℕ) → option_map (λ (k : OwnerKind → Kept). k kind) (option_map (kept_with call) seqid) ≡ Some kept → (kept.request ≡ request_of call.request.op call.request.filehandle) × (kept.answer ≡ call.answer)
-    by None is = absurd cc
-    by (Some seqid) is =
-        let same = some_kept (kept_with call seqid kind) kept is in
-        (sym (ap (λ (k : Kept). k.request) same), sym (ap (λ (k : Kept). k.answer) same))
+    some_parts : (a b : KeptRequest × OpResult) → Some a ≡ Some b → a ≡ b
+    some_parts a b same = cc
+
+    of_seqid : (c : Call) (seqid : Option ℕ) → option_map (λ (k : OwnerKind → Kept). k kind) (option_map (kept_with c) seqid) ≡ Some kept → parts_of c ≡ parts_seen call → (kept.request ≡ request_of call.op.now call.filehandle) × (kept.answer ≡ call.answer.now)
+    of_seqid c None is parts = absurd cc
+    of_seqid c (Some seqid) is parts =
+        let same = some_kept (kept_with c seqid kind) kept is in
+        (sym (ap (λ (k : Kept). k.request) same) ∙ ap (λ (p : KeptRequest × OpResult). p.0) parts, sym (ap (λ (k : Kept). k.answer) same) ∙ ap (λ (p : KeptRequest × OpResult). p.1) parts)
+
+    of_call : (c : Option Call) → option_map (λ (k : OwnerKind → Kept). k kind) (option_and_then kept_of c) ≡ Some kept → option_map parts_of c ≡ Some (parts_seen call) → (kept.request ≡ request_of call.op.now call.filehandle) × (kept.answer ≡ call.answer.now)
+    of_call None is there = absurd cc
+    of_call (Some c) is there = of_seqid c (seqid_of c.request.op) is (some_parts (parts_of c) (parts_seen call) there)
+
+-- what is kept of an entry is of a call
+kept_is_call : (kind : OwnerKind) (found : Option Entry) (kept : Kept) → option_map (λ (k : OwnerKind → Kept). k kind) (option_and_then kept_in found) ≡ Some kept → is_some (option_and_then call_of found) ≡ true
+kept_is_call kind None kept is = absurd cc
+kept_is_call kind (Some entry) kept is = of_call (call_of entry) is
+  where
+    of_call : (c : Option Call) → option_map (λ (k : OwnerKind → Kept). k kind) (option_and_then kept_of c) ≡ Some kept → is_some c ≡ true
+    of_call None is = absurd cc
+    of_call (Some c) is = refl
 
 -- what is stored of an owner, and the call that its entry has, are what is kept for it
-pub seen_as_kept : (journal : History) (o : Owner) (call : KeptCall) → (is : IsKeptIn journal o) → IsKeptCall journal o.state.number call → kept_seen o.state.kept call ≡ is.kept
-seen_as_kept journal o call is has =
-    let parts = has o.name.kind is.kept is.entry in
+seen_as_kept : (journal : History) (o : Owner) (call : KeptCall) (is : IsKeptIn journal o) → IsCallAt journal o.state.number call → kept_seen o.state.kept call ≡ is.kept
+seen_as_kept journal o call is there =
+    let parts = kept_parts o.name.kind (slice_get journal.entries o.state.number) is.kept call is.entry there in
     λ i. record { seqid = (ap (λ (s : KeptSummary). s.seqid) is.stored) i; request = sym parts.0 i; answer = sym parts.1 i }
 
 -- The kept request again has the same operation, whose answer can be sent as before.
@@ -207,22 +224,24 @@ no_owner (Some o) is = absurd cc
 pub none_found : (name : StateOwner) (stored : List Owner) → found_state name stored ≡ None → owners.owner_of name stored ≡ None
 none_found name stored is = no_owner (owners.owner_of name stored) is
 
-pub has_kept : (journal : History) (name : StateOwner) (stored : List Owner) (s : OwnerState) → Agrees journal stored → found_state name stored ≡ Some s → HasKept journal s.number
-has_kept journal name stored s agrees found =
-    by_owner (owners.owner_of name stored) s (λ s. HasKept journal s.number)
-    (λ o is. let kept = kept_found journal name stored o agrees is in (o.name.kind, kept.kept, kept.entry)) found
+pub has_call : (journal : History) (name : StateOwner) (stored : List Owner) (s : OwnerState) → Agrees journal stored → found_state name stored ≡ Some s → is_some (call_at journal s.number) ≡ true
+has_call journal name stored s agrees found =
+    by_owner (owners.owner_of name stored) s (λ s. is_some (call_at journal s.number) ≡ true)
+    (λ o is.
+    let kept = kept_found journal name stored o agrees is in
+    kept_is_call o.name.kind (slice_get journal.entries o.state.number) kept.kept kept.entry) found
 
-pub sendable_found : (journal : History) (name : StateOwner) (stored : List Owner) (s : OwnerState) (call : KeptCall) → Agrees journal stored → found_state name stored ≡ Some s → IsKeptCall journal s.number call → IsSendable call.op.now call.answer.now
+pub sendable_found : (journal : History) (name : StateOwner) (stored : List Owner) (s : OwnerState) (call : KeptCall) → Agrees journal stored → found_state name stored ≡ Some s → IsCallAt journal s.number call → IsSendable call.op.now call.answer.now
 sendable_found journal name stored s call agrees found =
-    by_owner (owners.owner_of name stored) s (λ s. IsKeptCall journal s.number call → IsSendable call.op.now call.answer.now)
+    by_owner (owners.owner_of name stored) s (λ s. IsCallAt journal s.number call → IsSendable call.op.now call.answer.now)
     (λ o is has.
     let kept = kept_found journal name stored o agrees is in
     subst (λ (k : Kept). IsSendable k.request.op k.answer) (sym (seen_as_kept journal o call kept has)) kept.sendable) found
 
-pub known_sequence : (journal : History) (name : StateOwner) (stored : List Owner) (s : OwnerState) (call : KeptCall) (seqid : ℕ) (request : Request) (step : SequenceStep) → Agrees journal stored → found_state name stored ≡ Some s → IsKeptCall journal s.number call → IsOfKnown (is_open request.op && not s.confirmed) (kept_seen s.kept call) name seqid request step → IsOfOwner journal (owner_of name (map known_owner stored)) name seqid request step
+pub known_sequence : (journal : History) (name : StateOwner) (stored : List Owner) (s : OwnerState) (call : KeptCall) (seqid : ℕ) (request : Request) (step : SequenceStep) → Agrees journal stored → found_state name stored ≡ Some s → IsCallAt journal s.number call → IsOfKnown (is_open request.op && not s.confirmed) (kept_seen s.kept call) name seqid request step → IsOfOwner journal (owner_of name (map known_owner stored)) name seqid request step
 known_sequence journal name stored s call seqid request step agrees found has is =
     by_owner (owners.owner_of name stored) s
-    (λ s. IsKeptCall journal s.number call → IsOfKnown (is_open request.op && not s.confirmed) (kept_seen s.kept call) name seqid request step → IsOfOwner journal (owner_of name (map known_owner stored)) name seqid request step)
+    (λ s. IsCallAt journal s.number call → IsOfKnown (is_open request.op && not s.confirmed) (kept_seen s.kept call) name seqid request step → IsOfOwner journal (owner_of name (map known_owner stored)) name seqid request step)
     (λ o one has is.
     let kept = kept_found journal name stored o agrees one in
     owner_sequence journal name stored o kept.kept seqid request step kept.entry one (subst (λ (k : Kept). IsOfKnown (is_open request.op && not o.state.confirmed) k name seqid request step) (seen_as_kept journal o call kept has) is)) found has is

@@ -1,5 +1,5 @@
-ghost use Rattle.std.specs.Prelude.{◌≡◌, ◌≢◌, ◌&&◌, not, IfOk, OnErr, find, option_map};
-ghost use Rattle.nfs_rules.specs.Finding.{HasKept, IsKeptCall, found_seen, requester_seen, sequence_seen, stored_or_bad, target_seen};
+ghost use Rattle.std.specs.Prelude.{◌≡◌, ◌≢◌, ◌&&◌, not, IfOk, IsTrue, OnErr, find, is_some, option_map};
+ghost use Rattle.nfs_rules.specs.Finding.{IsCallAt, call_at, found_seen, requester_seen, sequence_seen, stored_or_bad, target_seen};
 ghost use Rattle.nfs_rules.specs.Deciding.{HasAnswer, HasOtherRefusal, HasPassage, IsOther, IsSendableSequence};
 ghost use Rattle.nfs_state.specs.Entries.{IsSendable};
 ghost use Rattle.nfs_state.specs.Kept.{Agrees};
@@ -123,10 +123,10 @@ pub(crate) fn sequence_of<'a>(
     }
 }
 
-// The request that an owner keeps of the journal's entry with this number, and the answer to it.
+// The request that the journal's entry with this number records, and the answer to it.
 fn kept_call(journal: &Journal, number: u32) -> KeptCall<'_>
-    requires { HasKept journal.now.history number }
-    ensures { IsKeptCall journal.now.history number result.entry }
+    requires { IsTrue (is_some (call_at journal.now.history number)) }
+    ensures { IsCallAt journal.now.history number result }
 {
     match journal.entry(number as usize) {
         Some(Entry::Call(call)) => KeptCall {

@@ -7,7 +7,7 @@ use Rattle.nfs_rules.specs.declared.sequence.SequenceStep.{SequenceStep}
 use Rattle.nfs_rules.specs.Finding.{requester_seen, sequence_seen}
 use Rattle.nfs_state.specs.Room.{state_of}
 use Rattle.nfs_rules.specs.Sequences.{Answered, IsSequence}
-use Rattle.nfs_rules.proofs.Sequencing.{has_kept, known_sequence, none_found, passage_known, passage_unknown, sendable_found, unknown_sequence}
+use Rattle.nfs_rules.proofs.Sequencing.{has_call, known_sequence, none_found, passage_known, passage_unknown, sendable_found, unknown_sequence}
 use Rattle.nfs_owners.specs.Kept.{kept_seen}
 use Rattle.nfs_owners.specs.Owner.{owner_of}
 use Rattle.nfs_owners.specs.StateOwner.{owner_seen}
@@ -16,8 +16,8 @@ use Rattle.nfs_rules.proofs.sequence.sequence_of.Goals as goal
 none : (c : goal.After-begin) → owner_of (owner_seen c.in-Owner.name) c.args.store.now.tables.owners.owners ≡ None
 none c = none_found (owner_seen c.in-Owner.name) c.args.store.now.tables.owners.owners (sym c.find.ensures ∙ ap option_copied c.in-None.is)
 
-pub kept_call-requires : goal.kept_call-requires
-kept_call-requires c = has_kept c.args.store.now.journal.history (owner_seen c.in-Owner.name) c.args.store.now.tables.owners.owners c.in-Some.known.now c.requires.kept (sym c.find.ensures ∙ ap option_copied c.in-Some.is)
+pub kept_call-call-requires : goal.kept_call-call-requires
+kept_call-call-requires c = has_call c.args.store.now.journal.history (owner_seen c.in-Owner.name) c.args.store.now.tables.owners.owners c.in-Some.known.now c.requires.kept (sym c.find.ensures ∙ ap option_copied c.in-Some.is)
 
 pub resume-requires : goal.resume-requires
 resume-requires c = sendable_found c.args.store.now.journal.history (owner_seen c.in-Owner.name) c.args.store.now.tables.owners.owners c.in-Some.known.now c.kept_call-call.result c.requires.kept (sym c.find.ensures ∙ ap option_copied c.in-Some.is) c.kept_call-call.ensures
