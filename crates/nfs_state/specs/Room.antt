@@ -1,5 +1,5 @@
 -- What the tables store, and the memory and the numbers that a change of them needs.
-use Rattle.std.specs.Prelude.{◌≡◌, ◌≢◌, ◌<◌, ◌≤◌, ◌+◌, ◌-◌, ◌^◌, ⊤, None, Bool, IsFalse, IsTrue, is_some, length}
+use Rattle.std.specs.Prelude.{◌≢◌, ◌<◌, ◌≤◌, ◌+◌, ◌-◌, ◌^◌, ⊤, None, Bool, IsFalse, IsTrue, is_some, length}
 use Rattle.nfs_state.specs.declared.change.Change.{Change}
 use Rattle.nfs_state.specs.declared.change.Change.TheVariants as changes
 use Rattle.nfs_state.specs.declared.effect.Effect.{Effect}
@@ -90,7 +90,6 @@ IsNewcomer name state = IsFalse (is_known name state) × (length state.owners < 
 -- The entry, for which there is room in the journal, can be committed with this effect without taking memory.
 pub record TakesNoMemory (entry : Entry) (effect : Effect) (tables : Tables) : Type 0 where
   pub call : IsNoCall entry
-  pub kept : kept_in entry ≡ None
   pub owner : HasOwnerRoom effect.owner tables
   pub change : HasRoom effect.change tables
 
