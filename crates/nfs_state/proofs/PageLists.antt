@@ -1,11 +1,11 @@
 -- Lists of pages, and blocks that come in the place of as many bytes.
 use Rattle.std.proofs.Common.{◌≡◌, ℕ, zero, suc, ◌+◌, ◌*◌, ◌-◌, ◌<◌, ◌≤◌, List, [], ◌∷◌, ◌++◌, drop, get_or, length, set, take, refl, sym, ◌∙◌, ap, arith, append_assoc, inl, inr, length-append, length-drop}
 use Rattle.std.specs.Prelude.{min, replicate}
-use Rattle.std.specs.List.{AllByRecursion, concat}
+use Rattle.std.specs.List.{concat}
 use Rattle.std.proofs.Math.Seq.{drop-append-add, take-add, take-append-add}
 use Rattle.std.proofs.lemmas.Bool.{cases_lt}
-use Rattle.std.proofs.lemmas.List.{append-nil, drop-append-le, drop-drop, drop-set, drop_all, drop_min, drop_more, get_or-append_right, get_or-drop, get_or-take, get_or_append_left, length-replicate, length-take, length-take-le, replicate-append-replicate, same_lists, take-append-drop, take-append-le, take-set-le, take-take, take_all, take_at, take_min, take_more}
-use Rattle.nfs_state.specs.Pages.{AreFilledUp, AreWhole, replaced}
+use Rattle.std.proofs.lemmas.List.{append-nil, drop-append-le, drop-drop, drop-set, drop_all, drop_min, drop_more, get_or-append_right, get_or-drop, get_or-take, get_or_append_left, length-replicate, length-take, length-take-le, replicate-append-replicate, same_lists, take-append-drop, take-append-le, take-take, take_all, take_at, take_min, take_more}
+use Rattle.nfs_state.specs.Pages.{AreFilledUp, AreWhole, replaced, zero_page}
 use Rattle.nfs_state.specs.declared.pages.TheConstants.{PAGE_LEN}
 
 -- Bytes in pages
@@ -72,7 +72,12 @@ part_of_page pages n within offset len d are below is short =
     sym (ap (take len) cut ∙ take-append-le len (drop within page) rest (omega (arith, length-drop within page, whole, short)))
 
 -- the zeros of one page more
-pub zeros_more : (old now : List ℕ) → AreFilledUp old now → AreFilledUp old (now ++ replicate PAGE_LEN 0)
+pub length-zero_page : length zero_page ≡ PAGE_LEN
+unfolding zero_page
+length-zero_page = length-replicate {A = ℕ} PAGE_LEN 0
+
+pub zeros_more : (old now : List ℕ) → AreFilledUp old now → AreFilledUp old (now ++ zero_page)
+unfolding zero_page
 zeros_more old now is =
     let many = length now - length old in
     let left : length (replicate {A = ℕ} many 0) ≡ many = length-replicate {A = ℕ} many 0 in

@@ -18,3 +18,7 @@ replaced offset block bytes = take offset bytes ++ block ++ drop (offset + lengt
 -- the bytes, and zeros alone behind them
 abbrev pub AreFilledUp : List ℕ → List ℕ → Type 0
 AreFilledUp bytes all = all ≡ bytes ++ replicate (length all - length bytes) 0
+
+-- a page of zeros alone
+unfoldable pub zero_page : List ℕ
+zero_page = replicate PAGE_LEN 0

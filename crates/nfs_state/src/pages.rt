@@ -1,6 +1,6 @@
-ghost use Rattle.std.specs.Prelude.{◌≡◌, ◌+◌, ◌-◌, ◌*◌, ◌≤◌, ◌<◌, ◌^◌, ◌++◌, [], IfOk, IsOk, OnOk, drop, length, replicate, take};
+ghost use Rattle.std.specs.Prelude.{◌≡◌, ◌+◌, ◌-◌, ◌*◌, ◌≤◌, ◌<◌, ◌^◌, ◌++◌, [], IfOk, IsOk, OnOk, drop, length, take};
 ghost use Rattle.std.specs.List.{concat};
-ghost use Rattle.nfs_state.specs.Pages.{AreFilledUp, AreWhole, page_start, replaced};
+ghost use Rattle.nfs_state.specs.Pages.{AreFilledUp, AreWhole, page_start, replaced, zero_page};
 
 use std::alloc::{AllocError, Global};
 use std::marker::Model;
@@ -43,7 +43,7 @@ impl Pages {
 
     /// Adds pages of zeros until there are so many bytes. What fails adds zeros at most.
     pub(crate) fn grow(&mut self, zeros: &SharedBytes, len: usize) -> Result<(), AllocError>
-        requires { zeros.now ≡ replicate PAGE_LEN 0 }
+        requires { zeros.now ≡ zero_page }
         ensures zeros { AreFilledUp self.old self.new }
         ensures room { OnOk result (len ≤ length self.new) }
     {
@@ -99,15 +99,14 @@ impl Pages {
         ensures { IfOk result (λ page. page
             ≡ take PAGE_LEN (drop (number * PAGE_LEN) (replaced offset block.now self.now))) }
     {
-        let start = number * PAGE_LEN;
+        let (start, page) = (number * PAGE_LEN, self.pages[number].as_slice());
         let (at, from) = (offset.saturating_sub(start), start.saturating_sub(offset));
         let bytes = block.as_slice();
         let len = (PAGE_LEN - at).min(bytes.len() - from);
         if len == PAGE_LEN {
-            block.part(from, len)
-        } else {
-            page_with(&self.pages, number, at, &bytes[from..from + len])
+            return block.part(from, len);
         }
+        page_with(*self.pages.allocator(), page, at, &bytes[from..from + len])
     }
 
     /// Puts these pages in the place of those from that of the offset on.
@@ -120,13 +119,20 @@ impl Pages {
     }
 }
 
+/// A page of zeros alone.
+pub(crate) fn zero_page(alloc: Global) -> Result<SharedBytes, AllocError>
+    ensures { IfOk result (λ page. page ≡ zero_page) }
+{
+    SharedBytes::new(Vec::from_elem(alloc, 0, PAGE_LEN)?)
+}
+
 // Adds pages of zeros until there are so many.
 fn add_zeros(
     pages: &mut Vec<SharedBytes>,
     zeros: &SharedBytes,
     count: usize,
 ) -> Result<(), AllocError>
-    requires { zeros.now ≡ replicate PAGE_LEN 0 }
+    requires { zeros.now ≡ zero_page }
     ensures zeros { AreFilledUp (concat pages.old.items) (concat pages.new.items) }
     ensures whole { AreWhole pages.old.items → AreWhole pages.new.items }
     ensures room { OnOk result (count ≤ length pages.new.items) }
@@ -158,22 +164,14 @@ fn copy_of(
     Ok(bytes)
 }
 
-// A copy of the page with this number, with other bytes in the place of as many of its own.
-fn page_with(
-    pages: &Vec<SharedBytes>,
-    number: usize,
-    at: usize,
-    part: &[u8],
-) -> Result<SharedBytes, AllocError>
-    requires page { number < length pages.now.items }
-    requires whole { AreWhole pages.now.items }
-    requires within { at + length part.now ≤ PAGE_LEN }
-    ensures { IfOk result (λ page. page ≡ replaced at part.now
-        (take PAGE_LEN (drop (number * PAGE_LEN) (concat pages.now.items)))) }
+// A copy of the page, with other bytes in the place of as many of its own.
+fn page_with(alloc: Global, page: &[u8], at: usize, part: &[u8]) -> Result<SharedBytes, AllocError>
+    requires { at + length part.now ≤ length page.now }
+    ensures { IfOk result (λ made. made ≡ replaced at part.now page.now) }
 {
-    let mut page = Vec::from_slice(*pages.allocator(), pages[number].as_slice())?;
-    put_at(&mut page, at, part);
-    SharedBytes::new(page)
+    let mut made = Vec::from_slice(alloc, page)?;
+    put_at(&mut made, at, part);
+    SharedBytes::new(made)
 }
 
 // Writes the block over the bytes from this offset on, as many as it has.

@@ -1,8 +1,7 @@
-ghost use Rattle.std.specs.Prelude.{◌≡◌, ◌↔◌, ◌<◌, ◌≤◌, ◌+◌, ◌-◌, ◌^◌, ◌==◌, ◌++◌, IfOk, IsOk, IsTrue, OnOk, Some, length, replicate};
-ghost use Rattle.nfs_state.specs.declared.pages.TheConstants.{PAGE_LEN};
+ghost use Rattle.std.specs.Prelude.{◌≡◌, ◌↔◌, ◌<◌, ◌≤◌, ◌+◌, ◌-◌, ◌^◌, ◌==◌, ◌++◌, IfOk, IsOk, IsTrue, OnOk, Some, length};
 ghost use Rattle.nfs_tree.specs.declared.tree.TheConstants.{TEXT_LIMIT};
 ghost use Rattle.nfs_state.specs.Files.{after_write, first_file, read_of};
-ghost use Rattle.nfs_state.specs.Pages.{AreFilledUp, page_start, replaced};
+ghost use Rattle.nfs_state.specs.Pages.{AreFilledUp, page_start, replaced, zero_page};
 
 use crate::pages::Pages;
 use nfs_tree::TEXT_LIMIT;
@@ -55,7 +54,7 @@ impl StoredFile {
         node: u32,
         text: &[u8],
     ) -> Result<StoredFile, AllocError>
-        requires { zeros.now ≡ replicate PAGE_LEN 0 }
+        requires { zeros.now ≡ zero_page }
         ensures { IfOk result (λ f. f.file ≡ first_file node text.now) }
     {
         Ok(StoredFile {
@@ -126,7 +125,7 @@ impl StoredFile {
         offset: usize,
         block: &SharedBytes,
     ) -> Result<(), AllocError>
-        requires zeros { zeros.now ≡ replicate PAGE_LEN 0 }
+        requires zeros { zeros.now ≡ zero_page }
         requires limit { offset + length block.now ≤ TEXT_LIMIT }
         ensures same { self.new.file ≡ self.old.file }
         ensures room { OnOk result (self.new.ready ≡ Some (offset, block.now)) }
@@ -157,7 +156,7 @@ impl StoredFile {
 
 // The text in pages, and zeros behind it.
 fn pages_of(alloc: Global, zeros: &SharedBytes, text: &[u8]) -> Result<Pages, AllocError>
-    requires { zeros.now ≡ replicate PAGE_LEN 0 }
+    requires { zeros.now ≡ zero_page }
     ensures { IfOk result (λ pages. AreFilledUp text.now pages) }
 {
     let text = SharedBytes::copy_of(alloc, text)?;
@@ -175,7 +174,7 @@ fn prepare(
     offset: usize,
     block: &SharedBytes,
 ) -> Result<ReadyWrite, AllocError>
-    requires zeros { zeros.now ≡ replicate PAGE_LEN 0 }
+    requires zeros { zeros.now ≡ zero_page }
     requires limit { offset + length block.now ≤ TEXT_LIMIT }
     ensures zeros { AreFilledUp pages.old pages.new }
     ensures write { IfOk result (λ w. (w.offset ≡ offset) × (w.block ≡ block.now)) }

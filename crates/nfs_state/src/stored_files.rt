@@ -1,12 +1,12 @@
-ghost use Rattle.std.specs.Prelude.{◌≡◌, ◌≤◌, ◌+◌, [], IfOk, IsOk, OnOk, find, length, option_map, replicate, if◌then◌else◌, ◌==◌, ◌<◌, ◌^◌, ◌-◌, ◌≢◌};
+ghost use Rattle.std.specs.Prelude.{◌≡◌, ◌≤◌, ◌+◌, [], IfOk, IsOk, OnOk, find, length, option_map, if◌then◌else◌, ◌==◌, ◌<◌, ◌^◌, ◌-◌, ◌≢◌};
 ghost use Rattle.std.specs.Option.{option_copied};
 ghost use Rattle.nfs_state.specs.Files.{CanChange, HasFileRoom, HasRoomIn, after_write, bytes_of, file_of, files_in, read_of, with_bytes};
+ghost use Rattle.nfs_state.specs.Pages.{zero_page};
 ghost use Rattle.nfs_state.specs.State.{initial_files};
-ghost use Rattle.nfs_state.specs.declared.pages.TheConstants.{PAGE_LEN};
 ghost use Rattle.nfs_tree.specs.declared.tree.TheConstants.{TEXT_LIMIT};
 
 use crate::StoredFile;
-use crate::pages::PAGE_LEN;
+use crate::pages::zero_page;
 use nfs_tree::Tree;
 use std::alloc::{AllocError, Global};
 use std::marker::Model;
@@ -21,16 +21,15 @@ pub struct StoredFiles {
 }
 
 impl Model for StoredFiles {
-    ghost use Rattle.std.specs.Prelude.{◌≡◌, List, replicate};
+    ghost use Rattle.std.specs.Prelude.{◌≡◌, List};
     ghost use Rattle.nfs_state.specs.Files.{RoomyFile};
-    ghost use Rattle.nfs_state.specs.State.{initial_files};
-    ghost use Rattle.nfs_state.specs.declared.pages.TheConstants.{PAGE_LEN};
+    ghost use Rattle.nfs_state.specs.Pages.{zero_page};
 
     ghost Value = { List RoomyFile };
 
     ghost view = { λ f. f.files.items };
 
-    ghost invariant = { λ f. f.zeros ≡ replicate PAGE_LEN 0 };
+    ghost invariant = { λ f. f.zeros ≡ zero_page };
 }
 
 impl StoredFiles {
@@ -38,13 +37,8 @@ impl StoredFiles {
     pub(crate) fn of_tree(alloc: Global, tree: &Tree) -> Result<StoredFiles, AllocError>
         ensures { IfOk result (λ f. files_in f ≡ initial_files tree.now.nodes) }
     {
-        let zeros = SharedBytes::new(Vec::from_elem(alloc, 0, PAGE_LEN)?)?;
-        let mut files = Vec::new(alloc);
-        for node in 0..tree.len() {
-            if let Some(text) = tree.text(node) {
-                files.push(StoredFile::new(alloc, &zeros, node, text)?)?;
-            }
-        }
+        let zeros = zero_page(alloc)?;
+        let files = files_of(alloc, &zeros, tree)?;
         Ok(StoredFiles { files, zeros })
     }
 
@@ -110,6 +104,20 @@ impl StoredFiles {
     }
 }
 
+// The files of the tree, with the texts that the tree gives them.
+fn files_of(alloc: Global, zeros: &SharedBytes, tree: &Tree) -> Result<Vec<StoredFile>, AllocError>
+    requires { zeros.now ≡ zero_page }
+    ensures { IfOk result (λ files. files_in files.items ≡ initial_files tree.now.nodes) }
+{
+    let mut files = Vec::new(alloc);
+    for node in 0..tree.len() {
+        if let Some(text) = tree.text(node) {
+            files.push(StoredFile::new(alloc, zeros, node, text)?)?;
+        }
+    }
+    Ok(files)
+}
+
 fn reserve_in(
     files: &mut [StoredFile],
     zeros: &SharedBytes,
@@ -117,7 +125,7 @@ fn reserve_in(
     offset: usize,
     block: &SharedBytes,
 ) -> Result<(), AllocError>
-    requires zeros { zeros.now ≡ replicate PAGE_LEN 0 }
+    requires zeros { zeros.now ≡ zero_page }
     requires limit { offset + length block.now ≤ TEXT_LIMIT }
     ensures same { files_in files.new ≡ files_in files.old }
     ensures room { OnOk result (HasFileRoom node offset block.now files.new) }
@@ -136,7 +144,7 @@ fn reserve_one(
     offset: usize,
     block: &SharedBytes,
 ) -> Result<(), AllocError>
-    requires zeros { zeros.now ≡ replicate PAGE_LEN 0 }
+    requires zeros { zeros.now ≡ zero_page }
     requires limit { offset + length block.now ≤ TEXT_LIMIT }
     ensures same { file.new.file ≡ file.old.file }
     ensures room { OnOk result (HasRoomIn node offset block.now file.new) }

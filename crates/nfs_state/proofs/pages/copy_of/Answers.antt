@@ -1,4 +1,4 @@
-use Rattle.std.proofs.Common.{◌≡◌, ◌+◌, ◌-◌, ◌++◌, ◌∙◌, List, ℕ, ap, arith, drop, get_or, length, length-append, rules, sym, take}
+use Rattle.std.proofs.Common.{◌≡◌, ◌+◌, ◌-◌, ◌++◌, ◌∙◌, List, ℕ, ap, arith, drop, length, length-append, rules, sym, take}
 use Rattle.std.specs.Prelude.{min}
 use Rattle.std.specs.List.{concat}
 use Rattle.nfs_state.proofs.PageLists.{concat_more, copied_more}

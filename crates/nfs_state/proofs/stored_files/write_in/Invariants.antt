@@ -1,4 +1,4 @@
-use Rattle.std.proofs.Common.{◌≡◌, ◌+◌, ◌++◌, ◌<◌, drop, length, map, take}
+use Rattle.std.proofs.Common.{◌≡◌, ◌++◌, ◌<◌, drop, map, take}
 use Rattle.std.specs.Prelude.{◌==◌, ◌-◌, ◌^◌, if◌then◌else◌}
 use Rattle.std.specs.List.{AllByRecursion}
 use Rattle.nfs_state.specs.Files.{HasRoomIn, after_write, files_in}

@@ -1,4 +1,4 @@
-use Rattle.std.proofs.Common.{◌≡◌, ◌∷◌, ◌+◌, ◌-◌, ◌*◌, ◌/◌, ◌<◌, ◌≤◌, ◌++◌, ◌∙◌, List, [], ℕ, ap, arith, drop, length, rules, subst, sym, take}
+use Rattle.std.proofs.Common.{◌≡◌, ◌∷◌, ◌+◌, ◌-◌, ◌*◌, ◌/◌, ◌≤◌, ◌++◌, ◌∙◌, List, [], ℕ, ap, arith, drop, length, rules, subst, sym, take}
 use Rattle.std.specs.List.{concat}
 use Rattle.std.proofs.lemmas.List.{length-drop, length-take-le}
 use Rattle.nfs_state.specs.Pages.{AreWhole, replaced}

@@ -1,4 +1,4 @@
-use Rattle.std.proofs.Common.{◌≡◌, ◌+◌, ◌*◌, ◌/◌, ◌%◌, ◌<◌, ◌≤◌, ◌∙◌, List, ℕ, ap, arith, drop, length, subst, sym, take}
+use Rattle.std.proofs.Common.{◌≡◌, ◌/◌, ◌%◌, ◌<◌, ◌∙◌, List, ℕ, ap, arith, drop, length, subst, take}
 use Rattle.std.specs.Prelude.{IfOk}
 use Rattle.nfs_state.specs.declared.pages.TheConstants.{PAGE_LEN}
 use Rattle.nfs_state.proofs.PageLists.{length-concat, part_of_page, whole_at}

@@ -1,4 +1,4 @@
-use Rattle.std.proofs.Common.{◌≡◌, ◌∙◌, ap, arith, length, sym}
+use Rattle.std.proofs.Common.{◌∙◌, ap, arith, length, sym}
 use Rattle.nfs_state.specs.Pages.{page_start, replaced}
 use Rattle.nfs_state.proofs.FileChanges.{grown}
 use Rattle.nfs_state.proofs.stored_file.StoredFile.reserve.Goals as goal

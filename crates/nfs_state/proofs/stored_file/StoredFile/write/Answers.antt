@@ -1,4 +1,4 @@
-use Rattle.std.proofs.Common.{◌≡◌, ◌+◌, ◌∙◌, ◌≤◌, List, [], Option, Some, None, ℕ, ap, arith, length, refl, subst, sym, take}
+use Rattle.std.proofs.Common.{◌≡◌, ◌+◌, ◌∙◌, ◌≤◌, List, [], Option, Some, None, ℕ, ap, arith, length, subst, sym, take}
 use Rattle.std.specs.Prelude.{IfSome, max, option_map}
 use Rattle.nfs_state.specs.Files.{FileState, RoomyFile, after_write, written}
 use Rattle.nfs_state.specs.Pages.{AreFilledUp, page_start, replaced}
