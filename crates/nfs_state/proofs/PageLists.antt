@@ -76,18 +76,25 @@ pub length-zero_page : length zero_page ≡ PAGE_LEN
 unfolding zero_page
 length-zero_page = length-replicate {A = ℕ} PAGE_LEN 0
 
+zeros_count : (old now : List ℕ) → AreFilledUp old now → length now - length old + PAGE_LEN ≡ length (now ++ zero_page) - length old
+zeros_count old now is =
+    omega (
+      arith,
+      length-append now zero_page,
+      length-zero_page,
+      ap length is,
+      length-append old (replicate {A = ℕ} (length now - length old) 0),
+      length-replicate {A = ℕ} (length now - length old) 0,
+    )
+
 pub zeros_more : (old now : List ℕ) → AreFilledUp old now → AreFilledUp old (now ++ zero_page)
 unfolding zero_page
 zeros_more old now is =
     let many = length now - length old in
-    let left : length (replicate {A = ℕ} many 0) ≡ many = length-replicate {A = ℕ} many 0 in
-    let more : length (replicate {A = ℕ} PAGE_LEN 0) ≡ PAGE_LEN = length-replicate {A = ℕ} PAGE_LEN 0 in
-    let sum : many + PAGE_LEN ≡ length (now ++ replicate {A = ℕ} PAGE_LEN 0) - length old =
-    omega (arith, length-append now (replicate {A = ℕ} PAGE_LEN 0), more, ap length is, length-append old (replicate {A = ℕ} many 0), left) in
     ap (λ (xs : List ℕ). xs ++ replicate PAGE_LEN 0) is
     ∙ append_assoc old (replicate many 0) (replicate PAGE_LEN 0)
     ∙ ap (λ (xs : List ℕ). old ++ xs) (replicate-append-replicate many PAGE_LEN 0)
-    ∙ ap (λ k. old ++ replicate {A = ℕ} k 0) sum
+    ∙ ap (λ k. old ++ replicate {A = ℕ} k 0) (zeros_count old now is)
 
 -- A copy out of pages
 
