@@ -61,18 +61,19 @@ filled_fits bytes all is =
 pub filled_again : (bytes all : List ℕ) (size : ℕ) → AreFilledUp bytes all → length bytes ≡ size → AreFilledUp (take size all) all
 filled_again bytes all size is same = subst (λ xs. AreFilledUp xs all) (sym (filled_front bytes all size is same)) is
 
+sum_of_both : (few some many : ℕ) → few ≤ some → some ≤ many → some - few + (many - some) ≡ many - few
+sum_of_both few some many below above = omega (arith, below, above)
+
 -- zeros behind zeros
 pub filled_more : (bytes old now : List ℕ) → AreFilledUp bytes old → length bytes ≤ length old → AreFilledUp old now → AreFilledUp bytes now
 filled_more bytes old now is few more =
     let left = length old - length bytes in
     let added = length now - length old in
-    let fits = filled_fits old now more in
-    let sum : left + added ≡ length now - length bytes = omega (arith, few, fits) in
     more
     ∙ ap (λ (xs : List ℕ). xs ++ replicate added 0) is
     ∙ append_assoc bytes (replicate left 0) (replicate added 0)
     ∙ ap (λ (xs : List ℕ). bytes ++ xs) (replicate-append-replicate left added 0)
-    ∙ ap (λ k. bytes ++ replicate {A = ℕ} k 0) sum
+    ∙ ap (λ k. bytes ++ replicate {A = ℕ} k 0) (sum_of_both (length bytes) (length old) (length now) few (filled_fits old now more))
 
 -- a file whose pages have more zeros behind them
 pub grown : (size : ℕ) (old new : List ℕ) → AreFilledUp (take size old) old → size ≤ length old → AreFilledUp old new
