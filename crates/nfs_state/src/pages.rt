@@ -1,4 +1,4 @@
-ghost use Rattle.std.specs.Prelude.{◌≡◌, ◌+◌, ◌-◌, ◌*◌, ◌≤◌, ◌<◌, ◌^◌, ◌++◌, [], IfOk, IsOk, OnOk, drop, length, take};
+ghost use Rattle.std.specs.Prelude.{◌≡◌, ◌+◌, ◌-◌, ◌*◌, ◌≤◌, ◌<◌, ◌^◌, ◌++◌, [], IfOk, OnOk, drop, length, take};
 ghost use Rattle.std.specs.List.{concat};
 ghost use Rattle.nfs_state.specs.Pages.{AreFilledUp, AreWhole, page_start, replaced, zero_page};
 
