@@ -50,8 +50,7 @@ HasRoom (changes.Opens node owner share lent) tables =
     HasRoomAt node tables.opens × (lent ≢ None → HasLendingRoomAt node tables.opens)
 HasRoom (changes.Begins node first) tables = HasLockRoomAt node tables.locks
 HasRoom (changes.Locks node number change) tables = locks.HasRoomFor node number tables.locks
-HasRoom (changes.Writes node offset bytes) tables =
-    HasFileRoom node (offset + length bytes) tables.files
+HasRoom (changes.Writes node offset bytes) tables = HasFileRoom node offset bytes tables.files
 HasRoom change tables = ⊤
 
 -- what the entry means for an owner takes no memory

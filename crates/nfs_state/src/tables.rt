@@ -168,10 +168,7 @@ impl Tables {
                 node,
                 offset,
                 bytes,
-            } => {
-                let len = bytes.as_slice().len();
-                self.files.reserve(*node, *offset as usize + len)?
-            }
+            } => self.files.reserve(*node, *offset, bytes)?,
             Change::Nothing
             | Change::Confirms { .. }
             | Change::Downgrades { .. }
@@ -308,7 +305,7 @@ impl Tables {
                 node,
                 offset,
                 bytes,
-            } => self.files.write(node, offset, bytes.as_slice()),
+            } => self.files.write(node, offset, &bytes),
             Change::MarksPath { client, path } => self.clients.mark(client, path),
             Change::Confirms {
                 node,
