@@ -1,14 +1,17 @@
 -- Answering calls in batches: what is answered so far, one more call, and records that are left.
 use Rattle.std.proofs.Common.{◌≡◌, ℕ, ◌+◌, ◌<◌, ◌≤◌, true, List, [], ◌∷◌, ◌++◌, length, refl, sym, ap, subst, ◌∙◌, append_assoc, arith}
 use Rattle.std.specs.Prelude.{◌≢◌, Result, Ok, Err, OnErr}
+use Rattle.std.specs.List.{flat_map}
 use Rattle.std.proofs.lemmas.List.{append-nil}
+use Rattle.std.proofs.lemmas.List.Concat.{flat_map-cons}
+use Rattle.std.proofs.lemmas.Grind.{flat_map-append}
 use Rattle.nfs_rpc.specs.Records.{Stream}
 use Rattle.nfs_rpc.specs.RpcCall.{HasFewOperations, IsCallWithinLimits}
 use Rattle.nfs_rpc.specs.declared.records.TheConstants.{RECORD_LIMIT}
 use Rattle.nfs_rpc.specs.declared.rpc_call.RpcCall.{RpcCall}
 use Rattle.nfs_rpc.specs.declared.rpc_call.RpcCall.TheVariants as calls
 use Rattle.nfs_server.specs.Answering.{operations_of}
-use Rattle.nfs_server.specs.Batch.{AreAnswered, Gathering, gathering, goes_on, messages_in, questions_in}
+use Rattle.nfs_server.specs.Batch.{AreAnswered, Gathering, gathering, goes_on, messages_in, questions_in, waiting_bytes}
 use Rattle.nfs_server.specs.PendingCall.{PendingView}
 use Rattle.nfs_server.specs.declared.replies.TheConstants.{BATCH_QUESTIONS, GATHER_LIMIT}
 use Rattle.nfs_server.specs.Connection.{Scene, scene}
@@ -28,6 +31,21 @@ within_limits len (calls.Null xid) le within = within
 within_limits len (calls.Compound xid principal c) le within = (omega (arith, le, within.0), within.1)
 within_limits len (calls.Answer xid reply) le within = within
 
+-- the reply to one more call waits
+pub waiting-more : (gathered : List ℕ) (answered : List (List ℕ)) (reply : List ℕ) → waiting_bytes gathered (answered ++ reply ∷ []) ≡ waiting_bytes gathered answered ++ reply
+waiting-more gathered answered reply =
+    ap (λ (w : List ℕ). gathered ++ w) (flat_map-append (λ (r : List ℕ). r) answered (reply ∷ []) ∙ ap (λ (w : List ℕ). flat_map (λ (r : List ℕ). r) answered ++ w) (flat_map-cons (λ (r : List ℕ). r) reply [] ∙ append-nil reply))
+    ∙ sym (append_assoc gathered (flat_map (λ (r : List ℕ). r) answered) reply)
+
+-- where no call was answered, only what was gathered waits
+pub waiting-none : (gathered : List ℕ) (answered : List (List ℕ)) → answered ≡ [] → waiting_bytes gathered answered ≡ gathered
+waiting-none gathered answered none = ap (λ (a : List (List ℕ)). waiting_bytes gathered a) none ∙ append-nil gathered
+
+-- the first of the calls that were answered is written
+pub waiting-written : (gathered reply : List ℕ) (answered : List (List ℕ)) → waiting_bytes (gathered ++ reply) answered ≡ waiting_bytes gathered (reply ∷ answered)
+waiting-written gathered reply answered =
+    append_assoc gathered reply (flat_map (λ (r : List ℕ). r) answered) ∙ ap (λ (w : List ℕ). gathered ++ w) (sym (flat_map-cons (λ (r : List ℕ). r) reply answered))
+
 -- nothing was answered yet
 pub answered_none : {S C : Type 0} (rules : Rules S C) (now : Gathering S C) → AreAnswered rules now [] now
 answered_none rules now = record {
@@ -44,11 +62,11 @@ reached : {S C : Type 0} (rules : Rules S C) (before after : Gathering S C) (a :
 reached {S = S} rules before after a = subst (λ (s : S). AreExchanged rules before.service before.clock a.exchanges s after.clock) (sym a.stays) a.exchanged
 
 -- one more call was answered
-pub answered_more : {S C : Type 0} (rules : Rules S C) (before mid after : Gathering S C) (message : List ℕ)
-    → AreAnswered rules before [] mid → mid.left ≡ message ∷ after.left
-    → IsAnswered rules mid.service mid.clock message mid.gathered after.gathered after.service after.clock
+pub answered_more : {S C : Type 0} (rules : Rules S C) (before mid after : Gathering S C) (message bytes : List ℕ)
+    → AreAnswered rules before [] mid → mid.left ≡ message ∷ after.left → after.gathered ≡ mid.gathered ++ bytes
+    → IsAnswered rules mid.service mid.clock message bytes after.service after.clock
     → AreAnswered rules before [] after
-answered_more rules before mid after message a first one =
+answered_more rules before mid after message bytes a first more one =
     let e = one.0 in
     record {
       exchanges = a.exchanges ++ e ∷ [];
@@ -56,7 +74,7 @@ answered_more rules before mid after message a first one =
       served = a.served ∙ ap (λ (l : List (List ℕ)). messages_of a.exchanges ++ l) (first ∙ ap (λ (m : List ℕ). m ∷ after.left) (sym one.1)) ∙ messages-more a.exchanges e after.left;
       exchanged = exchanged_more rules a.exchanges e before.service mid.service after.service before.clock mid.clock after.clock (reached rules before mid a) one.2;
       stays = refl;
-      written = one.3 ∙ ap (λ (g : List ℕ). g ++ written_for rules.tree e) a.written ∙ append_assoc before.gathered (written_for_all rules.tree a.exchanges) (written_for rules.tree e)
+      written = more ∙ ap (λ (b : List ℕ). mid.gathered ++ b) one.3 ∙ ap (λ (g : List ℕ). g ++ written_for rules.tree e) a.written ∙ append_assoc before.gathered (written_for_all rules.tree a.exchanges) (written_for rules.tree e)
           ∙ ap (λ (w : List ℕ). before.gathered ++ w) (sym (written-more rules.tree a.exchanges e));
     }
 
