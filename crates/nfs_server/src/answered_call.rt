@@ -1,7 +1,7 @@
 ghost use Rattle.std.specs.Prelude.{◌≡◌, ◌+◌, ◌^◌, ◌++◌, ◌<◌, ◌≤◌, [], ℕ, IfOk, OnErr, length, vec_capacity};
 ghost use Rattle.nfs_rpc.specs.Reply.{IsWritable, written_record, written_reply};
-ghost use Rattle.nfs_rpc.specs.RpcCall.{IsShortReply};
 ghost use Rattle.nfs_rpc.specs.declared.records.TheConstants.{RECORD_LIMIT};
+ghost use Rattle.nfs_rpc.specs.declared.reply.TheConstants.{SHORT_REPLY_LEN};
 ghost use Rattle.nfs_server.specs.Exchange.{Exchange, IsExchanged, rules, written_for};
 ghost use Rattle.nfs_server.specs.declared.answered_call.TheConstants.{REPLY_LIMIT};
 
@@ -64,20 +64,19 @@ impl AnsweredCall {
     {
         let (message, call, results) = pending.into_parts();
         match call {
-            RpcCall::Silent => Ok(AnsweredCall::silent(message)),
-            RpcCall::Null(xid) => Ok(AnsweredCall::short(message, xid, Reply::Null)),
-            RpcCall::Answer(xid, reply) => Ok(AnsweredCall::short(message, xid, reply)),
+            RpcCall::Silent => Ok(AnsweredCall::without_reply(message)),
+            RpcCall::Null(xid) => Ok(AnsweredCall::with_short_reply(message, xid, Reply::Null)),
+            RpcCall::Answer(xid, reply) => Ok(AnsweredCall::with_short_reply(message, xid, reply)),
             RpcCall::Compound(xid, principal, compound) => {
                 service.room(operation_count(&compound.request))?;
                 let moment = clock.now();
                 let answered = run_compound(service, tree, moment, principal, compound, results);
-                Ok(AnsweredCall::compound(message, xid, answered))
+                Ok(AnsweredCall::with_results(message, xid, answered))
             }
         }
     }
 
-    // A call without a reply.
-    fn silent(message: Vec<u8>) -> AnsweredCall
+    fn without_reply(message: Vec<u8>) -> AnsweredCall
         ensures { result ≡ [] }
     {
         AnsweredCall {
@@ -88,9 +87,10 @@ impl AnsweredCall {
         }
     }
 
-    // A call with a reply that needs no service.
-    fn short(message: Vec<u8>, xid: u32, reply: Reply) -> AnsweredCall
-        requires { IsShortReply xid reply }
+    // With a reply that needs no service.
+    fn with_short_reply(message: Vec<u8>, xid: u32, reply: Reply) -> AnsweredCall
+        requires short { length (written_reply xid reply) ≤ SHORT_REPLY_LEN }
+        requires fits { IsWritable xid reply }
         ensures { result ≡ written_record (written_reply xid reply) }
     {
         let len = HEADER_LEN + short_len(&reply);
@@ -102,8 +102,11 @@ impl AnsweredCall {
         }
     }
 
-    // A call of COMPOUND.
-    fn compound(message: Vec<u8>, xid: u32, answered: AnsweredCompound) -> AnsweredCall
+    // With the reply to a COMPOUND.
+    fn with_results(message: Vec<u8>, xid: u32, answered: AnsweredCompound) -> AnsweredCall
+        requires len { answered.len ≡ length (written_reply xid (Reply.Compound answered.reply)) }
+        requires short { answered.len ≤ RECORD_LIMIT }
+        requires fits { IsWritable xid (Reply.Compound answered.reply) }
         ensures { result ≡ written_record (written_reply xid (Reply.Compound answered.reply)) }
     {
         let AnsweredCompound { reply, len, rest } = answered;
@@ -146,7 +149,7 @@ impl AnsweredCall {
 
 // The length of a reply that needs no service.
 fn short_len(reply: &Reply) -> usize
-    requires { (xid : ℕ) × IsShortReply xid reply.now }
+    requires { (xid : ℕ) × (length (written_reply xid reply.now) ≤ SHORT_REPLY_LEN) }
     ensures { (xid : ℕ) → result ≡ length (written_reply xid reply.now) }
 {
     match reply {
@@ -174,7 +177,6 @@ fn put_record(out: &mut Vec<u8>, xid: u32, reply: &Reply, len: usize)
     ensures capacity { vec_capacity out.old ≤ vec_capacity out.new }
 {
     let header = LAST_FRAGMENT + (len - HEADER_LEN) as u32;
-    if write_u32(out, header).is_err() || write_reply(out, xid, reply).is_err() {
-        unreachable!()
-    }
+    write_u32(out, header).unwrap();
+    write_reply(out, xid, reply).unwrap();
 }

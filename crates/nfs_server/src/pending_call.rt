@@ -42,13 +42,7 @@ impl PendingCall {
         ensures { IfOk result (λ pending. pending.message ≡ message.items) }
     {
         let call = read_call(alloc, message.as_slice());
-        let mut results = Vec::new(alloc);
-        if let RpcCall::Compound(_, _, _) = &call {
-            if let Some(list) = lists.pop() {
-                results = list;
-            }
-            make_result_room(&mut results)?;
-        }
+        let results = list_for(alloc, &call, lists)?;
         Ok(PendingCall {
             message,
             call,
@@ -79,5 +73,23 @@ impl PendingCall {
             results,
         } = self;
         (message, call, results)
+    }
+}
+
+// The list for the results of a call, which is one of these if there is one. Only a COMPOUND needs room in it.
+fn list_for(
+    alloc: Global,
+    call: &RpcCall,
+    lists: &mut Vec<Vec<OpResult>>,
+) -> Result<Vec<OpResult>, AllocError>
+    ensures { IfOk result (λ results. HasResultRoom call.now results) }
+{
+    match call {
+        RpcCall::Compound(_, _, _) => {
+            let mut results = lists.pop().unwrap_or(Vec::new(alloc));
+            make_result_room(&mut results)?;
+            Ok(results)
+        }
+        RpcCall::Silent | RpcCall::Null(_) | RpcCall::Answer(_, _) => Ok(Vec::new(alloc)),
     }
 }

@@ -1,6 +1,6 @@
 ghost use Rattle.std.specs.Prelude.{◌≡◌, ◌≢◌, ◌+◌, ◌<◌, ◌≤◌, ◌++◌, [], ℕ, List, false, true, length, vec_capacity, IfOk, OnOk, OnErr};
 ghost use Rattle.std.specs.List.{AllByRecursion};
-ghost use Rattle.std.specs.VecDeque.{deque_capacity};
+ghost use Rattle.std.specs.VecDeque.{deque_capacity, deque_len};
 ghost use Rattle.nfs_server.specs.Batch.{AreAnswered, gathering, goes_on, messages_in, waiting_bytes};
 ghost use Rattle.nfs_server.specs.Exchange.{rules};
 
@@ -64,23 +64,8 @@ impl Replies {
         replies.pending.reserve(BATCH_RECORDS)?;
         replies.answered.reserve(BATCH_RECORDS)?;
         replies.make_room()?;
-        replies.make_lists()?;
+        replies.lists = result_lists(alloc)?;
         Ok(replies)
-    }
-
-    // Makes as many lists of results as there are calls in a batch.
-    fn make_lists(&mut self) -> Result<(), AllocError>
-        ensures pending { self.new.pending ≡ self.old.pending }
-        ensures answered { self.new.answered ≡ self.old.answered }
-        ensures gathered { self.new.gathered ≡ self.old.gathered }
-    {
-        self.lists.reserve(BATCH_RECORDS)?;
-        for _ in 0..BATCH_RECORDS {
-            let mut list = Vec::new(self.alloc);
-            make_result_room(&mut list)?;
-            self.lists.push(list).map_err(|_| AllocError)?;
-        }
-        Ok(())
     }
 
     /// Where memory is taken.
@@ -194,8 +179,8 @@ impl Replies {
         requires within { length self.old.gathered.items ≤ GATHER_LIMIT }
         ensures answered { self.new.answered.items ≡ self.old.answered.items }
         ensures same { self.new.gathered.items ≡ self.old.gathered.items }
-        ensures pending { self.new.pending ≡ self.old.pending }
-        ensures calls { OnOk result (length self.new.answered.items + length self.new.pending.items
+        ensures pending { self.new.pending.items ≡ self.old.pending.items }
+        ensures calls { OnOk result (deque_len self.new.answered + deque_len self.new.pending
             ≤ deque_capacity self.new.answered) }
         ensures bytes { OnOk result (GATHER_ROOM ≤ vec_capacity self.new.gathered) }
     {
@@ -212,7 +197,7 @@ impl Replies {
     ) -> Result<(), AllocError>
         requires within { length self.old.gathered.items ≤ GATHER_LIMIT }
         requires written { self.old.answered.items ≡ [] }
-        requires room { length self.old.answered.items + length self.old.pending.items
+        requires room { deque_len self.old.answered + deque_len self.old.pending
             ≤ deque_capacity self.old.answered }
         requires serves { S.serves service.old ≡ tree.now.nodes }
         ensures ok { OnOk result (AreAnswered (rules tree.now S.gives S.alike C.tells)
@@ -281,4 +266,15 @@ impl Replies {
             }
         }
     }
+}
+
+// As many lists of results as there are calls in a batch.
+fn result_lists(alloc: Global) -> Result<Vec<Vec<OpResult>>, AllocError> {
+    let mut lists = Vec::with_capacity(alloc, BATCH_RECORDS)?;
+    for _ in 0..BATCH_RECORDS {
+        let mut list = Vec::new(alloc);
+        make_result_room(&mut list)?;
+        lists.push(list)?;
+    }
+    Ok(lists)
 }

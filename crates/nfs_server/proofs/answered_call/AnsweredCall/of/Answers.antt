@@ -1,41 +1,37 @@
-use Rattle.std.proofs.Common.{arith}
+use Rattle.std.proofs.Common.{◌≡◌, arith, subst, sym, ◌∙◌}
+use Rattle.nfs_rpc.specs.declared.records.TheConstants.{RECORD_LIMIT}
 use Rattle.nfs_rpc.specs.declared.reply.TheConstants.{ACCEPTED_SUCCESS}
+use Rattle.nfs_rpc.specs.declared.rpc_call.RpcCall.{RpcCall}
+use Rattle.nfs_rpc.specs.RpcCall.{IsCall, IsCallWithinLimits}
 use Rattle.nfs_server.specs.Exchange.{rules}
+use Rattle.nfs_server.specs.PendingCall.{HasResultRoom}
 use Rattle.nfs_server.proofs.Exchanges.{answers_silence, answers_null, answers_alone, answers_compound}
-use Rattle.nfs_server.proofs.Replying.{length_accepted, reply_fits, on_ok, no_err}
-use Rattle.nfs_server.proofs.replies.Replies.answer.Goals as goal
+use Rattle.nfs_server.proofs.Replying.{length_accepted, reply_length}
+use Rattle.nfs_server.proofs.answered_call.AnsweredCall.of.Goals as goal
 
-pub put_record-requires-clause-short : goal.put_record-requires-clause-short
-put_record-requires-clause-short g c = omega (arith, length_accepted c.in-Null.xid ACCEPTED_SUCCESS)
+pub with_short_reply-requires-clause-short : goal.with_short_reply-requires-clause-short
+with_short_reply-requires-clause-short g c = omega (arith, length_accepted c.in-Null.xid ACCEPTED_SUCCESS)
 
-pub put_compound-requires-clause-short : goal.put_compound-requires-clause-short
-put_compound-requires-clause-short g c =
-    omega (arith, reply_fits c.in-Compound.xid c.run_compound-reply.result c.run_compound-reply.ensures.fits)
+pub with_results-requires-clause-len : goal.with_results-requires-clause-len
+with_results-requires-clause-len g c =
+    c.run_compound-answered.ensures.len ∙ sym (reply_length c.in-Compound.xid c.run_compound-answered.result.reply)
 
 pub returns-in-Silent-clause-ok : goal.returns-in-Silent-clause-ok
 returns-in-Silent-clause-ok g c =
-    answers_silence (rules c.args.tree.now g.S.Service.gives g.S.Service.alike g.C.Clock.tells) c.args.service.now c.args.clock.now c.args.pending.message c.args.self.now.gathered.items c.reserve.new.self.items c.in-Silent.ensures.call c.in_ok-reserve.ensures.items
+    let called = subst (λ (k : RpcCall). IsCall c.args.pending.message k) c.in-Silent.is c.into_parts-message.ensures.call in
+    answers_silence (rules c.args.tree.now g.S.Service.gives g.S.Service.alike g.C.Clock.tells) c.args.service.now c.args.clock.now c.args.pending.message c.without_reply.result called c.without_reply.ensures
 
 pub returns-in-Null-clause-ok : goal.returns-in-Null-clause-ok
 returns-in-Null-clause-ok g c =
-    on_ok c.put_record.result _ _
-    (λ written. answers_null (rules c.args.tree.now g.S.Service.gives g.S.Service.alike g.C.Clock.tells) c.args.service.now c.args.clock.now c.args.pending.message c.args.self.now.gathered.items c.put_record.new.out.items c.in-Null.xid c.in-Null.ensures.call (rw (← c.in_ok-reserve.ensures.items) written)) c.put_record.ensures.ok
-
-pub returns-in-Null-clause-err : goal.returns-in-Null-clause-err
-returns-in-Null-clause-err g c =
-    no_err c.put_record.result _ (c.put_record.ensures.room (omega (arith, length_accepted c.in-Null.xid ACCEPTED_SUCCESS, c.in_ok-reserve.ensures.ok)))
+    let called = subst (λ (k : RpcCall). IsCall c.args.pending.message k) c.in-Null.is c.into_parts-message.ensures.call in
+    answers_null (rules c.args.tree.now g.S.Service.gives g.S.Service.alike g.C.Clock.tells) c.args.service.now c.args.clock.now c.args.pending.message c.with_short_reply.result c.in-Null.xid called c.with_short_reply.ensures
 
 pub returns-in-Answer-clause-ok : goal.returns-in-Answer-clause-ok
 returns-in-Answer-clause-ok g c =
-    on_ok c.put_record-in-Answer.result _ _
-    (λ written. answers_alone (rules c.args.tree.now g.S.Service.gives g.S.Service.alike g.C.Clock.tells) c.args.service.now c.args.clock.now c.args.pending.message c.args.self.now.gathered.items c.put_record-in-Answer.new.out.items c.in-Answer.xid c.in-Answer.reply c.in-Answer.ensures.call (rw (← c.in_ok-reserve.ensures.items) written)) c.put_record-in-Answer.ensures.ok
+    let called = subst (λ (k : RpcCall). IsCall c.args.pending.message k) c.in-Answer.is c.into_parts-message.ensures.call in
+    answers_alone (rules c.args.tree.now g.S.Service.gives g.S.Service.alike g.C.Clock.tells) c.args.service.now c.args.clock.now c.args.pending.message c.with_short_reply-in-Answer.result c.in-Answer.xid c.in-Answer.reply called c.with_short_reply-in-Answer.ensures
 
 pub returns-in_ok-room-in-Compound-clause-ok : goal.returns-in_ok-room-in-Compound-clause-ok
 returns-in_ok-room-in-Compound-clause-ok g c =
-    on_ok c.put_compound.result _ _
-    (λ written. answers_compound (rules c.args.tree.now g.S.Service.gives g.S.Service.alike g.C.Clock.tells) c.args.service.now c.room.new.self c.run_compound-reply.new.service c.args.clock.now c.now-moment.new.self c.args.pending.message c.args.self.now.gathered.items c.put_compound.new.self.gathered.items c.in-Compound.xid c.now-moment.result c.in-Compound.principal c.in-Compound.compound c.run_compound-reply.result c.in-Compound.ensures.call c.room.ensures.alike c.now-moment.ensures c.run_compound-reply.ensures.answers (rw (← c.in_ok-reserve.ensures.items) written)) c.put_compound.ensures.ok
-
-pub returns-in_ok-room-in-Compound-clause-err :
-    goal.returns-in_ok-room-in-Compound-clause-err
-returns-in_ok-room-in-Compound-clause-err g c =
-    no_err c.put_compound.result _ (c.put_compound.ensures.room (omega (arith, reply_fits c.in-Compound.xid c.run_compound-reply.result c.run_compound-reply.ensures.fits, c.in_ok-reserve.ensures.ok)))
+    let called = subst (λ (k : RpcCall). IsCall c.args.pending.message k) c.in-Compound.is c.into_parts-message.ensures.call in
+    answers_compound (rules c.args.tree.now g.S.Service.gives g.S.Service.alike g.C.Clock.tells) c.args.service.now c.room.new.self c.run_compound-answered.new.service c.args.clock.now c.now-moment.new.self c.args.pending.message c.with_results.result c.in-Compound.xid c.now-moment.result c.in-Compound.principal c.in-Compound.compound c.run_compound-answered.result.reply called c.room.ensures.alike c.now-moment.ensures c.run_compound-answered.ensures.answers c.with_results.ensures
