@@ -1,4 +1,4 @@
-use Rattle.std.proofs.Common.{◌≡◌, ◌∙◌, ℕ, List, ◌∷◌, ◌++◌, length, ap, refl, sym, subst, true, arith}
+use Rattle.std.proofs.Common.{◌≡◌, ◌∙◌, ℕ, List, [], ◌∷◌, ◌++◌, length, ap, refl, sym, subst, true, arith}
 use Rattle.std.proofs.lemmas.List.{length-append}
 use Rattle.nfs_server.specs.Batch.{AreAnswered, gathering, goes_on, messages_in, waiting_bytes}
 use Rattle.nfs_server.specs.Exchange.{rules}
@@ -14,13 +14,13 @@ loop-self-init g c =
     let first = gathering c.args.service.now c.args.clock.now gathered (messages_in c.args.self.now.pending.items) in
     record {
       answered = subst (λ (w : List ℕ). AreAnswered by first [] (gathering c.args.service.now c.args.clock.now w (messages_in c.args.self.now.pending.items))) (sym none) (answered_none by first);
-      counted = c.len-waiting.ensures ∙ sym (ap (λ (w : List ℕ). length w) none);
-      within = omega (arith, c.requires.within, c.len-waiting.ensures);
+      counted = omega (arith, c.len-waiting.ensures, c.args.self.now.gathered.ok.0, ap (λ (w : List ℕ). length w) none);
+      within = omega (arith, c.requires.within, c.len-waiting.ensures, c.args.self.now.gathered.ok.0);
       room = c.requires.room;
       same = refl;
       few = omega arith;
       fewer = omega arith;
-      first = λ same. (refl, omega (arith, c.requires.within, c.len-waiting.ensures));
+      first = λ same. (refl, omega (arith, c.requires.within, c.len-waiting.ensures, c.args.self.now.gathered.ok.0));
       serves = c.requires.serves;
     }
 
