@@ -1,10 +1,8 @@
-use Rattle.std.proofs.Common.{◌≡◌, arith, subst, sym, ◌∙◌}
-use Rattle.nfs_rpc.specs.declared.records.TheConstants.{RECORD_LIMIT}
+use Rattle.std.proofs.Common.{arith, subst, sym, ◌∙◌}
 use Rattle.nfs_rpc.specs.declared.reply.TheConstants.{ACCEPTED_SUCCESS}
 use Rattle.nfs_rpc.specs.declared.rpc_call.RpcCall.{RpcCall}
-use Rattle.nfs_rpc.specs.RpcCall.{IsCall, IsCallWithinLimits}
+use Rattle.nfs_rpc.specs.RpcCall.{IsCall}
 use Rattle.nfs_server.specs.Exchange.{rules}
-use Rattle.nfs_server.specs.PendingCall.{HasResultRoom}
 use Rattle.nfs_server.proofs.Exchanges.{answers_silence, answers_null, answers_alone, answers_compound}
 use Rattle.nfs_server.proofs.Replying.{length_accepted, reply_length}
 use Rattle.nfs_server.proofs.answered_call.AnsweredCall.of.Goals as goal

@@ -1,4 +1,4 @@
-use Rattle.std.proofs.Common.{◌∙◌, ℕ, List, ap, sym, length, arith}
+use Rattle.std.proofs.Common.{ℕ, List, ap, length, arith}
 use Rattle.nfs_server.specs.Batch.{waiting_bytes}
 use Rattle.nfs_server.proofs.Batching.{waiting-length}
 use Rattle.nfs_server.proofs.replies.Replies.write_answered.Goals as goal
