@@ -7,7 +7,7 @@ use Rattle.nfs_core.specs.Events.{IsForgottenFrom, NoneIsIdleBefore, forget_of}
 use Rattle.nfs_core.specs.Server.{Enters, Server}
 use Rattle.nfs_forms.specs.declared.open_owner.OpenOwner.{OpenOwner}
 use Rattle.nfs_owners.specs.StateOwner.{as_open_owner, open_owner}
-use Rattle.nfs_owners.specs.declared.kept.Kept.{Kept}
+use Rattle.nfs_owners.specs.Kept.{Kept}
 use Rattle.nfs_owners.specs.declared.owner.Owner.{Owner}
 use Rattle.nfs_owners.specs.declared.state_owner.OwnerKind.{OwnerKind}
 use Rattle.nfs_rules.specs.entries.Forget.{IsForgetting, NoneIdle, NoneIdleBefore, is_idle, is_open_owner, is_past, recording_entry_of}
@@ -51,7 +51,7 @@ kept_below kind (first ∷ entries) (suc number) kept is = omega (arith, kept_be
 still_idle : (journal : History) (entry : Entry) (state new : State) (now : ℕ) (o : Owner) → IsKeptIn journal o → new.opens ≡ state.opens
     → is_idle (with_entry entry journal) new now (known_owner o) ≡ is_idle journal state now (known_owner o)
 still_idle journal entry state new now o kept same =
-    let below = kept_below o.name.kind journal.entries o.state.number o.state.kept kept.entry in
+    let below = kept_below o.name.kind journal.entries o.state.number kept.kept kept.entry in
     (λ i. is_open_owner o.name
     && is_past journal.lease now (option_map (λ (c : Call). c.request.moment) (option_and_then call_of (entry_longer journal.entries (entry ∷ []) o.state.number below i)))
     && not (list_any (list_any (is_of (as_open_owner o.name))) (same i)))

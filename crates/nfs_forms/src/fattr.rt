@@ -2,14 +2,17 @@ ghost use Rattle.nfs_forms.specs.Fattr as forms;
 
 use crate::Bitmap;
 use std::alloc::Global;
-use xdr::{Bytes, Measure, Wire, WireError, write_two};
+use xdr::{BytesInPlace, Measure, Wire, WireError, write_two};
+
+/// The values of attributes. Those of type, change and size, with others beside them, take no memory.
+pub type Values = BytesInPlace<32>;
 
 /// Attributes of a file (fattr4; RFC 7530, section 5): which ones are given, and their values, each in its own form,
 /// one after the other in increasing order of the attributes' numbers.
 #[derive(Clone, PartialEq, Drop)]
 pub struct Fattr {
     pub mask: Bitmap,
-    pub values: Bytes,
+    pub values: Values,
 }
 
 impl Wire for Fattr {
@@ -18,7 +21,7 @@ impl Wire for Fattr {
     #[tactic(auto, unfolding(crate::specs::Fattr::fattr))]
     fn read(alloc: Global, bytes: &[u8]) -> Result<(Fattr, &[u8]), WireError> {
         let (mask, rest) = Bitmap::read(alloc, bytes)?;
-        let (values, rest) = Bytes::read(alloc, rest)?;
+        let (values, rest) = Values::read(alloc, rest)?;
         Ok((Fattr { mask, values }, rest))
     }
 

@@ -36,7 +36,7 @@ pub use claim::Claim;
 pub use client_id::ClientId;
 pub use create_how::CreateHow;
 pub use delegation_type::DelegationType;
-pub use fattr::Fattr;
+pub use fattr::{Fattr, Values};
 pub use file_handle::{FILE_HANDLE_LIMIT, FileHandle};
 pub use limits::limits_of_forms;
 pub use lock_denied::LockDenied;

@@ -6,15 +6,14 @@ use Rattle.std.proofs.lemmas.Bool.{cases_eq, eqb-true, eqb-false, false_from_ne_
 use Rattle.nfs_rows.specs.Rows.{IsAbove, Row, StandInOrder, is_numbered, value_in, without}
 use Rattle.nfs_rows.proofs.Each.{all_weaken, find_none, find_past}
 use Rattle.nfs_forms.specs.ClientId.{is_same_client}
-use Rattle.nfs_xdr.specs.declared.op.Op.{Op}
-use Rattle.nfs_xdr.specs.declared.op.Op.TheVariants as ops
-use Rattle.nfs_owners.specs.declared.kept.Kept.{Kept}
-use Rattle.nfs_owners.specs.Closers.{IsInverse, closed_at, closed_by, closed_in, closed_of, nothing, with_at}
-use Rattle.nfs_owners.specs.Kept.{closes, is_close, is_freeing}
+use Rattle.nfs_owners.specs.declared.kept.KeptSummary.{KeptSummary}
+use Rattle.nfs_owners.specs.Closers.{IsInverse, closed_at, closed_by, closed_of, nothing, with_at}
+use Rattle.nfs_owners.specs.Kept.{is_of_state, summary_closes}
 use Rattle.nfs_owners.specs.OwnerRows.{owners_in, with_state_at}
 use Rattle.nfs_owners.specs.declared.owner.Owner.{Owner}
 use Rattle.nfs_owners.specs.declared.owner.OwnerState.{OwnerState}
 use Rattle.nfs_forms.specs.declared.client_id.ClientId.{ClientId}
+use Rattle.nfs_forms.specs.declared.stateid.Stateid.{Stateid}
 
 same_number : (a b : ℕ) → Some a ≡ Some b → a ≡ b
 same_number a b is = cc
@@ -177,36 +176,12 @@ second : (a b : Bool) → a && b ≡ true → b ≡ true
 second true b is = is
 second false b is = absurd (cc)
 
-close_exact : (client : ClientId) (number : ℕ) (op : Op) → is_close client number op ≡ true → closed_in op ≡ Some number
-close_exact client number (ops.Access args) is = absurd (cc)
-close_exact client number (ops.Close args) is = ap Some (eqb-true args.stateid.number number (second (is_same_client args.stateid.client client) (args.stateid.number == number) is))
-close_exact client number (ops.Delegreturn args) is = absurd (cc)
-close_exact client number (ops.Getattr args) is = absurd (cc)
-close_exact client number ops.Getfh is = absurd (cc)
-close_exact client number (ops.Lock args) is = absurd (cc)
-close_exact client number (ops.Lockt args) is = absurd (cc)
-close_exact client number (ops.Locku args) is = absurd (cc)
-close_exact client number (ops.Lookup args) is = absurd (cc)
-close_exact client number (ops.Open args) is = absurd (cc)
-close_exact client number (ops.OpenConfirm args) is = absurd (cc)
-close_exact client number (ops.OpenDowngrade args) is = absurd (cc)
-close_exact client number (ops.Putfh args) is = absurd (cc)
-close_exact client number ops.Putrootfh is = absurd (cc)
-close_exact client number (ops.Read args) is = absurd (cc)
-close_exact client number (ops.Renew args) is = absurd (cc)
-close_exact client number ops.Restorefh is = absurd (cc)
-close_exact client number ops.Savefh is = absurd (cc)
-close_exact client number (ops.Setclientid args) is = absurd (cc)
-close_exact client number (ops.SetclientidConfirm args) is = absurd (cc)
-close_exact client number (ops.Write args) is = absurd (cc)
-close_exact client number (ops.ReleaseLockowner args) is = absurd (cc)
-
-closes_exact : (client : ClientId) (number : ℕ) (kept : Kept) → closes client number kept ≡ true → closed_by kept ≡ Some number
-closes_exact client number kept is = by (is_freeing kept.answer) is
+closes_exact : (client : ClientId) (number : ℕ) (kept : KeptSummary) → summary_closes client number kept ≡ true → closed_by kept ≡ Some number
+closes_exact client number kept is = by kept.closed is
   where
-    by : (b : Bool) → b && is_close client number kept.request.op ≡ true → (if b then closed_in kept.request.op else None) ≡ Some number
-    by true is = close_exact client number kept.request.op is
-    by false is = absurd (cc)
+    by : (closed : Option Stateid) → is_of_state client number closed ≡ true → option_map (λ id. id.number) closed ≡ Some number
+    by None is = absurd (cc)
+    by (Some id) is = ap Some (eqb-true id.number number (second (is_same_client id.client client) (id.number == number) is))
 
 -- the row with a number is the one that is found by it
 pub rows_own : (rows : List (Row Owner)) → StandInOrder rows → AllByRecursion (λ r. find (is_numbered r.number) rows ≡ Some r) rows
@@ -224,14 +199,14 @@ empty_nothing (r ∷ rows) is = absurd (omega (arith, eqb-true (length (r ∷ ro
 
 -- where the index has nothing at a state, no owner closed it
 pub none_closed : (client : ClientId) (number : ℕ) (index : ℕ → Option ℕ) (rows : List (Row Owner)) → StandInOrder rows → IsInverse index (closed_at rows) → index number ≡ None
-    → None ≡ find (λ o. closes client number o.state.kept) (owners_in rows)
+    → None ≡ find (λ o. summary_closes client number o.state.kept) (owners_in rows)
 none_closed client number index rows order inverse none =
-    sym (seen_none rows (all_weaken (λ r. find (is_numbered r.number) rows ≡ Some r) (λ r. closes client number r.value.state.kept ≡ false)
+    sym (seen_none rows (all_weaken (λ r. find (is_numbered r.number) rows ≡ Some r) (λ r. summary_closes client number r.value.state.kept ≡ false)
     (λ r own. false_from_ne_true _ (λ closed. no_number r.number (sym none ∙ inverse.leads number r.number (ap (λ found. closed_of (value_in found)) own ∙ closes_exact client number r.value.state.kept closed)))) rows (rows_own rows order)))
   where
-    seen_none : (rows : List (Row Owner)) → AllByRecursion (λ r. closes client number r.value.state.kept ≡ false) rows → find (λ o. closes client number o.state.kept) (owners_in rows) ≡ None
+    seen_none : (rows : List (Row Owner)) → AllByRecursion (λ r. summary_closes client number r.value.state.kept ≡ false) rows → find (λ o. summary_closes client number o.state.kept) (owners_in rows) ≡ None
     seen_none [] h = refl
-    seen_none (r ∷ rows) h = ap (λ b. cond b (Some r.value) (find (λ o. closes client number o.state.kept) (owners_in rows))) h.0 ∙ seen_none rows h.1
+    seen_none (r ∷ rows) h = ap (λ b. cond b (Some r.value) (find (λ o. summary_closes client number o.state.kept) (owners_in rows))) h.0 ∙ seen_none rows h.1
 
 some_same : {X : Type 0} (x y : X) → Some x ≡ Some y → x ≡ y
 some_same x y is = cc
@@ -257,9 +232,9 @@ kept_in p test r (s ∷ rows) only there passes = by (test s.value) refl (p s) t
 
 -- where the index has a row at a state, no other row closed it
 only_one : (client : ClientId) (number row : ℕ) (index : ℕ → Option ℕ) (rows : List (Row Owner)) (r : Row Owner) → StandInOrder rows → IsInverse index (closed_at rows) → index number ≡ Some row → find (is_numbered row) rows ≡ Some r
-    → AllByRecursion (λ s. closes client number s.value.state.kept ≡ true → s ≡ r) rows
+    → AllByRecursion (λ s. summary_closes client number s.value.state.kept ≡ true → s ≡ r) rows
 only_one client number row index rows r order inverse led there =
-    all_weaken (λ s. find (is_numbered s.number) rows ≡ Some s) (λ s. closes client number s.value.state.kept ≡ true → s ≡ r)
+    all_weaken (λ s. find (is_numbered s.number) rows ≡ Some s) (λ s. summary_closes client number s.value.state.kept ≡ true → s ≡ r)
     (λ s own closed. some_same s r (sym own ∙ ap (λ n. find (is_numbered n) rows) (same_number s.number row (sym (inverse.leads number s.number (ap (λ found. closed_of (value_in found)) own ∙ closes_exact client number s.value.state.kept closed)) ∙ led)) ∙ there))
     rows (rows_own rows order)
 
@@ -268,19 +243,19 @@ module _ (client : ClientId) (number row : ℕ) (o : Owner) (index : ℕ → Opt
   owner_same : (r : Row Owner) → Some o ≡ value_in (Some r) → r.value ≡ o
   owner_same r is = cc
 
-  pub closer_found : closes client number o.state.kept ≡ true → Some o ≡ find (λ o. closes client number o.state.kept) (owners_in rows)
+  pub closer_found : summary_closes client number o.state.kept ≡ true → Some o ≡ find (λ o. summary_closes client number o.state.kept) (owners_in rows)
   closer_found closed = by (find (is_numbered row) rows) refl found
     where
-      by : (at : Option (Row Owner)) → find (is_numbered row) rows ≡ at → Some o ≡ value_in at → Some o ≡ find (λ o. closes client number o.state.kept) (owners_in rows)
+      by : (at : Option (Row Owner)) → find (is_numbered row) rows ≡ at → Some o ≡ value_in at → Some o ≡ find (λ o. summary_closes client number o.state.kept) (owners_in rows)
       by None there is = absurd (cc)
       by (Some r) there is =
           let same = owner_same r is in
-          ap Some (sym same) ∙ kept_in (is_numbered row) (λ o. closes client number o.state.kept) r rows (only_one client number row index rows r order inverse led there) there (ap (λ (o : Owner). closes client number o.state.kept) same ∙ closed)
+          ap Some (sym same) ∙ kept_in (is_numbered row) (λ o. summary_closes client number o.state.kept) r rows (only_one client number row index rows r order inverse led there) there (ap (λ (o : Owner). summary_closes client number o.state.kept) same ∙ closed)
 
-  pub closer_missed : closes client number o.state.kept ≡ false → None ≡ find (λ o. closes client number o.state.kept) (owners_in rows)
+  pub closer_missed : summary_closes client number o.state.kept ≡ false → None ≡ find (λ o. summary_closes client number o.state.kept) (owners_in rows)
   closer_missed fails = by (find (is_numbered row) rows) refl found
     where
-      by : (at : Option (Row Owner)) → find (is_numbered row) rows ≡ at → Some o ≡ value_in at → None ≡ find (λ o. closes client number o.state.kept) (owners_in rows)
+      by : (at : Option (Row Owner)) → find (is_numbered row) rows ≡ at → Some o ≡ value_in at → None ≡ find (λ o. summary_closes client number o.state.kept) (owners_in rows)
       by None there is = absurd (cc)
       by (Some r) there is =
-          left_out (λ o. closes client number o.state.kept) r rows (only_one client number row index rows r order inverse led there) (ap (λ (o : Owner). closes client number o.state.kept) (owner_same r is) ∙ fails)
+          left_out (λ o. summary_closes client number o.state.kept) r rows (only_one client number row index rows r order inverse led there) (ap (λ (o : Owner). summary_closes client number o.state.kept) (owner_same r is) ∙ fails)

@@ -7,7 +7,7 @@ use Rattle.std.proofs.lemmas.List.{length-append, length-map}
 use Rattle.std.proofs.lemmas.List.Filters.{length-filter_both}
 use Rattle.std.proofs.lemmas.List.Folds.{list_any-append}
 use Rattle.std.proofs.lemmas.Slice.Eq.{bytes_eq-Decides}
-use Rattle.nfs_owners.specs.declared.kept.Kept.{Kept}
+use Rattle.nfs_owners.specs.declared.kept.KeptSummary.{KeptSummary}
 use Rattle.nfs_owners.specs.declared.owner.Owner.{Owner}
 use Rattle.nfs_owners.specs.declared.owner.OwnerState.{OwnerState}
 use Rattle.nfs_owners.specs.declared.owner.TheConstants.{OWNER_LIMIT}
@@ -93,7 +93,7 @@ owners_change change name owners are = (omega (arith, length-map {B = Owner} own
 pub owners_push : (owners : List Owner) (o : Owner) → AreOwners owners → is_known o.name owners ≡ false → length owners < OWNER_LIMIT → AreOwners (owners ++ o ∷ [])
 owners_push owners o are new below = (omega (arith, length-append owners (o ∷ []), below), apart_push owners o are.1 new)
 
-pub owners_kept : (name : StateOwner) (number : ℕ) (kept : Kept) (owners : List Owner) → AreOwners owners → has_place name owners ≡ true → AreOwners (with_kept name number kept owners)
+pub owners_kept : (name : StateOwner) (number : ℕ) (kept : KeptSummary) (owners : List Owner) → AreOwners owners → has_place name owners ≡ true → AreOwners (with_kept name number kept owners)
 owners_kept name number kept owners are place = by (is_known name owners) refl
   where
     by : (b : Bool) → is_known name owners ≡ b → AreOwners (with_kept name number kept owners)

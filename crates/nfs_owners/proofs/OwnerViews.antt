@@ -7,7 +7,7 @@ use Rattle.nfs_forms.specs.declared.client_id.ClientId.{ClientId}
 use Rattle.nfs_owners.specs.Owner.{has_client, has_name, is_known, new_owner, with_request}
 use Rattle.nfs_owners.specs.OwnerRows.{IsRowOf, confirmed, owners_in, with_state_at}
 use Rattle.nfs_owners.specs.Owners.{with_change, with_confirmed, with_kept, without_owner, without_owners_of}
-use Rattle.nfs_owners.specs.declared.kept.Kept.{Kept}
+use Rattle.nfs_owners.specs.declared.kept.KeptSummary.{KeptSummary}
 use Rattle.nfs_owners.specs.declared.owner.Owner.{Owner}
 use Rattle.nfs_owners.specs.declared.state_owner.StateOwner.{StateOwner}
 use Rattle.nfs_owners.proofs.Filing.{all_true, state_seen}
@@ -17,13 +17,13 @@ pub some_known : (name : StateOwner) (rows : List (Row Owner)) (at : Option ℕ)
 some_known name rows None is = sym is
 some_known name rows (Some row) is = sym is.0
 
-pub kept_known : (name : StateOwner) (number : ℕ) (kept : Kept) (row : ℕ) (rows new : List (Row Owner)) → IsRowOf name rows (Some row) → new ≡ with_state_at (with_request number kept) row rows
+pub kept_known : (name : StateOwner) (number : ℕ) (kept : KeptSummary) (row : ℕ) (rows new : List (Row Owner)) → IsRowOf name rows (Some row) → new ≡ with_state_at (with_request number kept) row rows
     → owners_in new ≡ with_kept name number kept (owners_in rows)
 kept_known name number kept row rows new is set =
     ap owners_in set ∙ state_seen (with_request number kept) row name rows is.1
     ∙ sym (ap (λ b. if b then with_change (with_request number kept) name (owners_in rows) else owners_in rows ++ new_owner name number kept ∷ []) is.0)
 
-pub kept_unknown : (name : StateOwner) (number : ℕ) (kept : Kept) (o : Owner) (owners new : List Owner) → is_known name owners ≡ false → o ≡ new_owner name number kept → new ≡ owners ++ o ∷ []
+pub kept_unknown : (name : StateOwner) (number : ℕ) (kept : KeptSummary) (o : Owner) (owners new : List Owner) → is_known name owners ≡ false → o ≡ new_owner name number kept → new ≡ owners ++ o ∷ []
     → new ≡ with_kept name number kept owners
 kept_unknown name number kept o owners new unknown is set =
     set ∙ ap (λ o. owners ++ o ∷ []) is

@@ -1,22 +1,14 @@
 -- Which owner's kept request closed a state.
-use Rattle.std.specs.Prelude.{◌≡◌, ℕ, ◌==◌, false, List, Option, Some, None, if◌then◌else◌, find, nat_eq}
+use Rattle.std.specs.Prelude.{◌≡◌, ℕ, ◌==◌, false, List, Option, Some, None, if◌then◌else◌, find, nat_eq, option_map}
 use Rattle.indexmap.specs.IndexMap.{get}
 use Rattle.nfs_rows.specs.Rows.{Row, is_numbered, value_in}
-use Rattle.nfs_xdr.specs.declared.op.Op.{Op}
-use Rattle.nfs_xdr.specs.declared.op.Op.TheVariants as ops
-use Rattle.nfs_owners.specs.Kept.{is_freeing}
 use Rattle.nfs_owners.specs.declared.closers.Closers.{Closers}
-use Rattle.nfs_owners.specs.declared.kept.Kept.{Kept}
+use Rattle.nfs_owners.specs.declared.kept.KeptSummary.{KeptSummary}
 use Rattle.nfs_owners.specs.declared.owner.Owner.{Owner}
 
--- the number of the state that the operation would close, if it is a CLOSE
-abbrev pub closed_in : Op → Option ℕ
-closed_in (ops.Close args) = Some args.stateid.number
-closed_in op = None
-
--- the number of the state that what is kept closed, if it closed one
-abbrev pub closed_by : Kept → Option ℕ
-closed_by kept = if is_freeing kept.answer then closed_in kept.request.op else None
+-- the number of the state that the kept request closed, if it closed one
+abbrev pub closed_by : KeptSummary → Option ℕ
+closed_by kept = option_map (λ id. id.number) kept.closed
 
 abbrev pub closed_of : Option Owner → Option ℕ
 closed_of None = None

@@ -7,7 +7,7 @@ use Rattle.nfs_forms.specs.declared.open_owner.OpenOwner.{OpenOwner}
 use Rattle.nfs_owners.specs.Owner.{owner_of}
 use Rattle.nfs_owners.specs.Owners.{with_confirmed, with_kept, without_owner, without_owners_of}
 use Rattle.nfs_owners.specs.StateOwner.{is_same_state_owner, lock_owner, open_owner}
-use Rattle.nfs_owners.specs.declared.kept.Kept.{Kept}
+use Rattle.nfs_owners.specs.declared.kept.KeptSummary.{KeptSummary}
 use Rattle.nfs_owners.specs.declared.owner.Owner.{Owner}
 use Rattle.nfs_owners.specs.declared.state_owner.StateOwner.{StateOwner}
 
@@ -22,7 +22,7 @@ KindsAreApart =
 abbrev pub OthersStay : Type 0
 OthersStay =
     (name other : StateOwner) (owners : List Owner) → IsFalse (is_same_state_owner name other)
-    → ((number : ℕ) (kept : Kept)
+    → ((number : ℕ) (kept : KeptSummary)
     → owner_of other (with_kept name number kept owners) ≡ owner_of other owners)
     × (owner_of other (with_confirmed name owners) ≡ owner_of other owners)
     × (owner_of other (without_owner name owners) ≡ owner_of other owners)

@@ -2,13 +2,12 @@
 use Rattle.std.specs.Prelude.{◌≡◌, ℕ, ◌<◌, ◌≤◌, nat_le, nat_lt, ⊤, Bool, true, not, ◌||◌, IsFalse, List, [], ◌∷◌, ◌++◌, map, filter, length, Option, Some, None, if◌then◌else◌}
 use Rattle.std.specs.List.{AllByRecursion}
 use Rattle.nfs_rows.specs.Rows.{StandSo}
-use Rattle.nfs_owners.specs.declared.kept.Kept.{Kept}
-use Rattle.nfs_owners.specs.declared.kept.KeptRequest.{KeptRequest}
+use Rattle.nfs_owners.specs.declared.kept.KeptSummary.{KeptSummary}
 use Rattle.nfs_owners.specs.declared.kept.Verdict.{Verdict}
 use Rattle.nfs_owners.specs.declared.owner.Owner.{Owner}
 use Rattle.nfs_owners.specs.declared.owner.OwnerState.{OwnerState}
 use Rattle.nfs_owners.specs.declared.owner.TheConstants.{OWNER_LIMIT}
-use Rattle.nfs_owners.specs.Kept.{IsVerdict}
+use Rattle.nfs_owners.specs.Kept.{IsVerdict, Kept, KeptRequest}
 use Rattle.nfs_owners.specs.Owner.{has_client, has_name, is_known, with_request, new_owner}
 use Rattle.nfs_forms.specs.declared.client_id.ClientId.{ClientId}
 use Rattle.nfs_owners.specs.declared.state_owner.StateOwner.{StateOwner}
@@ -43,11 +42,11 @@ StandInOrder owners = StandSo (λ o p. o.state.recorded < p.state.recorded) owne
 abbrev pub has_place : StateOwner → List Owner → Bool
 has_place name owners = is_known name owners || nat_lt (length owners) OWNER_LIMIT
 
--- The verdict on a request of an owner; there is none on that of an unknown owner.
-abbrev pub IsJudged : Option Owner → ℕ → KeptRequest → Option Verdict → Type 0
+-- The verdict on a request of an owner for which this is kept; there is none on that of an unknown owner.
+abbrev pub IsJudged : Option Kept → ℕ → KeptRequest → Option Verdict → Type 0
 IsJudged None seqid request verdict = verdict ≡ None
-IsJudged (Some o) seqid request None = ⊥
-IsJudged (Some o) seqid request (Some verdict) = IsVerdict o.state.kept seqid request verdict
+IsJudged (Some kept) seqid request None = ⊥
+IsJudged (Some kept) seqid request (Some verdict) = IsVerdict kept seqid request verdict
 
 -- the owner with this name is changed, and the others stay
 abbrev pub with_change : (OwnerState → OwnerState) → StateOwner → List Owner → List Owner
@@ -56,7 +55,7 @@ with_change change name owners =
 
 -- The owner's kept request is now this one, in the journal's entry of this number. An owner that was unknown is
 -- recorded by it.
-abbrev pub with_kept : StateOwner → ℕ → Kept → List Owner → List Owner
+abbrev pub with_kept : StateOwner → ℕ → KeptSummary → List Owner → List Owner
 with_kept name number kept owners =
     if is_known name owners
     then with_change (with_request number kept) name owners

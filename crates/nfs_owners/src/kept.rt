@@ -1,24 +1,26 @@
-ghost use Rattle.std.specs.Prelude.{◌≡◌, ◌≢◌, MatchBool};
-ghost use Rattle.nfs_owners.specs.Closers.{closed_by, closed_in};
-ghost use Rattle.nfs_owners.specs.Kept.{IsVerdict, closes, is_close, next_seqid, precedes, request_of};
+ghost use Rattle.std.specs.Prelude.{◌≡◌, ◌≢◌, ◌==◌, MatchBool};
+ghost use Rattle.nfs_owners.specs.Closers.{closed_by};
+ghost use Rattle.nfs_owners.specs.Kept.{IsVerdict, closed_in, closed_stateid, is_freeing, kept_seen, next_seqid, request_of, summary_closes};
 
+use nfs_forms::Stateid;
 use nfs_xdr::{Answer, ClientId, Op, OpResult};
 
-/// The request that is kept for an owner, with its sequence id, and the answer to it (RFC 7530, section 9.1.8).
-#[derive(Drop)]
-pub struct Kept {
+/// What is stored of the request that is kept for an owner: the owner's entry in the journal has the request itself, and
+/// the answer to it (RFC 7530, section 9.1.8).
+#[derive(Clone, Copy)]
+pub struct KeptSummary {
     pub seqid: u32,
-    pub request: KeptRequest,
-    pub answer: OpResult,
+    /// The stateid of the state that it closed, if it is a CLOSE that was answered NFS4_OK.
+    pub closed: Option<Stateid>,
 }
 
-/// What a request and its retransmission have in common: the operation with its arguments, and the current
-/// filehandle.
-#[derive(Drop)]
-pub struct KeptRequest {
-    pub op: Op,
+/// The request that is kept for an owner, and the answer to it, as the owner's entry in the journal has them.
+#[derive(Clone, Copy)]
+pub struct KeptCall<'a> {
+    pub op: &'a Op,
     /// The node of the current filehandle, if there is one.
     pub filehandle: Option<u32>,
+    pub answer: &'a OpResult,
 }
 
 /// The verdict on a request, given the one that is kept for its owner (RFC 7530, section 9.1.7).
@@ -32,15 +34,34 @@ pub enum Verdict<'a> {
     Bad,
 }
 
-impl Kept {
-    /// The verdict on a request with this sequence id, operation and current filehandle.
-    pub fn judge(&self, seqid: u32, op: &Op, filehandle: Option<u32>) -> Verdict<'_>
-        ensures { IsVerdict self.now seqid (request_of op.now filehandle) result }
+impl KeptSummary {
+    /// What is stored of a request with this sequence id and operation, which had this answer.
+    pub fn of(seqid: u32, op: &Op, answer: &OpResult) -> KeptSummary
+        ensures { result ≡ record { seqid = seqid; closed = closed_stateid op.now answer.now } }
+    {
+        let closed = if is_freeing(answer) {
+            closed_in(op)
+        } else {
+            None
+        };
+        KeptSummary { seqid, closed }
+    }
+
+    /// The verdict on a request with this sequence id, operation and current filehandle, where this call is the kept one.
+    pub fn judge<'a>(
+        &self,
+        kept: KeptCall<'a>,
+        seqid: u32,
+        op: &Op,
+        filehandle: Option<u32>,
+    ) -> Verdict<'a>
+        ensures { IsVerdict (kept_seen self.now kept.entry) seqid
+            (request_of op.now filehandle) result }
     {
         if self.precedes(seqid) {
             Verdict::New
-        } else if seqid == self.seqid && self.request.is(op, filehandle) {
-            Verdict::Replay(&self.answer)
+        } else if seqid == self.seqid && kept.is(op, filehandle) {
+            Verdict::Replay(kept.answer)
         } else {
             Verdict::Bad
         }
@@ -48,59 +69,57 @@ impl Kept {
 
     /// Whether this sequence id is the next one.
     pub fn precedes(&self, seqid: u32) -> bool
-        ensures { result ≡ precedes self.now seqid }
+        ensures { result ≡ (seqid == next_seqid self.now.seqid) }
     {
         seqid == next_seqid(self.seqid)
     }
 
-    // The number of the state that this closed, if it is a CLOSE that was answered NFS4_OK.
-    pub(crate) fn closed(&self) -> Option<u32>
+    // The number of the state that the request closed, if it closed one.
+    pub(crate) fn closed_number(&self) -> Option<u32>
         ensures { result ≡ closed_by self.now }
     {
-        match &self.answer {
-            OpResult::Close(Answer::Done(_)) => self.request.closed(),
-            _ => None,
+        match self.closed {
+            Some(stateid) => Some(stateid.number),
+            None => None,
         }
     }
 
-    /// Whether this is a CLOSE of the client's state with this number that was answered NFS4_OK.
+    /// Whether the request closed the client's state with this number.
     pub fn closes(&self, client: ClientId, number: u32) -> bool
-        ensures { result ≡ closes client number self.now }
+        ensures { result ≡ summary_closes client number self.now }
     {
-        match &self.answer {
-            OpResult::Close(Answer::Done(_)) => self.request.closes(client, number),
-            _ => false,
+        match self.closed {
+            Some(stateid) => stateid.client == client && stateid.number == number,
+            None => false,
         }
     }
 }
 
-impl KeptRequest {
-    /// Whether the request has this operation, with the same arguments, and this current filehandle.
+impl KeptCall<'_> {
+    /// Whether a request has this operation, with the same arguments, and this current filehandle.
     pub fn is(&self, op: &Op, filehandle: Option<u32>) -> bool
-        ensures { MatchBool result (self.now ≡ request_of op.now filehandle)
-            (self.now ≢ request_of op.now filehandle) }
+        ensures { MatchBool result
+            (request_of self.now.op.now self.now.filehandle ≡ request_of op.now filehandle)
+            (request_of self.now.op.now self.now.filehandle ≢ request_of op.now filehandle) }
     {
         self.filehandle == filehandle && self.op.is_same(op)
     }
+}
 
-    // The number of the state that the operation would close, if it is a CLOSE.
-    fn closed(&self) -> Option<u32>
-        ensures { result ≡ closed_in self.now.op }
-    {
-        match &self.op {
-            Op::Close(args) => Some(args.stateid.number),
-            _ => None,
-        }
-    }
+// Whether the answer is that of a CLOSE that freed a state.
+fn is_freeing(answer: &OpResult) -> bool
+    ensures { result ≡ is_freeing answer.now }
+{
+    matches!(answer, OpResult::Close(Answer::Done(_)))
+}
 
-    // Whether the operation is a CLOSE of the client's state with this number.
-    fn closes(&self, client: ClientId, number: u32) -> bool
-        ensures { result ≡ is_close client number self.now.op }
-    {
-        match &self.op {
-            Op::Close(args) => args.stateid.client == client && args.stateid.number == number,
-            _ => false,
-        }
+// The stateid in the operation, if it is a CLOSE.
+fn closed_in(op: &Op) -> Option<Stateid>
+    ensures { result ≡ closed_in op.now }
+{
+    match op {
+        Op::Close(args) => Some(args.stateid),
+        _ => None,
     }
 }
 

@@ -1,5 +1,5 @@
-//! Who holds state: the clients' records with the rules of SETCLIENTID and its confirmation, the owners with their last
-//! requests, and the numbers of states.
+//! Who holds state: the clients' records with the rules of SETCLIENTID and its confirmation, the owners with the numbers
+//! of their last requests, and the numbers of states.
 #![tactic(auto)]
 
 mod client_callback;
@@ -30,7 +30,7 @@ pub use client_laws::{
 pub use client_record::{ClientRecord, ClientState, PathMark};
 pub use client_ref::ClientRef;
 pub use clients::{ClientChange, Clients};
-pub use kept::{Kept, KeptRequest, Verdict};
+pub use kept::{KeptCall, KeptSummary, Verdict};
 pub use limits::limits_of_owners;
 pub use live_change::LiveChange;
 pub use numbers::{Numbers, numbers_rise};

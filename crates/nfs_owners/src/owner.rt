@@ -2,7 +2,7 @@ ghost use Rattle.std.specs.Prelude.{◌≡◌};
 ghost use Rattle.nfs_owners.specs.Owner.{has_client, has_name, with_request, new_owner, new_state};
 ghost use Rattle.nfs_owners.specs.StateOwner.{owner_seen};
 
-use crate::{Kept, OwnerRef, StateOwner};
+use crate::{KeptSummary, OwnerRef, StateOwner};
 use nfs_xdr::ClientId;
 
 /// An owner that the server knows (RFC 7530, section 9.1.5).
@@ -12,7 +12,7 @@ pub struct Owner {
     pub state: OwnerState,
 }
 
-/// What the server keeps for an owner: its kept request is the last one that counted.
+/// What the server keeps for an owner: its kept request is the last one that counted, which the journal has.
 #[derive(Drop)]
 pub struct OwnerState {
     /// Whether an OPEN_CONFIRM has confirmed the owner, which is an open owner then.
@@ -21,8 +21,8 @@ pub struct OwnerState {
     pub recorded: u32,
     /// The number of the journal's entry of the kept request.
     pub number: u32,
-    /// The kept request with its answer.
-    pub kept: Kept,
+    /// What is stored of that request.
+    pub kept: KeptSummary,
 }
 
 /// What the server knows of an owner (RFC 7530, section 9.1.11).
@@ -41,7 +41,7 @@ pub const OWNER_LIMIT: usize = 16_384;
 
 impl Owner {
     /// An owner that is recorded by its first request, in the journal's entry of this number.
-    pub fn new(name: StateOwner, number: u32, kept: Kept) -> Owner
+    pub fn new(name: StateOwner, number: u32, kept: KeptSummary) -> Owner
         ensures { result ≡ new_owner name number kept }
     {
         Owner {
@@ -67,7 +67,7 @@ impl Owner {
 
 impl OwnerState {
     /// That of an owner that is recorded by its first request, in the journal's entry of this number.
-    pub fn new(number: u32, kept: Kept) -> OwnerState
+    pub fn new(number: u32, kept: KeptSummary) -> OwnerState
         ensures { result ≡ new_state number kept }
     {
         OwnerState {
@@ -79,7 +79,7 @@ impl OwnerState {
     }
 
     /// Makes this the kept request, in the journal's entry of this number.
-    pub fn keep(&mut self, number: u32, kept: Kept)
+    pub fn keep(&mut self, number: u32, kept: KeptSummary)
         ensures { self.new ≡ with_request number kept self.old }
     {
         self.number = number;

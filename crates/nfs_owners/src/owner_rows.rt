@@ -2,7 +2,7 @@ ghost use Rattle.std.specs.Prelude.{◌≡◌, ℕ, ◌<◌, ◌≤◌, ◌+◌,
 ghost use Rattle.std.specs.Option.{option_copied};
 ghost use Rattle.nfs_rows.specs.Rows.{AnswersAs, is_from as is_row_from, is_numbered, without};
 ghost use Rattle.nfs_owners.specs.Closers.{AreClosers, closed_at, closed_by, with_at};
-ghost use Rattle.nfs_owners.specs.Kept.{closes};
+ghost use Rattle.nfs_owners.specs.Kept.{summary_closes};
 ghost use Rattle.nfs_owners.specs.Owner.{has_client, owner_of, with_request};
 ghost use Rattle.nfs_owners.specs.OwnerRows.{IsRowOf, confirmed, name_hash, owners_in, with_state_at};
 ghost use Rattle.nfs_owners.specs.Owners.{AreBefore, AreOwners, StandInOrder, is_from};
@@ -10,7 +10,7 @@ ghost use Rattle.nfs_owners.specs.StateOwner.{owner_seen};
 ghost use Rattle.nfs_owners.specs.declared.owner.Owner.{Owner};
 
 use crate::closers::Closers;
-use crate::{Kept, Owner, OwnerRef};
+use crate::{KeptSummary, Owner, OwnerRef};
 use nfs_rows::Rows;
 use nfs_xdr::ClientId;
 use std::alloc::{AllocError, Global};
@@ -107,7 +107,7 @@ impl OwnerRows {
     // The first owner whose kept request closed the client's state with this number, if there is one.
     pub fn closer_of(&self, client: ClientId, number: u32) -> Option<&Owner>
         ensures { option_copied result
-            ≡ find (λ o. closes client number o.state.kept) (owners_in self.now.rows) }
+            ≡ find (λ o. summary_closes client number o.state.kept) (owners_in self.now.rows) }
     {
         if self.closers.partial {
             return closer_among(&self.rows, client, number);
@@ -155,18 +155,18 @@ impl OwnerRows {
         ensures room { self.old.room ≡ self.new.room + 1 }
     {
         let row = u64::from(owner.state.recorded);
-        self.closers.note(owner.state.kept.closed(), row);
+        self.closers.note(owner.state.kept.closed_number(), row);
         self.rows.add(row, hash, owner.name.client.number, owner);
     }
 
     // Makes this the kept request of the owner in this row.
-    pub fn keep_at(&mut self, row: u64, number: u32, kept: Kept)
+    pub fn keep_at(&mut self, row: u64, number: u32, kept: KeptSummary)
         ensures rows { self.new.rows ≡ with_state_at (with_request number kept) row self.old.rows }
         ensures room { self.new.room ≡ self.old.room }
     {
         match self.rows.find_mut(row) {
             Some(owner) => change_kept(owner, &mut self.closers, row, number, kept),
-            None => drop(kept),
+            None => {}
         }
     }
 
@@ -204,15 +204,15 @@ impl OwnerRows {
 }
 
 // Makes this the kept request of the owner, who is in this row.
-fn change_kept(owner: &mut Owner, closers: &mut Closers, row: u64, number: u32, kept: Kept)
+fn change_kept(owner: &mut Owner, closers: &mut Closers, row: u64, number: u32, kept: KeptSummary)
     ensures owner { owner.new ≡ record owner.old {
       state = with_request number kept owner.old.state;
     } }
     ensures closers { (f : ℕ → Option ℕ) → f row ≡ closed_by owner.old.state.kept
         → AreClosers closers.old f → AreClosers closers.new (with_at row (closed_by kept) f) }
 {
-    closers.forget(owner.state.kept.closed());
-    closers.note(kept.closed(), row);
+    closers.forget(owner.state.kept.closed_number());
+    closers.note(kept.closed_number(), row);
     owner.state.keep(number, kept);
 }
 
@@ -221,7 +221,7 @@ fn closed_in_row(rows: &Rows<Owner>, row: u64) -> Option<u32>
     ensures { result ≡ closed_at rows.now.rows row }
 {
     match rows.find(row) {
-        Some(owner) => owner.state.kept.closed(),
+        Some(owner) => owner.state.kept.closed_number(),
         None => None,
     }
 }
@@ -243,7 +243,7 @@ fn found_from<F: Fn(&Owner) -> bool>(rows: &Rows<Owner>, number: u64, test: F) -
 // The first owner in these rows whose kept request closed the client's state with this number, if there is one.
 fn closer_among(rows: &Rows<Owner>, client: ClientId, number: u32) -> Option<&Owner>
     ensures { option_copied result
-        ≡ find (λ o. closes client number o.state.kept) (owners_in rows.now.rows) }
+        ≡ find (λ o. summary_closes client number o.state.kept) (owners_in rows.now.rows) }
 {
     for (_, owner) in rows.iter() {
         if owner.state.kept.closes(client, number) {
@@ -261,7 +261,7 @@ fn forget_client(rows: &Rows<Owner>, closers: &mut Closers, client: ClientId)
     let _rows = rows.len();
     for (_, owner) in rows.iter() {
         if owner.has_client(client) {
-            closers.forget(owner.state.kept.closed());
+            closers.forget(owner.state.kept.closed_number());
         }
     }
 }

@@ -1,7 +1,7 @@
 ghost use Rattle.std.specs.Prelude.{◌≡◌, ◌<◌, ◌≤◌, ◌+◌, ◌↔◌, ◌&&◌, Bool, Some, IfSome, true, false, [], find, IsErrOf, IsFalse, IsOk, IsTrue, OnOk, length, option_map};
 ghost use Rattle.std.specs.Option.{option_copied};
 ghost use Rattle.nfs_rows.specs.Rows.{AnswersAs};
-ghost use Rattle.nfs_owners.specs.Kept.{closes, request_of};
+ghost use Rattle.nfs_owners.specs.Kept.{kept_seen, request_of, summary_closes};
 ghost use Rattle.nfs_owners.specs.StateOwner.{owner_seen};
 ghost use Rattle.nfs_owners.specs.declared.owner.Owner.{Owner};
 ghost use Rattle.nfs_owners.specs.declared.state_owner.StateOwner.{StateOwner};
@@ -10,8 +10,8 @@ ghost use Rattle.nfs_owners.specs.Owners.{AreBefore, IsJudged, StandInOrder, has
 
 use crate::owner_rows::OwnerRows;
 use crate::{
-    Kept, OWNER_LIMIT, Owner, OwnerKind, OwnerRef, OwnerStanding, OwnerState, OwnersError,
-    StateOwner, Verdict,
+    KeptCall, KeptSummary, OWNER_LIMIT, Owner, OwnerKind, OwnerRef, OwnerStanding, OwnerState,
+    OwnersError, StateOwner, Verdict,
 };
 use nfs_xdr::{ClientId, Op};
 use std::alloc::Global;
@@ -78,7 +78,7 @@ impl Owners {
     /// The name of the owner whose kept request closed the client's state with this number, if there is one.
     pub fn closer_of(&self, client: ClientId, number: u32) -> Option<OwnerRef<'_>>
         ensures { option_map owner_seen result ≡ option_map (λ o. o.name)
-            (find (λ o. closes client number o.state.kept) self.now.owners) }
+            (find (λ o. summary_closes client number o.state.kept) self.now.owners) }
     {
         match self.owners.closer_of(client, number) {
             Some(owner) => Some(owner.name.as_ref()),
@@ -99,19 +99,22 @@ impl Owners {
         self.owners.find_from(entry, test)
     }
 
-    /// The verdict on a request of the owner with this name, or `None` if the owner is unknown.
-    pub fn judge(
+    /// The verdict on a request of the owner with this name, where this call is the one that is kept for it, or `None` if
+    /// the owner is unknown.
+    pub fn judge<'a>(
         &self,
         name: OwnerRef<'_>,
+        kept: KeptCall<'a>,
         seqid: u32,
         op: &Op,
         filehandle: Option<u32>,
-    ) -> Option<Verdict<'_>>
-        ensures { IsJudged (owner_of (owner_seen name.entry) self.now.owners) seqid
+    ) -> Option<Verdict<'a>>
+        ensures { IsJudged (option_map (λ o. kept_seen o.state.kept kept.entry)
+            (owner_of (owner_seen name.entry) self.now.owners)) seqid
             (request_of op.now filehandle) result }
     {
         let owner = self.find(name)?;
-        Some(owner.kept.judge(seqid, op, filehandle))
+        Some(owner.kept.judge(kept, seqid, op, filehandle))
     }
 
     /// Whether the owner is known, or can be recorded without exceeding the limit.
@@ -150,7 +153,7 @@ impl Owners {
 
     /// Makes this the kept request of the owner with this name, in the journal's entry `number`; an unknown owner is
     /// recorded by it, after all others. It takes no memory.
-    pub fn keep(&mut self, name: StateOwner, number: u32, kept: Kept)
+    pub fn keep(&mut self, name: StateOwner, number: u32, kept: KeptSummary)
         requires place { IsTrue (has_place name self.old.owners) }
         requires room { IsFalse (is_known name self.old.owners) → 0 < self.old.room }
         requires newest { IsFalse (is_known name self.old.owners)

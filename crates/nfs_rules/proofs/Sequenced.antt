@@ -52,7 +52,7 @@ use Rattle.nfs_owners.specs.declared.state_owner.StateOwner.{StateOwner}
 use Rattle.nfs_forms.specs.declared.status.Refusal.{Refusal}
 use Rattle.nfs_forms.specs.declared.status.Status.{Status}
 use Rattle.nfs_forms.specs.declared.status.Refusal.TheVariants as refusals
-use Rattle.nfs_owners.specs.declared.kept.Kept.{Kept}
+use Rattle.nfs_owners.specs.Kept.{Kept}
 use Rattle.nfs_owners.specs.declared.kept.Verdict.TheVariants as verdicts
 use Rattle.nfs_owners.specs.declared.owner.TheConstants.{OWNER_LIMIT}
 use Rattle.nfs_xdr.specs.declared.op.Op.{Op}

@@ -1,37 +1,40 @@
 -- What is found of an owner among the stored ones is what the rules find among the known ones.
 use Rattle.std.proofs.Common.{◌≡◌, ℕ, Bool, true, false, Option, Some, None, List, [], ◌∷◌, Result, Ok, Err, refl, sym, ap, ◌∙◌, subst, arith}
-use Rattle.std.specs.Prelude.{◌≢◌, ◌&&◌, not, map, find, option_map, is_some, if◌then◌else◌}
+use Rattle.std.specs.Prelude.{◌≢◌, ◌&&◌, ◌==◌, not, map, find, option_and_then, option_map, is_some, slice_get, if◌then◌else◌}
 use Rattle.std.specs.List.{AllByRecursion}
 use Rattle.std.specs.Result.{OnErr}
 use Rattle.nfs_rules.specs.Deciding.{HasPassage}
-use Rattle.nfs_state.specs.Entries.{IsSendable}
-use Rattle.nfs_rules.specs.Finding.{stored_or_bad}
-use Rattle.nfs_state.specs.Kept.{Agrees, IsKeptIn, kept_for}
+use Rattle.nfs_state.specs.Entries.{IsSendable, call_of}
+use Rattle.nfs_rules.specs.Finding.{IsCallAt, call_at, parts_of, parts_seen, stored_or_bad}
+use Rattle.nfs_state.specs.Kept.{Agrees, IsKeptIn, kept_for, kept_in, kept_of, kept_with}
 use Rattle.nfs_state.specs.Owners.{KnownOwner, confirmed_if_known, has_name, is_confirmed, owner_of}
 use Rattle.nfs_rules.specs.declared.passage.Passage.TheVariants as passages
+use Rattle.nfs_state.specs.declared.entry.Call.{Call}
+use Rattle.nfs_state.specs.declared.entry.Entry.{Entry}
 use Rattle.nfs_state.specs.declared.request.Request.{Request}
 use Rattle.nfs_state.specs.Room.{is_known}
 use Rattle.nfs_forms.specs.declared.locker.NewLocker.{NewLocker}
-use Rattle.nfs_owners.specs.Kept.{precedes}
 use Rattle.nfs_rules.specs.Newcomers.{Nobody, Known, Unknown, is_next, newcomer_if}
 use Rattle.nfs_rules.specs.Sequences.{IsOfKnown, IsOfOwner, IsOfUnknown, IsRestart, SequenceStep, Answered, GoesOn, by_verdict, has_closed, is_open, owner_or_bad, refusal_to}
 use Rattle.nfs_state.specs.State.{State, History}
 use Rattle.nfs_state.specs.Stored.{known_owner}
+use Rattle.nfs_owners.specs.declared.state_owner.OwnerKind.{OwnerKind}
 use Rattle.nfs_owners.specs.declared.state_owner.StateOwner.{StateOwner}
 use Rattle.nfs_forms.specs.declared.stateid.Stateid.{Stateid}
 use Rattle.nfs_forms.specs.declared.status.Refusal.{Refusal}
 use Rattle.nfs_forms.specs.declared.status.Refusal.TheVariants as refusals
-use Rattle.nfs_owners.specs.declared.kept.Kept.{Kept}
-use Rattle.nfs_owners.specs.declared.kept.KeptRequest.{KeptRequest}
+use Rattle.nfs_owners.specs.declared.kept.KeptCall.{KeptCall}
+use Rattle.nfs_owners.specs.declared.kept.KeptSummary.{KeptSummary}
 use Rattle.nfs_owners.specs.declared.kept.Verdict.{Verdict}
 use Rattle.nfs_owners.specs.declared.kept.Verdict.TheVariants as verdicts
 use Rattle.nfs_owners.specs.declared.owner.Owner.{Owner}
 use Rattle.nfs_owners.specs.declared.owner.OwnerState.{OwnerState}
-use Rattle.nfs_owners.specs.Kept.{IsAgain, closes, request_of}
+use Rattle.nfs_owners.specs.Kept.{IsAgain, Kept, KeptRequest, kept_seen, next_seqid, request_of, summary_closes}
 use Rattle.nfs_owners.specs.Owner as owners
 use Rattle.nfs_xdr.specs.declared.op.Op.{Op}
 use Rattle.nfs_xdr.specs.declared.op.Op.TheVariants as ops
 use Rattle.nfs_xdr.specs.declared.op_result.OpResult.{OpResult}
+use Rattle.nfs_xdr.specs.Names.{seqid_of}
 use Rattle.nfs_xdr.specs.Op.{opnum_of}
 use Rattle.nfs_xdr.specs.OpResult as results
 use Rattle.nfs_xdr.specs.OpResult.{refusal_of}
@@ -69,18 +72,55 @@ found_has P p (first ∷ stored) o all found = by (λ found. found_has P p store
     by rest false found = rest found
 
 -- what is kept for the known owner is what is stored of it
-kept_found : (journal : History) (name : StateOwner) (stored : List Owner) (o : Owner) → Agrees journal stored → owners.owner_of name stored ≡ Some o → IsKeptIn journal o
+pub kept_found : (journal : History) (name : StateOwner) (stored : List Owner) (o : Owner) → Agrees journal stored → owners.owner_of name stored ≡ Some o → IsKeptIn journal o
 kept_found journal name stored o agrees found = found_has (IsKeptIn journal) (owners.has_name name) stored o agrees found
 
--- the owner whose kept entry closed the stateid's open is the one whose stored request did
-closed_same : (journal : History) (id : Stateid) (stored : List Owner) → Agrees journal stored → AllByRecursion (λ o. has_closed id (kept_for journal (known_owner o)) ≡ closes id.client id.number o.state.kept) stored
+-- the owner whose kept entry closed the stateid's open is the one of which it is stored that its kept request did
+closed_same : (journal : History) (id : Stateid) (stored : List Owner) → Agrees journal stored → AllByRecursion (λ o. has_closed id (kept_for journal (known_owner o)) ≡ summary_closes id.client id.number o.state.kept) stored
 closed_same journal id [] agrees = tt
-closed_same journal id (o ∷ stored) agrees = (ap (has_closed id) (agrees.0.entry), closed_same journal id stored agrees.1)
+closed_same journal id (o ∷ stored) agrees = (ap (has_closed id) (agrees.0.entry) ∙ sym (ap (summary_closes id.client id.number) agrees.0.stored), closed_same journal id stored agrees.1)
 
-pub closer_known : (journal : History) (id : Stateid) (seqid : ℕ) (stored : List Owner) → Agrees journal stored → owner_or_bad seqid (find (λ o. has_closed id (kept_for journal o)) (map known_owner stored)) ≡ stored_or_bad seqid (option_map (λ o. o.name) (find (λ o. closes id.client id.number o.state.kept) stored))
+pub closer_known : (journal : History) (id : Stateid) (seqid : ℕ) (stored : List Owner) → Agrees journal stored → owner_or_bad seqid (find (λ o. has_closed id (kept_for journal o)) (map known_owner stored)) ≡ stored_or_bad seqid (option_map (λ o. o.name) (find (λ o. summary_closes id.client id.number o.state.kept) stored))
 closer_known journal id seqid stored agrees =
-    ap (owner_or_bad seqid) (find_known (λ o. has_closed id (kept_for journal o)) (λ o. closes id.client id.number o.state.kept) stored (closed_same journal id stored agrees))
-    ∙ stored_as_known seqid (find (λ o. closes id.client id.number o.state.kept) stored)
+    ap (owner_or_bad seqid) (find_known (λ o. has_closed id (kept_for journal o)) (λ o. summary_closes id.client id.number o.state.kept) stored (closed_same journal id stored agrees))
+    ∙ stored_as_known seqid (find (λ o. summary_closes id.client id.number o.state.kept) stored)
+
+-- what owners keep of an entry is of the call that it records
+kept_parts : (kind : OwnerKind) (found : Option Entry) (kept : Kept) (call : KeptCall) → option_map (λ (k : OwnerKind → Kept). k kind) (option_and_then kept_in found) ≡ Some kept → option_map parts_of (option_and_then call_of found) ≡ Some (parts_seen call)
+    → (kept.request ≡ request_of call.op.now call.filehandle) × (kept.answer ≡ call.answer.now)
+kept_parts kind None kept call is there = absurd cc
+kept_parts kind (Some entry) kept call is there = of_call (call_of entry) is there
+  where
+    some_kept : (a b : Kept) → Some a ≡ Some b → a ≡ b
+    some_kept a b same = cc
+
+    some_parts : (a b : KeptRequest × OpResult) → Some a ≡ Some b → a ≡ b
+    some_parts a b same = cc
+
+    of_seqid : (c : Call) (seqid : Option ℕ) → option_map (λ (k : OwnerKind → Kept). k kind) (option_map (kept_with c) seqid) ≡ Some kept → parts_of c ≡ parts_seen call → (kept.request ≡ request_of call.op.now call.filehandle) × (kept.answer ≡ call.answer.now)
+    of_seqid c None is parts = absurd cc
+    of_seqid c (Some seqid) is parts =
+        let same = some_kept (kept_with c seqid kind) kept is in
+        (sym (ap (λ (k : Kept). k.request) same) ∙ ap (λ (p : KeptRequest × OpResult). p.0) parts, sym (ap (λ (k : Kept). k.answer) same) ∙ ap (λ (p : KeptRequest × OpResult). p.1) parts)
+
+    of_call : (c : Option Call) → option_map (λ (k : OwnerKind → Kept). k kind) (option_and_then kept_of c) ≡ Some kept → option_map parts_of c ≡ Some (parts_seen call) → (kept.request ≡ request_of call.op.now call.filehandle) × (kept.answer ≡ call.answer.now)
+    of_call None is there = absurd cc
+    of_call (Some c) is there = of_seqid c (seqid_of c.request.op) is (some_parts (parts_of c) (parts_seen call) there)
+
+-- what is kept of an entry is of a call
+kept_is_call : (kind : OwnerKind) (found : Option Entry) (kept : Kept) → option_map (λ (k : OwnerKind → Kept). k kind) (option_and_then kept_in found) ≡ Some kept → is_some (option_and_then call_of found) ≡ true
+kept_is_call kind None kept is = absurd cc
+kept_is_call kind (Some entry) kept is = of_call (call_of entry) is
+  where
+    of_call : (c : Option Call) → option_map (λ (k : OwnerKind → Kept). k kind) (option_and_then kept_of c) ≡ Some kept → is_some c ≡ true
+    of_call None is = absurd cc
+    of_call (Some c) is = refl
+
+-- what is stored of an owner, and the call that its entry has, are what is kept for it
+seen_as_kept : (journal : History) (o : Owner) (call : KeptCall) (is : IsKeptIn journal o) → IsCallAt journal o.state.number call → kept_seen o.state.kept call ≡ is.kept
+seen_as_kept journal o call is there =
+    let parts = kept_parts o.name.kind (slice_get journal.entries o.state.number) is.kept call is.entry there in
+    λ i. record { seqid = (ap (λ (s : KeptSummary). s.seqid) is.stored) i; request = sym parts.0 i; answer = sym parts.1 i }
 
 -- The kept request again has the same operation, whose answer can be sent as before.
 pub replay_sendable : (kept : Kept) (seqid : ℕ) (op : Op) (filehandle : Option ℕ) (answer : OpResult) → IsSendable kept.request.op kept.answer → IsAgain kept seqid (request_of op filehandle) → answer ≡ kept.answer → IsSendable op answer
@@ -109,11 +149,11 @@ refusal_sendable op refusal answer other is = record {
   short = subst IsShort (sym is) (refusal_answers op refusal).1;
 }
 
--- A sequence that the stored owner gives is one that the known owner gives.
-pub owner_sequence : (journal : History) (name : StateOwner) (stored : List Owner) (o : Owner) (seqid : ℕ) (request : Request) (s : SequenceStep) → Agrees journal stored → owners.owner_of name stored ≡ Some o → IsOfKnown (is_open request.op && not o.state.confirmed) o.state.kept name seqid request s → IsOfOwner journal (owner_of name (map known_owner stored)) name seqid request s
-owner_sequence journal name stored o seqid request s agrees found is =
+-- A sequence that what is kept for the stored owner gives is one that the known owner gives.
+pub owner_sequence : (journal : History) (name : StateOwner) (stored : List Owner) (o : Owner) (kept : Kept) (seqid : ℕ) (request : Request) (s : SequenceStep) → kept_for journal (known_owner o) ≡ Some kept → owners.owner_of name stored ≡ Some o → IsOfKnown (is_open request.op && not o.state.confirmed) kept name seqid request s → IsOfOwner journal (owner_of name (map known_owner stored)) name seqid request s
+owner_sequence journal name stored o kept seqid request s keeps found is =
     let of_owner : Option KnownOwner → Type 0 = λ known. IsOfOwner journal known name seqid request s in
-    subst of_owner (sym (owner_known name stored ∙ ap (option_map known_owner) found)) (o.state.kept, (kept_found journal name stored o agrees found).entry, is)
+    subst of_owner (sym (owner_known name stored ∙ ap (option_map known_owner) found)) (kept, keeps, is)
 
 pub unknown_sequence : (journal : History) (name : StateOwner) (stored : List Owner) (seqid : ℕ) (request : Request) (s : SequenceStep) → owners.owner_of name stored ≡ None → IsOfUnknown name request s → IsOfOwner journal (owner_of name (map known_owner stored)) name seqid request s
 unknown_sequence journal name stored seqid request s none is =
@@ -134,9 +174,9 @@ known_passage : (b : Bool) (state : State) (kept : Kept) (name : StateOwner) (se
 known_passage true state kept name seqid request s known is = restart_passage state kept name seqid request s known is
 known_passage false state kept name seqid request s known is = subst (HasPassage state) (sym is.2) (verdict_passage state name request.op is.0 known)
 
-owner_passage : (state : State) (name : StateOwner) (stored : List Owner) (o : Owner) (seqid : ℕ) (request : Request) (s : SequenceStep) → state.owners ≡ map known_owner stored → owners.owner_of name stored ≡ Some o → IsOfKnown (is_open request.op && not o.state.confirmed) o.state.kept name seqid request s → HasPassage state s
-owner_passage state name stored o seqid request s are found is =
-    known_passage _ state o.state.kept name seqid request s
+owner_passage : (state : State) (name : StateOwner) (stored : List Owner) (o : Owner) (kept : Kept) (seqid : ℕ) (request : Request) (s : SequenceStep) → state.owners ≡ map known_owner stored → owners.owner_of name stored ≡ Some o → IsOfKnown (is_open request.op && not o.state.confirmed) kept name seqid request s → HasPassage state s
+owner_passage state name stored o kept seqid request s are found is =
+    known_passage _ state kept name seqid request s
     (ap is_some (ap (owner_of name) are ∙ owner_known name stored ∙ ap (option_map known_owner) found)) is
 
 begin_passage : (b : Bool) (state : State) (name : StateOwner) (op : Op) → is_known name state ≡ false → HasPassage state (if b then GoesOn passages.Begins name else refusal_to op refusals.BadStateId)
@@ -155,10 +195,11 @@ newcomer_none journal locker name stored none =
     ap (newcomer_if journal locker) (sym (owner_known name stored ∙ ap (option_map known_owner) none))
 
 owner_newcomer : (journal : History) (locker : NewLocker) (name : StateOwner) (stored : List Owner) (o : Owner) (b : Bool) → Agrees journal stored → owners.owner_of name stored ≡ Some o
-    → b ≡ precedes o.state.kept locker.lock_seqid → (if b then Known locker.lock_owner else Nobody) ≡ newcomer_if journal locker (owner_of name (map known_owner stored))
+    → b ≡ (locker.lock_seqid == next_seqid o.state.kept.seqid) → (if b then Known locker.lock_owner else Nobody) ≡ newcomer_if journal locker (owner_of name (map known_owner stored))
 owner_newcomer journal locker name stored o b agrees found is =
+    let kept = kept_found journal name stored o agrees found in
     ap (λ b. if b then Known locker.lock_owner else Nobody)
-    (is ∙ sym (ap (is_next locker.lock_seqid) (kept_found journal name stored o agrees found).entry))
+    (is ∙ ap (λ (k : KeptSummary). locker.lock_seqid == next_seqid k.seqid) kept.stored ∙ sym (ap (is_next locker.lock_seqid) kept.entry))
     ∙ ap (newcomer_if journal locker) (sym (owner_known name stored ∙ ap (option_map known_owner) found))
 
 -- The same where only the state of an owner is found.
@@ -183,25 +224,37 @@ no_owner (Some o) is = absurd cc
 pub none_found : (name : StateOwner) (stored : List Owner) → found_state name stored ≡ None → owners.owner_of name stored ≡ None
 none_found name stored is = no_owner (owners.owner_of name stored) is
 
-pub sendable_found : (journal : History) (name : StateOwner) (stored : List Owner) (s : OwnerState) → Agrees journal stored → found_state name stored ≡ Some s → IsSendable s.kept.request.op s.kept.answer
-sendable_found journal name stored s agrees found =
-    by_owner (owners.owner_of name stored) s (λ s. IsSendable s.kept.request.op s.kept.answer) (λ o is. (kept_found journal name stored o agrees is).sendable) found
+pub has_call : (journal : History) (name : StateOwner) (stored : List Owner) (s : OwnerState) → Agrees journal stored → found_state name stored ≡ Some s → is_some (call_at journal s.number) ≡ true
+has_call journal name stored s agrees found =
+    by_owner (owners.owner_of name stored) s (λ s. is_some (call_at journal s.number) ≡ true)
+    (λ o is.
+    let kept = kept_found journal name stored o agrees is in
+    kept_is_call o.name.kind (slice_get journal.entries o.state.number) kept.kept kept.entry) found
 
-pub known_sequence : (journal : History) (name : StateOwner) (stored : List Owner) (s : OwnerState) (seqid : ℕ) (request : Request) (step : SequenceStep) → Agrees journal stored → found_state name stored ≡ Some s → IsOfKnown (is_open request.op && not s.confirmed) s.kept name seqid request step → IsOfOwner journal (owner_of name (map known_owner stored)) name seqid request step
-known_sequence journal name stored s seqid request step agrees found is =
-    by_owner (owners.owner_of name stored) s
-    (λ s. IsOfKnown (is_open request.op && not s.confirmed) s.kept name seqid request step → IsOfOwner journal (owner_of name (map known_owner stored)) name seqid request step)
-    (λ o one is. owner_sequence journal name stored o seqid request step agrees one is) found is
+pub sendable_found : (journal : History) (name : StateOwner) (stored : List Owner) (s : OwnerState) (call : KeptCall) → Agrees journal stored → found_state name stored ≡ Some s → IsCallAt journal s.number call → IsSendable call.op.now call.answer.now
+sendable_found journal name stored s call agrees found =
+    by_owner (owners.owner_of name stored) s (λ s. IsCallAt journal s.number call → IsSendable call.op.now call.answer.now)
+    (λ o is has.
+    let kept = kept_found journal name stored o agrees is in
+    subst (λ (k : Kept). IsSendable k.request.op k.answer) (sym (seen_as_kept journal o call kept has)) kept.sendable) found
 
-pub passage_known : (state : State) (name : StateOwner) (stored : List Owner) (s : OwnerState) (seqid : ℕ) (request : Request) (step : SequenceStep) → state.owners ≡ map known_owner stored → found_state name stored ≡ Some s → IsOfKnown (is_open request.op && not s.confirmed) s.kept name seqid request step → HasPassage state step
-passage_known state name stored s seqid request step are found is =
+pub known_sequence : (journal : History) (name : StateOwner) (stored : List Owner) (s : OwnerState) (call : KeptCall) (seqid : ℕ) (request : Request) (step : SequenceStep) → Agrees journal stored → found_state name stored ≡ Some s → IsCallAt journal s.number call → IsOfKnown (is_open request.op && not s.confirmed) (kept_seen s.kept call) name seqid request step → IsOfOwner journal (owner_of name (map known_owner stored)) name seqid request step
+known_sequence journal name stored s call seqid request step agrees found has is =
     by_owner (owners.owner_of name stored) s
-    (λ s. IsOfKnown (is_open request.op && not s.confirmed) s.kept name seqid request step → HasPassage state step)
-    (λ o one is. owner_passage state name stored o seqid request step are one is) found is
+    (λ s. IsCallAt journal s.number call → IsOfKnown (is_open request.op && not s.confirmed) (kept_seen s.kept call) name seqid request step → IsOfOwner journal (owner_of name (map known_owner stored)) name seqid request step)
+    (λ o one has is.
+    let kept = kept_found journal name stored o agrees one in
+    owner_sequence journal name stored o kept.kept seqid request step kept.entry one (subst (λ (k : Kept). IsOfKnown (is_open request.op && not o.state.confirmed) k name seqid request step) (seen_as_kept journal o call kept has) is)) found has is
+
+pub passage_known : (state : State) (name : StateOwner) (stored : List Owner) (s : OwnerState) (kept : Kept) (seqid : ℕ) (request : Request) (step : SequenceStep) → state.owners ≡ map known_owner stored → found_state name stored ≡ Some s → IsOfKnown (is_open request.op && not s.confirmed) kept name seqid request step → HasPassage state step
+passage_known state name stored s kept seqid request step are found is =
+    by_owner (owners.owner_of name stored) s
+    (λ s. IsOfKnown (is_open request.op && not s.confirmed) kept name seqid request step → HasPassage state step)
+    (λ o one is. owner_passage state name stored o kept seqid request step are one is) found is
 
 pub newcomer_found : (journal : History) (locker : NewLocker) (name : StateOwner) (stored : List Owner) (s : OwnerState) (b : Bool) → Agrees journal stored → found_state name stored ≡ Some s
-    → b ≡ precedes s.kept locker.lock_seqid → (if b then Known locker.lock_owner else Nobody) ≡ newcomer_if journal locker (owner_of name (map known_owner stored))
+    → b ≡ (locker.lock_seqid == next_seqid s.kept.seqid) → (if b then Known locker.lock_owner else Nobody) ≡ newcomer_if journal locker (owner_of name (map known_owner stored))
 newcomer_found journal locker name stored s b agrees found is =
     by_owner (owners.owner_of name stored) s
-    (λ s. b ≡ precedes s.kept locker.lock_seqid → (if b then Known locker.lock_owner else Nobody) ≡ newcomer_if journal locker (owner_of name (map known_owner stored)))
+    (λ s. b ≡ (locker.lock_seqid == next_seqid s.kept.seqid) → (if b then Known locker.lock_owner else Nobody) ≡ newcomer_if journal locker (owner_of name (map known_owner stored)))
     (λ o one is. owner_newcomer journal locker name stored o b agrees one is) found is

@@ -25,10 +25,9 @@ use Rattle.nfs_rules.specs.Sequences.{IsDecided, IsJudged, IsOfKnown, IsOfOwner,
 use Rattle.nfs_state.specs.Kept.{kept_for}
 use Rattle.nfs_state.specs.State.{State, History}
 use Rattle.nfs_owners.specs.declared.state_owner.StateOwner.{StateOwner}
-use Rattle.nfs_owners.specs.declared.kept.Kept.{Kept}
 use Rattle.nfs_owners.specs.declared.kept.Verdict.{Verdict}
 use Rattle.nfs_owners.specs.declared.kept.Verdict.TheVariants as verdicts
-use Rattle.nfs_owners.specs.Kept.{IsVerdict, next_seqid, request_of}
+use Rattle.nfs_owners.specs.Kept.{IsVerdict, Kept, next_seqid, request_of}
 use Rattle.nfs_forms.specs.declared.client_id.ClientId.{ClientId}
 use Rattle.nfs_forms.specs.declared.lock_owner.LockOwner.{LockOwner}
 use Rattle.nfs_locks.specs.AllLocks.{LockAt, locks_of}

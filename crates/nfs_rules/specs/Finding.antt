@@ -1,6 +1,6 @@
 -- What the functions that look up a stateid and an owner return, as the rules speak of it; used only in the contracts
 -- of this crate's own functions.
-use Rattle.std.specs.Prelude.{ℕ, Option, Some, None, option_map, Result, Ok, Err}
+use Rattle.std.specs.Prelude.{◌≡◌, ℕ, Option, Some, None, option_and_then, option_map, slice_get, Result, Ok, Err}
 use Rattle.std.specs.Option.{option_copied}
 use Rattle.nfs_locks.specs.AllLocks.{LockAt}
 use Rattle.nfs_locks.specs.LockFound.{lock_found_seen}
@@ -26,10 +26,15 @@ use Rattle.nfs_rules.specs.Stateids.{as_delegation, as_lock, as_open, verdict_on
 use Rattle.nfs_rules.specs.declared.demand.Demand.{Demand}
 use Rattle.nfs_rules.specs.operations.Lock as lock
 use Rattle.nfs_share.specs.AllOpens.{DelegationAt, OpenAt}
-use Rattle.nfs_state.specs.State.{State}
+use Rattle.nfs_state.specs.Entries.{call_of}
+use Rattle.nfs_state.specs.State.{State, History}
 use Rattle.nfs_forms.specs.declared.stateid.Stateid.{Stateid}
 use Rattle.nfs_forms.specs.declared.status.Refusal.{Refusal}
 use Rattle.nfs_forms.specs.declared.status.Refusal.TheVariants as refusals
+use Rattle.nfs_owners.specs.Kept.{KeptRequest, request_of}
+use Rattle.nfs_owners.specs.declared.kept.KeptCall.{KeptCall}
+use Rattle.nfs_state.specs.declared.entry.Call.{Call}
+use Rattle.nfs_xdr.specs.declared.op_result.OpResult.{OpResult}
 use Rattle.nfs_owners.specs.StateOwner.{owner_seen}
 use Rattle.nfs_owners.specs.declared.state_owner.StateOwner.{StateOwner}
 
@@ -105,3 +110,18 @@ stored_or_bad seqid (Some name) = sequences.Owner name seqid
 abbrev pub sequence_seen : SequenceStep → sequences.SequenceStep
 sequence_seen (found_sequences.Answered answer) = sequences.Answered answer
 sequence_seen (found_sequences.GoesOn passage name) = sequences.GoesOn passage (owner_seen name)
+
+-- the call that the journal's entry with this number records, if it records one
+abbrev pub call_at : History → ℕ → Option Call
+call_at journal number = option_and_then call_of (slice_get journal.entries number)
+
+-- the request and the answer of a call, as they are kept for an owner
+abbrev pub parts_of : Call → KeptRequest × OpResult
+parts_of call = (request_of call.request.op call.request.filehandle, call.answer)
+
+abbrev pub parts_seen : KeptCall → KeptRequest × OpResult
+parts_seen call = (request_of call.op.now call.filehandle, call.answer.now)
+
+-- they are those of the call that the journal's entry with this number records
+abbrev pub IsCallAt : History → ℕ → KeptCall → Type 0
+IsCallAt journal number call = option_map parts_of (call_at journal number) ≡ Some (parts_seen call)

@@ -7,9 +7,8 @@ use Rattle.nfs_forms.specs.declared.lock_owner.LockOwner.{LockOwner}
 use Rattle.nfs_forms.specs.declared.locker.Locker.{Locker}
 use Rattle.nfs_forms.specs.declared.locker.Locker.TheVariants as lockers
 use Rattle.nfs_forms.specs.declared.locker.NewLocker.{NewLocker}
-use Rattle.nfs_owners.specs.Kept.{precedes}
+use Rattle.nfs_owners.specs.Kept.{Kept, precedes}
 use Rattle.nfs_owners.specs.StateOwner.{lock_owner}
-use Rattle.nfs_owners.specs.declared.kept.Kept.{Kept}
 use Rattle.nfs_state.specs.Kept.{kept_for}
 use Rattle.nfs_state.specs.Owners.{KnownOwner, owner_of}
 use Rattle.nfs_state.specs.State.{State, History}

@@ -26,10 +26,9 @@ use Rattle.nfs_forms.specs.declared.status.Refusal.{Refusal}
 use Rattle.nfs_forms.specs.declared.status.Refusal.TheVariants as refusals
 use Rattle.nfs_forms.specs.declared.status.Status.{Status}
 use Rattle.nfs_forms.specs.declared.status.Status.TheVariants as statuses
-use Rattle.nfs_owners.specs.declared.kept.Kept.{Kept}
 use Rattle.nfs_owners.specs.declared.kept.Verdict.{Verdict}
 use Rattle.nfs_owners.specs.declared.kept.Verdict.TheVariants as verdicts
-use Rattle.nfs_owners.specs.Kept.{IsAgain, IsVerdict, closes, request_of}
+use Rattle.nfs_owners.specs.Kept.{IsAgain, IsVerdict, Kept, closes, request_of}
 use Rattle.nfs_owners.specs.Registry.{record_of}
 use Rattle.nfs_xdr.specs.declared.op.Op.{Op}
 use Rattle.nfs_xdr.specs.declared.op.Op.TheVariants as ops

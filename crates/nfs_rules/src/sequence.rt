@@ -1,5 +1,5 @@
-ghost use Rattle.std.specs.Prelude.{◌≡◌, ◌≢◌, ◌&&◌, not, IfOk, OnErr, find, option_map};
-ghost use Rattle.nfs_rules.specs.Finding.{found_seen, requester_seen, sequence_seen, stored_or_bad, target_seen};
+ghost use Rattle.std.specs.Prelude.{◌≡◌, ◌≢◌, ◌&&◌, not, IfOk, IsTrue, OnErr, find, is_some, option_map};
+ghost use Rattle.nfs_rules.specs.Finding.{IsCallAt, call_at, found_seen, requester_seen, sequence_seen, stored_or_bad, target_seen};
 ghost use Rattle.nfs_rules.specs.Deciding.{HasAnswer, HasOtherRefusal, HasPassage, IsOther, IsSendableSequence};
 ghost use Rattle.nfs_state.specs.Entries.{IsSendable};
 ghost use Rattle.nfs_state.specs.Kept.{Agrees};
@@ -7,13 +7,13 @@ ghost use Rattle.nfs_state.specs.Room.{state_of};
 ghost use Rattle.nfs_state.specs.State.{History};
 ghost use Rattle.nfs_state.specs.Store.{OwnersAgree};
 ghost use Rattle.nfs_rules.specs.Sequences.{IsJudged, IsOfKnown, IsOfUnknown, IsRestart, IsSequence, is_open, refusal_to, requester_of_found, requester_of_open, requester_of_target};
-ghost use Rattle.nfs_owners.specs.Kept.{closes};
+ghost use Rattle.nfs_owners.specs.Kept.{kept_seen, summary_closes};
 ghost use Rattle.nfs_owners.specs.StateOwner.{owner_seen};
 
 use crate::passage::Passage;
 use crate::stateids::Found;
-use nfs_owners::{Kept, OwnerRef, OwnerState, Verdict};
-use nfs_state::{Request, Store, Tables};
+use nfs_owners::{KeptCall, KeptSummary, OwnerRef, OwnerState, Verdict};
+use nfs_state::{Entry, Journal, Request, Store, Tables};
 use nfs_xdr::{Op, OpResult, OpenOwner, Refusal, Stateid};
 use std::alloc::AllocError;
 
@@ -85,7 +85,7 @@ fn requester_of_found<'a>(seqid: u32, found: Found<'a>) -> Requester<'a>
 fn closer_of(tables: &Tables, stateid: Stateid, seqid: u32) -> Requester<'_>
     ensures { requester_seen result
         ≡ stored_or_bad seqid (option_map (λ o. o.name)
-        (find (λ o. closes stateid.client stateid.number o.state.kept)
+        (find (λ o. summary_closes stateid.client stateid.number o.state.kept)
         tables.now.owners.owners)) }
 {
     match tables.owners.closer_of(stateid.client, stateid.number) {
@@ -116,7 +116,25 @@ pub(crate) fn sequence_of<'a>(
     };
     match store.tables.owners.find(name) {
         None => Ok(begin(request, name)),
-        Some(known) => resume(known, request, name, seqid),
+        Some(known) => {
+            let call = kept_call(&store.journal, known.number);
+            resume(known, call, request, name, seqid)
+        }
+    }
+}
+
+// The request that the journal's entry with this number records, and the answer to it.
+fn kept_call(journal: &Journal, number: u32) -> KeptCall<'_>
+    requires { IsTrue (is_some (call_at journal.now.history number)) }
+    ensures { IsCallAt journal.now.history number result }
+{
+    match journal.entry(number as usize) {
+        Some(Entry::Call(call)) => KeptCall {
+            op: &call.request.op,
+            filehandle: call.request.filehandle,
+            answer: &call.answer,
+        },
+        _ => unreachable!(),
     }
 }
 
@@ -132,44 +150,48 @@ fn begin<'a>(request: &Request, name: OwnerRef<'a>) -> SequenceStep<'a>
     }
 }
 
-// A request of an owner of which this is known.
+// A request of an owner of which this is known, and which keeps this call.
 fn resume<'a>(
     known: &OwnerState,
+    call: KeptCall<'_>,
     request: &Request,
     name: OwnerRef<'a>,
     seqid: u32,
 ) -> Result<SequenceStep<'a>, AllocError>
-    requires { IsSendable known.now.kept.request.op known.now.kept.answer }
+    requires { IsSendable call.op.now call.answer.now }
     ensures sequence { IfOk result (λ s. IsOfKnown
         (is_open request.now.op && not known.now.confirmed)
-        known.now.kept (owner_seen name.entry) seqid request.now (sequence_seen s)) }
+        (kept_seen known.now.kept call.entry) (owner_seen name.entry) seqid request.now
+        (sequence_seen s)) }
     ensures sendable { IfOk result (λ s. IsSendableSequence request.now.op (sequence_seen s)) }
     ensures memory { OnErr result (HasAnswer (IsOfKnown
         (is_open request.now.op && not known.now.confirmed)
-        known.now.kept (owner_seen name.entry) seqid request.now)) }
+        (kept_seen known.now.kept call.entry) (owner_seen name.entry) seqid request.now)) }
 {
     if is_open(&request.op) && !known.confirmed {
-        restart(&known.kept, request, name, seqid)
+        restart(&known.kept, call, request, name, seqid)
     } else {
-        judge(&known.kept, request, name, seqid)
+        judge(&known.kept, call, request, name, seqid)
     }
 }
 
 // The owner's next request goes on, its kept one again is answered as it was, and any other is NFS4ERR_BAD_SEQID.
 fn judge<'a>(
-    kept: &Kept,
+    kept: &KeptSummary,
+    call: KeptCall<'_>,
     request: &Request,
     name: OwnerRef<'a>,
     seqid: u32,
 ) -> Result<SequenceStep<'a>, AllocError>
-    requires { IsSendable kept.now.request.op kept.now.answer }
+    requires { IsSendable call.op.now call.answer.now }
     ensures sequence { IfOk result (λ s.
-        IsJudged kept.now (owner_seen name.entry) seqid request.now (sequence_seen s)) }
+        IsJudged (kept_seen kept.now call.entry) (owner_seen name.entry) seqid request.now
+        (sequence_seen s)) }
     ensures sendable { IfOk result (λ s. IsSendableSequence request.now.op (sequence_seen s)) }
     ensures memory { OnErr result (HasAnswer
-        (IsJudged kept.now (owner_seen name.entry) seqid request.now)) }
+        (IsJudged (kept_seen kept.now call.entry) (owner_seen name.entry) seqid request.now)) }
 {
-    match kept.judge(seqid, &request.op, request.filehandle) {
+    match kept.judge(call, seqid, &request.op, request.filehandle) {
         Verdict::New => Ok(SequenceStep::GoesOn(Passage::Continues, name)),
         Verdict::Replay(answer) => Ok(SequenceStep::Answered(answer.clone()?)),
         Verdict::Bad => Ok(refusal_to(&request.op, Refusal::BadSeqId)),
@@ -178,19 +200,21 @@ fn judge<'a>(
 
 // An OPEN of an unconfirmed owner: the kept one again is answered as it was, and any other starts the owner anew.
 fn restart<'a>(
-    kept: &Kept,
+    kept: &KeptSummary,
+    call: KeptCall<'_>,
     request: &Request,
     name: OwnerRef<'a>,
     seqid: u32,
 ) -> Result<SequenceStep<'a>, AllocError>
-    requires { IsSendable kept.now.request.op kept.now.answer }
+    requires { IsSendable call.op.now call.answer.now }
     ensures sequence { IfOk result (λ s.
-        IsRestart kept.now (owner_seen name.entry) seqid request.now (sequence_seen s)) }
+        IsRestart (kept_seen kept.now call.entry) (owner_seen name.entry) seqid request.now
+        (sequence_seen s)) }
     ensures sendable { IfOk result (λ s. IsSendableSequence request.now.op (sequence_seen s)) }
     ensures memory { OnErr result (HasAnswer
-        (IsRestart kept.now (owner_seen name.entry) seqid request.now)) }
+        (IsRestart (kept_seen kept.now call.entry) (owner_seen name.entry) seqid request.now)) }
 {
-    match kept.judge(seqid, &request.op, request.filehandle) {
+    match kept.judge(call, seqid, &request.op, request.filehandle) {
         Verdict::Replay(answer) => Ok(SequenceStep::Answered(answer.clone()?)),
         Verdict::New | Verdict::Bad => Ok(SequenceStep::GoesOn(Passage::Restarts, name)),
     }

@@ -1,14 +1,16 @@
 -- Answering calls in batches: what is answered so far, one more call, and records that are left.
 use Rattle.std.proofs.Common.{◌≡◌, ℕ, ◌+◌, ◌<◌, ◌≤◌, true, List, [], ◌∷◌, ◌++◌, length, refl, sym, ap, subst, ◌∙◌, append_assoc, arith}
 use Rattle.std.specs.Prelude.{◌≢◌, Result, Ok, Err, OnErr}
-use Rattle.std.proofs.lemmas.List.{append-nil}
+use Rattle.std.specs.List.{flat_map}
+use Rattle.std.proofs.lemmas.List.{append-nil, flat_map_more, length-append}
+use Rattle.std.proofs.lemmas.List.Concat.{flat_map-cons}
 use Rattle.nfs_rpc.specs.Records.{Stream}
 use Rattle.nfs_rpc.specs.RpcCall.{HasFewOperations, IsCallWithinLimits}
 use Rattle.nfs_rpc.specs.declared.records.TheConstants.{RECORD_LIMIT}
 use Rattle.nfs_rpc.specs.declared.rpc_call.RpcCall.{RpcCall}
 use Rattle.nfs_rpc.specs.declared.rpc_call.RpcCall.TheVariants as calls
 use Rattle.nfs_server.specs.Answering.{operations_of}
-use Rattle.nfs_server.specs.Batch.{AreAnswered, Gathering, gathering, goes_on, messages_in, questions_in}
+use Rattle.nfs_server.specs.Batch.{AreAnswered, Gathering, gathering, goes_on, messages_in, questions_in, waiting_bytes}
 use Rattle.nfs_server.specs.PendingCall.{PendingView}
 use Rattle.nfs_server.specs.declared.replies.TheConstants.{BATCH_QUESTIONS, GATHER_LIMIT}
 use Rattle.nfs_server.specs.Connection.{Scene, scene}
@@ -21,12 +23,39 @@ use Rattle.nfs_server.proofs.Exchanges.{IsAnswered}
 use Rattle.nfs_server.specs.laws.Exchanges.{exchanged_then}
 use Rattle.nfs_server.proofs.Serving.{HasServed, exchanged_more, left_so, messages-append, messages-more, written-append, written-more}
 
+-- something is left
+pub some_left : (message : List ℕ) (rest : List (List ℕ)) → message ∷ rest ≢ []
+some_left message rest none = cc
+
 -- what is within the limits of a record is within those of the greatest one
 pub within_limits : (len : ℕ) (call : RpcCall) → len ≤ RECORD_LIMIT → IsCallWithinLimits len call → IsCallWithinLimits RECORD_LIMIT call
 within_limits len calls.Silent le within = within
 within_limits len (calls.Null xid) le within = within
 within_limits len (calls.Compound xid principal c) le within = (omega (arith, le, within.0), within.1)
 within_limits len (calls.Answer xid reply) le within = within
+
+-- the reply to one more call waits
+pub waiting-more : (gathered : List ℕ) (answered : List (List ℕ)) (reply : List ℕ) → waiting_bytes gathered (answered ++ reply ∷ []) ≡ waiting_bytes gathered answered ++ reply
+waiting-more gathered answered reply = sym (flat_map_more (λ (r : List ℕ). r) gathered answered reply)
+
+-- where no call was answered, only what was gathered waits
+pub waiting-none : (gathered : List ℕ) (answered : List (List ℕ)) → answered ≡ [] → waiting_bytes gathered answered ≡ gathered
+waiting-none gathered answered none = ap (λ (a : List (List ℕ)). waiting_bytes gathered a) none ∙ append-nil gathered
+
+-- the first of the calls that were answered is written
+pub waiting-written : (gathered reply : List ℕ) (answered : List (List ℕ)) → waiting_bytes (gathered ++ reply) answered ≡ waiting_bytes gathered (reply ∷ answered)
+waiting-written gathered reply answered =
+    append_assoc gathered reply (flat_map (λ (r : List ℕ). r) answered) ∙ ap (λ (w : List ℕ). gathered ++ w) (sym (flat_map-cons (λ (r : List ℕ). r) reply answered))
+
+-- a reply that waits has its bytes among those that wait
+pub waiting-length : (gathered reply : List ℕ) (answered : List (List ℕ)) → length gathered + length reply ≤ length (waiting_bytes gathered (reply ∷ answered))
+waiting-length gathered reply answered =
+    omega (arith, ap (λ (w : List ℕ). length w) (waiting-written gathered reply answered), length-append (gathered ++ reply) (flat_map (λ (r : List ℕ). r) answered), length-append gathered reply)
+
+-- where a record was ready, some were there
+pub some_records : (all : List (List ℕ)) (pending : List PendingView) (ready : List (List ℕ)) (message : List ℕ) (rest : List (List ℕ)) → all ≡ messages_in pending ++ ready → ready ≡ message ∷ rest → all ≢ []
+some_records all [] ready message rest is first none = some_left message rest (sym first ∙ sym is ∙ none)
+some_records all (p ∷ pending) ready message rest is first none = some_left p.message (messages_in pending ++ ready) (sym is ∙ none)
 
 -- nothing was answered yet
 pub answered_none : {S C : Type 0} (rules : Rules S C) (now : Gathering S C) → AreAnswered rules now [] now
@@ -44,11 +73,11 @@ reached : {S C : Type 0} (rules : Rules S C) (before after : Gathering S C) (a :
 reached {S = S} rules before after a = subst (λ (s : S). AreExchanged rules before.service before.clock a.exchanges s after.clock) (sym a.stays) a.exchanged
 
 -- one more call was answered
-pub answered_more : {S C : Type 0} (rules : Rules S C) (before mid after : Gathering S C) (message : List ℕ)
-    → AreAnswered rules before [] mid → mid.left ≡ message ∷ after.left
-    → IsAnswered rules mid.service mid.clock message mid.gathered after.gathered after.service after.clock
+pub answered_more : {S C : Type 0} (rules : Rules S C) (before mid after : Gathering S C) (message bytes : List ℕ)
+    → AreAnswered rules before [] mid → mid.left ≡ message ∷ after.left → after.gathered ≡ mid.gathered ++ bytes
+    → IsAnswered rules mid.service mid.clock message bytes after.service after.clock
     → AreAnswered rules before [] after
-answered_more rules before mid after message a first one =
+answered_more rules before mid after message bytes a first more one =
     let e = one.0 in
     record {
       exchanges = a.exchanges ++ e ∷ [];
@@ -56,7 +85,7 @@ answered_more rules before mid after message a first one =
       served = a.served ∙ ap (λ (l : List (List ℕ)). messages_of a.exchanges ++ l) (first ∙ ap (λ (m : List ℕ). m ∷ after.left) (sym one.1)) ∙ messages-more a.exchanges e after.left;
       exchanged = exchanged_more rules a.exchanges e before.service mid.service after.service before.clock mid.clock after.clock (reached rules before mid a) one.2;
       stays = refl;
-      written = one.3 ∙ ap (λ (g : List ℕ). g ++ written_for rules.tree e) a.written ∙ append_assoc before.gathered (written_for_all rules.tree a.exchanges) (written_for rules.tree e)
+      written = more ∙ ap (λ (b : List ℕ). mid.gathered ++ b) one.3 ∙ ap (λ (g : List ℕ). g ++ written_for rules.tree e) a.written ∙ append_assoc before.gathered (written_for_all rules.tree a.exchanges) (written_for rules.tree e)
           ∙ ap (λ (w : List ℕ). before.gathered ++ w) (sym (written-more rules.tree a.exchanges e));
     }
 
@@ -178,8 +207,16 @@ pub going_on : (pending : List PendingView) (asked waiting : ℕ) → goes_on pe
 going_on [] asked waiting goes = absurd cc
 going_on (p ∷ pending) asked waiting goes = omega arith
 
+pub waits_few : (p : PendingView) (pending : List PendingView) (asked waiting : ℕ) → goes_on (p ∷ pending) asked waiting ≡ true → waiting ≤ GATHER_LIMIT
+waits_few p pending asked waiting goes = grind (arith, goes)
+
 pub asked_then : (p : PendingView) (pending : List PendingView) (asked waiting : ℕ) → goes_on (p ∷ pending) asked waiting ≡ true → asked + questions_in p.call ≤ BATCH_QUESTIONS
 asked_then p pending asked waiting goes = grind (arith, goes)
+
+-- where a call is pending, there is a record
+pub some_pending : (all : List (List ℕ)) (pending : List PendingView) (ready : List (List ℕ)) → all ≡ messages_in pending ++ ready → pending ≢ [] → all ≢ []
+some_pending all [] ready is some none = some refl
+some_pending all (p ∷ pending) ready is some none = some_left p.message (messages_in pending ++ ready) (sym is ∙ none)
 
 -- nothing is left: neither pending nor ready
 pub none_ready : (pending : List PendingView) (ready : List (List ℕ)) → messages_in pending ++ ready ≡ [] → ready ≡ []
@@ -189,10 +226,6 @@ none_ready (p ∷ pending) ready none = absurd cc
 pub none_pending : (pending : List PendingView) (ready : List (List ℕ)) → messages_in pending ++ ready ≡ [] → pending ≡ []
 none_pending [] ready none = refl
 none_pending (p ∷ pending) ready none = absurd cc
-
--- something is left
-pub some_left : (message : List ℕ) (rest : List (List ℕ)) → message ∷ rest ≢ []
-some_left message rest none = cc
 
 pub on_err : {T E : Type 0} (r : Result T E) (P : Type 0) → P → OnErr r P
 on_err (Ok x) P p = tt

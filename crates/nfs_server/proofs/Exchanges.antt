@@ -1,6 +1,5 @@
 -- A record that was answered, as an exchange.
-use Rattle.std.proofs.Common.{◌≡◌, ℕ, List, [], ◌++◌, map, refl, sym, ap, ◌∙◌}
-use Rattle.std.proofs.lemmas.List.{append-nil}
+use Rattle.std.proofs.Common.{◌≡◌, ℕ, List, [], map, refl, ap, ◌∙◌}
 use Rattle.nfs_rpc.specs.declared.rpc_call.RpcCall.TheVariants as calls
 use Rattle.nfs_rpc.specs.declared.reply.CompoundReply.{CompoundReply}
 use Rattle.nfs_rpc.specs.declared.reply.Reply.{Reply}
@@ -14,31 +13,31 @@ use Rattle.nfs_xdr.specs.declared.compound.Compound.{Compound}
 use Rattle.nfs_xdr.specs.declared.op_result.OpResult.{OpResult}
 use Rattle.nfs_forms.specs.declared.principal.Principal.{Principal}
 
--- the message was answered, and its reply was added after the bytes that were there before
-abbrev pub IsAnswered : {S C : Type 0} → Rules S C → S → C → List ℕ → List ℕ → List ℕ → S → C → Type 0
-IsAnswered rules service clock message before after service' clock' =
+-- the message was answered, and these bytes are to be written for it
+abbrev pub IsAnswered : {S C : Type 0} → Rules S C → S → C → List ℕ → List ℕ → S → C → Type 0
+IsAnswered rules service clock message bytes service' clock' =
     (e : Exchange) × (e.message ≡ message) × IsExchanged rules service clock e service' clock'
-    × (after ≡ before ++ written_for rules.tree e)
+    × (bytes ≡ written_for rules.tree e)
 
-pub answers_silence : {S C : Type 0} (rules : Rules S C) (service : S) (clock : C) (message before after : List ℕ) → IsCall message calls.Silent → after ≡ before → IsAnswered rules service clock message before after service clock
-answers_silence rules service clock message before after call same =
-    (record { message = message; call = calls.Silent; moment = 0; answers = [] }, refl, (service, call, refl, refl, refl), same ∙ sym (append-nil before))
+pub answers_silence : {S C : Type 0} (rules : Rules S C) (service : S) (clock : C) (message bytes : List ℕ) → IsCall message calls.Silent → bytes ≡ [] → IsAnswered rules service clock message bytes service clock
+answers_silence rules service clock message bytes call same =
+    (record { message = message; call = calls.Silent; moment = 0; answers = [] }, refl, (service, call, refl, refl, refl), same)
 
-pub answers_null : {S C : Type 0} (rules : Rules S C) (service : S) (clock : C) (message before after : List ℕ) (xid : ℕ) → IsCall message (calls.Null xid) → after ≡ before ++ written_record (written_reply xid replies.Null) → IsAnswered rules service clock message before after service clock
-answers_null rules service clock message before after xid call written =
+pub answers_null : {S C : Type 0} (rules : Rules S C) (service : S) (clock : C) (message bytes : List ℕ) (xid : ℕ) → IsCall message (calls.Null xid) → bytes ≡ written_record (written_reply xid replies.Null) → IsAnswered rules service clock message bytes service clock
+answers_null rules service clock message bytes xid call written =
     (record { message = message; call = calls.Null xid; moment = 0; answers = [] }, refl, (service, call, refl, refl, refl), written)
 
-pub answers_alone : {S C : Type 0} (rules : Rules S C) (service : S) (clock : C) (message before after : List ℕ) (xid : ℕ) (reply : Reply) → IsCall message (calls.Answer xid reply) → after ≡ before ++ written_record (written_reply xid reply) → IsAnswered rules service clock message before after service clock
-answers_alone rules service clock message before after xid reply call written =
+pub answers_alone : {S C : Type 0} (rules : Rules S C) (service : S) (clock : C) (message bytes : List ℕ) (xid : ℕ) (reply : Reply) → IsCall message (calls.Answer xid reply) → bytes ≡ written_record (written_reply xid reply) → IsAnswered rules service clock message bytes service clock
+answers_alone rules service clock message bytes xid reply call written =
     (record { message = message; call = calls.Answer xid reply; moment = 0; answers = [] }, refl, (service, call, refl, refl, refl), written)
 
-pub answers_compound : {S C : Type 0} (rules : Rules S C) (service ready service' : S) (clock clock' : C) (message before after : List ℕ) (xid moment : ℕ) (principal : Principal) (compound : Compound) (reply : CompoundReply)
+pub answers_compound : {S C : Type 0} (rules : Rules S C) (service ready service' : S) (clock clock' : C) (message bytes : List ℕ) (xid moment : ℕ) (principal : Principal) (compound : Compound) (reply : CompoundReply)
     → IsCall message (calls.Compound xid principal compound) → rules.alike service ready → rules.tells clock moment clock'
     → (answers : List OpResult) × Asks rules.gives ready (map (question_of moment principal) (compound_outcome rules.tree compound answers).asked) answers service' × (reply ≡ compound_reply rules.tree compound answers)
-    → after ≡ before ++ written_record (written_reply xid (replies.Compound reply)) → IsAnswered rules service clock message before after service' clock'
-answers_compound rules service ready service' clock clock' message before after xid moment principal compound reply call alike told asked written = (
+    → bytes ≡ written_record (written_reply xid (replies.Compound reply)) → IsAnswered rules service clock message bytes service' clock'
+answers_compound rules service ready service' clock clock' message bytes xid moment principal compound reply call alike told asked written = (
   record { message = message; call = calls.Compound xid principal compound; moment = moment; answers = asked.0 },
   refl,
   (ready, call, alike, asked.1, told),
-  written ∙ ap (λ (r : CompoundReply). before ++ written_record (written_reply xid (replies.Compound r))) asked.2,
+  written ∙ ap (λ (r : CompoundReply). written_record (written_reply xid (replies.Compound r))) asked.2,
 )

@@ -1,5 +1,6 @@
 -- Answering calls that were read, in batches; used only in the contracts of this crate's own functions.
 use Rattle.std.specs.Prelude.{◌≡◌, ◌+◌, ℕ, Bool, false, ◌&&◌, nat_le, List, [], ◌∷◌, ◌++◌, length, map}
+use Rattle.std.specs.List.{flat_map}
 use Rattle.nfs_rpc.specs.declared.rpc_call.RpcCall.{RpcCall}
 use Rattle.nfs_rpc.specs.declared.rpc_call.RpcCall.TheVariants as calls
 use Rattle.nfs_server.specs.Answering.{operations_of}
@@ -10,6 +11,10 @@ use Rattle.nfs_server.specs.declared.replies.TheConstants.{BATCH_QUESTIONS, GATH
 -- the records of the calls
 abbrev pub messages_in : List PendingView → List (List ℕ)
 messages_in pending = map (λ p. p.message) pending
+
+-- the replies that wait: those that were gathered, and then those to the calls that were answered
+abbrev pub waiting_bytes : List ℕ → List (List ℕ) → List ℕ
+waiting_bytes gathered answered = gathered ++ flat_map (λ reply. reply) answered
 
 -- how many questions a call may ask
 abbrev pub questions_in : RpcCall → ℕ

@@ -9,6 +9,7 @@ pub mod Sides
 pub mod Pair
 pub mod Exchange
 pub mod PendingCall
+pub mod AnsweredCall
 pub mod Batch
 pub mod Connection
 pub mod Serving

@@ -26,7 +26,8 @@ impl Model for Buffers {
     ghost view = { λ b. tt };
 
     ghost invariant = { λ b. (length b.piece.items ≡ PIECE_LEN)
-        × (b.replies.pending.items ≡ []) × (b.replies.gathered.items ≡ []) };
+        × (b.replies.pending.items ≡ []) × (b.replies.answered.items ≡ [])
+        × (b.replies.gathered.items ≡ []) };
 }
 
 impl Buffers {

@@ -2,6 +2,7 @@ ghost use Rattle.std.specs.Prelude.{◌≡◌, ◌+◌, ◌-◌, ◌^◌, ◌<�
 ghost use Rattle.std.specs.List.{All, flat_map};
 ghost use Rattle.nfs_server.specs.Answering.{compound_outcome, compound_reply, head_size, is_ok, last_status, operations_of, request_status};
 ghost use Rattle.nfs_server.specs.Asking.{Asks, question_of};
+ghost use Rattle.nfs_rpc.specs.Reply.{written_compound_reply};
 ghost use Rattle.nfs_rpc.specs.RpcCall.{HasFewOperations, IsWithinLimits};
 ghost use Rattle.nfs_tree.specs.Filehandles.{AreNodes};
 ghost use Rattle.nfs_server.specs.Folding.{IsAnswered, IsDetermined, asker_of, start};
@@ -19,7 +20,18 @@ use nfs_xdr::{
     Status,
 };
 use std::alloc::AllocError;
+use std::collections::VecDeque;
 use xdr::{Bytes, Measure, Sequence, padding_of};
+
+/// A COMPOUND that was answered.
+#[derive(Drop)]
+pub struct AnsweredCompound {
+    pub reply: CompoundReply,
+    /// The length of the reply's record.
+    pub len: usize,
+    /// The operations that were not run, with the memory of all, for the caller to let go when it will.
+    pub rest: Option<VecDeque<ArgOp>>,
+}
 
 /// Answers a COMPOUND (RFC 7530, section 15.2), operation by operation, up to the first answer other than NFS4_OK. It
 /// takes no memory itself. The service has to have room for as many questions as there are operations. `results` has to
@@ -31,7 +43,7 @@ pub fn run_compound<S: Service>(
     principal: Principal,
     compound: Compound,
     mut results: Vec<OpResult>,
-) -> CompoundReply
+) -> AnsweredCompound
     requires limits { IsWithinLimits RECORD_LIMIT compound }
     requires ready { length (operations_of compound.request) ≤ S.room service.old }
     requires serves { S.serves service.old ≡ tree.now.nodes }
@@ -43,14 +55,14 @@ pub fn run_compound<S: Service>(
         × Asks S.gives service.old
         (map (question_of moment principal) (compound_outcome tree.now compound answers).asked)
         answers service.new
-        × (result ≡ compound_reply tree.now compound answers) }
+        × (result.reply ≡ compound_reply tree.now compound answers) }
     ensures serves { S.serves service.new ≡ tree.now.nodes }
+    ensures len { result.len ≡ ACCEPTED_LEN + length (written_compound_reply result.reply) }
     // The reply isn't too long for a record.
-    ensures fits { ACCEPTED_LEN
-        + length (compound_result.encoding (result.status, (result.tag, result.results)))
-        ≤ RECORD_LIMIT }
+    ensures fits { ACCEPTED_LEN + length (written_compound_reply result.reply) ≤ RECORD_LIMIT }
     // The reply fits its form, and so do all of its results.
-    ensures form { compound_result.Fits (result.status, (result.tag, result.results)) }
+    ensures form { compound_result.Fits
+        (result.reply.status, (result.reply.tag, result.reply.results)) }
 {
     let context = Context {
         tree,
@@ -58,13 +70,20 @@ pub fn run_compound<S: Service>(
         principal,
     };
     let Compound { tag, request } = compound;
-    let size = head_len(&tag);
-    let status = answer_request(service, &context, request, size, &mut results);
-    CompoundReply {
+    let head = head_len(&tag);
+    let AnsweredRequest { status, len, rest } = answer_request(
+        service,
+        &context,
+        request,
+        head,
+        &mut results,
+    );
+    let reply = CompoundReply {
         status,
         tag,
         results: Sequence::new(results),
-    }
+    };
+    AnsweredCompound { reply, len, rest }
 }
 
 /// Makes room for the results of a COMPOUND. It takes no memory if there is enough room already, as in the list of
@@ -118,15 +137,24 @@ fn head_len(tag: &Bytes) -> usize
     ACCEPTED_LEN + 4 + 4 + len + padding_of(len) + 4
 }
 
-// Answers what a COMPOUND asks for: the operations, one after the other, or nothing if the whole of it is refused. Returns
-// the status of the reply. The results follow the first `head` bytes of the reply's record.
+// What a COMPOUND asked for was answered: the status of the reply, the length of its record, and the operations that were
+// not run.
+#[derive(Drop)]
+struct AnsweredRequest {
+    status: Status,
+    len: usize,
+    rest: Option<VecDeque<ArgOp>>,
+}
+
+// Answers what a COMPOUND asks for: the operations, one after the other, or nothing if the whole of it is refused. The
+// results follow the first `head` bytes of the reply's record.
 fn answer_request<S: Service>(
     service: &mut S,
     context: &Context<'_>,
     request: CompoundRequest,
     head: usize,
     results: &mut Vec<OpResult>,
-) -> Status
+) -> AnsweredRequest
     requires few { head < 2 ^ 40 }
     requires limit { HasFewOperations request }
     requires ready { length (operations_of request) ≤ S.room service.old }
@@ -135,29 +163,72 @@ fn answer_request<S: Service>(
     requires room { OPERATION_LIMIT ≤ vec_capacity results.old }
     ensures answers { IsDetermined (asker_of S.gives context.now) (start service.old head)
         (operations_of request) results.new.items service.new }
-    ensures status { result ≡ request_status results.new.items request }
+    ensures status { result.status ≡ request_status results.new.items request }
     ensures serves { S.serves service.new ≡ context.now.tree.now.nodes }
-    ensures fits { head + length (flat_map op_result.encoding results.new.items)
-        ≤ max (head + 12) RECORD_LIMIT }
+    ensures len { result.len ≡ head + length (flat_map op_result.encoding results.new.items) }
+    ensures fits { result.len ≤ max (head + 12) RECORD_LIMIT }
     ensures form { All op_result.Fits results.new.items }
 {
     let ops = match request {
-        CompoundRequest::MinorVersion(_) => return Status::Refused(Refusal::MinorVersMismatch),
-        CompoundRequest::TooMany(_) => return Status::Refused(Refusal::Resource),
+        CompoundRequest::MinorVersion(_) => return refused(Refusal::MinorVersMismatch, head),
+        CompoundRequest::TooMany(_) => return refused(Refusal::Resource, head),
         CompoundRequest::Operations(ops) => ops.into_vec(),
     };
+    let mut ops = VecDeque::from_vec(ops);
+    let len = answer_operations(service, context, &mut ops, head, results);
+    AnsweredRequest {
+        status: last_status(results.as_slice()),
+        len,
+        rest: Some(ops),
+    }
+}
+
+// A COMPOUND that is refused as a whole.
+fn refused(refusal: Refusal, head: usize) -> AnsweredRequest
+    ensures status { result.status ≡ Status.Refused refusal }
+    ensures len { result.len ≡ head }
+{
+    AnsweredRequest {
+        status: Status::Refused(refusal),
+        len: head,
+        rest: None,
+    }
+}
+
+// Answers operations, one after the other, up to the first answer other than NFS4_OK. The results follow the first `head`
+// bytes of the reply's record. Returns the length of the record with them.
+fn answer_operations<S: Service>(
+    service: &mut S,
+    context: &Context<'_>,
+    ops: &mut VecDeque<ArgOp>,
+    head: usize,
+    results: &mut Vec<OpResult>,
+) -> usize
+    requires few { head < 2 ^ 40 }
+    requires limit { length ops.old.items ≤ OPERATION_LIMIT }
+    requires ready { length ops.old.items ≤ S.room service.old }
+    requires serves { S.serves service.old ≡ context.now.tree.now.nodes }
+    requires empty { results.old.items ≡ [] }
+    requires room { OPERATION_LIMIT ≤ vec_capacity results.old }
+    ensures answers { IsDetermined (asker_of S.gives context.now) (start service.old head)
+        ops.old.items results.new.items service.new }
+    ensures serves { S.serves service.new ≡ context.now.tree.now.nodes }
+    ensures len { result ≡ head + length (flat_map op_result.encoding results.new.items) }
+    ensures fits { result ≤ max (head + 12) RECORD_LIMIT }
+    ensures form { All op_result.Fits results.new.items }
+{
     let mut handles = Filehandles::new();
     let mut size = head;
-    for op in ops {
+    while let Some(op) = ops.pop_front() {
         let answer = answer_one(service, context, &mut handles, op, size);
         size += answer.written_len();
         let continues = is_ok(&answer);
         results.push_reserved(answer);
         if !continues {
-            return last_status(results.as_slice());
+            return size;
         }
     }
-    last_status(results.as_slice())
+    size
 }
 
 // The status of the last result, or NFS4_OK without one.

@@ -98,6 +98,7 @@ pub(crate) fn serve_turns<D: Duplex, S: Service, C: Clock>(
     requires room { length buffer.old ≡ PIECE_LEN }
     requires idle { replies.old.gathered.items ≡ [] }
     requires none { replies.old.pending.items ≡ [] }
+    requires written { replies.old.answered.items ≡ [] }
     requires reads { D.read_failures device.old < 2 ^ 64 - 1 }
     requires writes { D.write_failures device.old < 2 ^ 64 - 1 }
     requires serves { S.serves service.old ≡ tree.now.nodes }
@@ -155,6 +156,7 @@ fn serve_ready<D: Duplex, S: Service, C: Clock>(
     requires limits { AllByRecursion (λ message. length message ≤ RECORD_LIMIT) records.old.ready }
     requires idle { replies.old.gathered.items ≡ [] }
     requires none { replies.old.pending.items ≡ [] }
+    requires written { replies.old.answered.items ≡ [] }
     requires writes { D.write_failures device.old < 2 ^ 64 - 1 }
     requires serves { S.serves service.old ≡ tree.now.nodes }
     ensures serves { S.serves service.new ≡ tree.now.nodes }
@@ -164,6 +166,7 @@ fn serve_ready<D: Duplex, S: Service, C: Clock>(
     ensures taken { OnOk result (records.new ≡ record records.old { ready = [] }) }
     ensures idle { OnOk result (replies.new.gathered.items ≡ []) }
     ensures none { OnOk result (replies.new.pending.items ≡ []) }
+    ensures written { OnOk result (replies.new.answered.items ≡ []) }
     ensures reads { D.read_failures device.new ≡ D.read_failures device.old }
     ensures ok { OnOk result (D.write_failures device.new ≡ D.write_failures device.old) }
     ensures write_failed { IsErrOf result ServeError.Write
@@ -194,6 +197,7 @@ fn send<D: Duplex>(device: &mut D, replies: &mut Replies) -> Result<(), ServeErr
     ensures write { OnErr result (result ≡ Err ServeError.Write) }
     ensures idle { OnOk result (replies.new.gathered.items ≡ []) }
     ensures pending { replies.new.pending.items ≡ replies.old.pending.items }
+    ensures answered { replies.new.answered.items ≡ replies.old.answered.items }
     ensures reads { D.read_failures device.new ≡ D.read_failures device.old }
     ensures kept { OnOk result (D.write_failures device.new ≡ D.write_failures device.old) }
     ensures failed { OnErr result (D.write_failures device.old < D.write_failures device.new) }

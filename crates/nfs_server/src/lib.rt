@@ -2,6 +2,7 @@
 //! course of one connection.
 #![tactic(auto)]
 
+mod answered_call;
 mod buffers;
 mod clock;
 mod compound;
@@ -19,7 +20,7 @@ mod sides;
 
 pub use buffers::Buffers;
 pub use clock::{Clock, Stopped};
-pub use compound::run_compound;
+pub use compound::{AnsweredCompound, run_compound};
 pub use connection::{STREAM_LIMIT, serve_connection, serve_duplex, write_to};
 pub use course_laws::{
     bytes_of_a_connection, bytes_of_writes, journal_of_a_connection, questions_are_entries,

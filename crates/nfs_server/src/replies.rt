@@ -1,25 +1,18 @@
-ghost use Rattle.std.specs.Prelude.{◌≡◌, ◌≢◌, ◌+◌, ◌^◌, ◌<◌, ◌≤◌, ◌++◌, [], ℕ, List, false, true, length, vec_capacity, IfOk, IsOk, OnOk, OnErr};
+ghost use Rattle.std.specs.Prelude.{◌≡◌, ◌≢◌, ◌+◌, ◌<◌, ◌≤◌, ◌++◌, [], ℕ, List, false, true, length, vec_capacity, IfOk, OnOk, OnErr};
 ghost use Rattle.std.specs.List.{AllByRecursion};
-ghost use Rattle.nfs_rpc.specs.Reply.{IsWritable, written_record, written_reply};
-ghost use Rattle.nfs_server.specs.Batch.{AreAnswered, gathering, goes_on, messages_in};
-ghost use Rattle.nfs_server.specs.Exchange.{Exchange, IsExchanged, rules, written_for};
+ghost use Rattle.std.specs.VecDeque.{deque_capacity, deque_len};
+ghost use Rattle.nfs_server.specs.Batch.{AreAnswered, gathering, goes_on, messages_in, waiting_bytes};
+ghost use Rattle.nfs_server.specs.Exchange.{rules};
 
-use crate::compound::{make_result_room, operation_count};
+use crate::answered_call::{AnsweredCall, REPLY_LIMIT};
+use crate::compound::make_result_room;
 use crate::pending_call::PendingCall;
-use crate::{Clock, Service, run_compound};
-use byteorder::{BigEndian, ByteOrder};
-use nfs_rpc::{
-    CompoundReply, HEADER_LEN, LAST_FRAGMENT, RECORD_LIMIT, Records, Reply, RpcCall, write_reply,
-};
+use crate::{Clock, Service};
+use nfs_rpc::{RECORD_LIMIT, Records};
 use nfs_tree::Tree;
 use nfs_xdr::{OPERATION_LIMIT, OpResult};
 use std::alloc::{AllocError, Global};
 use std::collections::VecDeque;
-use std::mem;
-use xdr::write_u32;
-
-/// Room for any reply, including its header.
-const REPLY_ROOM: usize = RECORD_LIMIT + 64;
 
 /// The most records that are answered in one batch.
 pub(crate) const BATCH_RECORDS: usize = 16;
@@ -28,44 +21,50 @@ pub(crate) const BATCH_RECORDS: usize = 16;
 pub(crate) const BATCH_QUESTIONS: usize = OPERATION_LIMIT as usize;
 
 /// Once more bytes of replies than this wait, they are written before the next record is answered. With one more reply
-/// there are at most 524,288.
-pub(crate) const GATHER_LIMIT: usize = 524_288 - REPLY_LEN;
+/// there are at most `GATHER_ROOM`.
+pub(crate) const GATHER_LIMIT: usize = GATHER_ROOM - REPLY_LIMIT;
 
-/// The greatest length of a reply, with its header.
-const REPLY_LEN: usize = RECORD_LIMIT + HEADER_LEN;
+/// The most bytes of replies that wait together.
+const GATHER_ROOM: usize = 524_288;
 
-/// Calls that wait for their answers, replies that wait to be written together, and a list for the results of the next
-/// COMPOUND.
+/// Calls that wait for their answers, calls that were answered and whose replies aren't written yet, replies that wait to
+/// be sent together, and lists for the results of the next COMPOUNDs.
 #[derive(Drop)]
 pub(crate) struct Replies {
     alloc: Global,
     pending: VecDeque<PendingCall>,
+    answered: VecDeque<AnsweredCall>,
     gathered: Vec<u8>,
-    results: Vec<OpResult>,
+    lists: Vec<Vec<OpResult>>,
 }
 
 impl Replies {
     /// No calls and no replies, which takes no memory.
     pub(crate) fn new(alloc: Global) -> Replies
         ensures pending { result.pending.items ≡ [] }
+        ensures answered { result.answered.items ≡ [] }
         ensures gathered { result.gathered.items ≡ [] }
     {
         Replies {
             alloc,
             pending: VecDeque::new(alloc),
+            answered: VecDeque::new(alloc),
             gathered: Vec::new(alloc),
-            results: Vec::new(alloc),
+            lists: Vec::new(alloc),
         }
     }
 
     /// The same, with room for as many calls, replies and results as there may be.
     pub(crate) fn with_room(alloc: Global) -> Result<Replies, AllocError>
         ensures pending { IfOk result (λ replies. replies.pending.items ≡ []) }
+        ensures answered { IfOk result (λ replies. replies.answered.items ≡ []) }
         ensures gathered { IfOk result (λ replies. replies.gathered.items ≡ []) }
     {
         let mut replies = Replies::new(alloc);
+        replies.pending.reserve(BATCH_RECORDS)?;
+        replies.answered.reserve(BATCH_RECORDS)?;
         replies.make_room()?;
-        make_result_room(&mut replies.results)?;
+        replies.lists = result_lists(alloc)?;
         Ok(replies)
     }
 
@@ -85,6 +84,7 @@ impl Replies {
     pub(crate) fn clear(&mut self)
         ensures gathered { self.new.gathered.items ≡ [] }
         ensures pending { self.new.pending.items ≡ self.old.pending.items }
+        ensures answered { self.new.answered.items ≡ self.old.answered.items }
     {
         self.gathered.clear();
     }
@@ -93,14 +93,16 @@ impl Replies {
     pub(crate) fn clear_all(&mut self)
         ensures gathered { self.new.gathered.items ≡ [] }
         ensures pending { self.new.pending.items ≡ [] }
+        ensures answered { self.new.answered.items ≡ [] }
     {
         self.gathered.clear();
         self.pending.clear();
+        self.answered.clear();
     }
 
-    /// Reads the calls of records that are ready, and has the service answer the first of the pending ones in a batch.
-    /// Returns whether there were any. Where memory is refused for a record, those before it remain answered, and the
-    /// service wasn't asked for it.
+    /// Reads the calls of records that are ready, and has the service answer the first of the pending ones in a batch. Their
+    /// replies are written, and the calls let go, once the batch has ended. Returns whether there were any. Where memory is
+    /// refused for a record, those before it remain answered, and the service wasn't asked for it.
     pub(crate) fn answer_some<S: Service, C: Clock>(
         &mut self,
         records: &mut Records,
@@ -111,6 +113,7 @@ impl Replies {
         requires limits { AllByRecursion (λ message. length message ≤ RECORD_LIMIT)
             records.old.ready }
         requires within { length self.old.gathered.items ≤ GATHER_LIMIT }
+        requires written { self.old.answered.items ≡ [] }
         requires serves { S.serves service.old ≡ tree.now.nodes }
         ensures ok { OnOk result (AreAnswered (rules tree.now S.gives S.alike C.tells)
             (gathering service.old clock.old self.old.gathered.items
@@ -127,6 +130,7 @@ impl Replies {
         ensures fewer { IfOk result (λ some. some ≡ true
             → length (messages_in self.new.pending.items ++ records.new.ready)
             < length (messages_in self.old.pending.items ++ records.old.ready)) }
+        ensures written { self.new.answered.items ≡ [] }
         ensures limits { AllByRecursion (λ message. length message ≤ RECORD_LIMIT)
             records.new.ready }
         ensures records { records.new ≡ record records.old { ready = records.new.ready } }
@@ -136,24 +140,26 @@ impl Replies {
         if self.pending.is_empty() {
             return Ok(false);
         }
+        self.make_room()?;
         service.begin_batch();
         let answered = self.answer_batch(service, tree, clock);
         service.end_batch();
+        self.write_answered();
         answered?;
         Ok(true)
     }
 
-    // Reads the calls of records that are ready, up to as many as a batch may have, and makes room for their replies.
+    // Reads the calls of records that are ready, up to as many as a batch may have.
     fn take(&mut self, records: &mut Records) -> Result<(), AllocError>
         requires limits { AllByRecursion (λ message. length message ≤ RECORD_LIMIT)
             records.old.ready }
-        requires within { length self.old.gathered.items ≤ GATHER_LIMIT }
         ensures ok { OnOk result (messages_in self.old.pending.items ++ records.old.ready
             ≡ messages_in self.new.pending.items ++ records.new.ready) }
         ensures err { OnErr result
             (messages_in self.old.pending.items ++ records.old.ready ≢ []) }
         ensures none { OnOk result (self.new.pending.items ≡ [] → records.new.ready ≡ []) }
         ensures same { self.new.gathered.items ≡ self.old.gathered.items }
+        ensures answered { self.new.answered.items ≡ self.old.answered.items }
         ensures limits { AllByRecursion (λ message. length message ≤ RECORD_LIMIT)
             records.new.ready }
         ensures records { records.new ≡ record records.old { ready = records.new.ready } }
@@ -162,23 +168,24 @@ impl Replies {
             let Some(message) = records.next() else {
                 return Ok(());
             };
-            self.make_room()?;
-            let call = PendingCall::of(self.alloc, message);
+            let call = PendingCall::of(self.alloc, message, &mut self.lists)?;
             self.pending.push_back(call).map_err(|_| AllocError)?;
         }
         Ok(())
     }
 
-    // Makes room for as many calls as a batch may have, and for the replies that may wait together.
+    // Makes room for the answers to the pending calls, and for the replies that may wait together.
     fn make_room(&mut self) -> Result<(), AllocError>
-        requires few { length self.old.pending.items ≤ BATCH_RECORDS }
         requires within { length self.old.gathered.items ≤ GATHER_LIMIT }
-        ensures pending { self.new.pending.items ≡ self.old.pending.items }
+        ensures answered { self.new.answered.items ≡ self.old.answered.items }
         ensures same { self.new.gathered.items ≡ self.old.gathered.items }
+        ensures pending { self.new.pending.items ≡ self.old.pending.items }
+        ensures calls { OnOk result (deque_len self.new.answered + deque_len self.new.pending
+            ≤ deque_capacity self.new.answered) }
+        ensures bytes { OnOk result (GATHER_ROOM ≤ vec_capacity self.new.gathered) }
     {
-        self.pending.reserve(BATCH_RECORDS - self.pending.len())?;
-        self.gathered
-            .reserve(GATHER_LIMIT + REPLY_ROOM - self.gathered.len())
+        self.answered.reserve(self.pending.len())?;
+        self.gathered.reserve(GATHER_ROOM - self.gathered.len())
     }
 
     // Answers pending calls, the first at least, and those after it for as long as the batch goes on.
@@ -189,122 +196,85 @@ impl Replies {
         clock: &mut C,
     ) -> Result<(), AllocError>
         requires within { length self.old.gathered.items ≤ GATHER_LIMIT }
+        requires written { self.old.answered.items ≡ [] }
+        requires room { deque_len self.old.answered + deque_len self.old.pending
+            ≤ deque_capacity self.old.answered }
         requires serves { S.serves service.old ≡ tree.now.nodes }
         ensures ok { OnOk result (AreAnswered (rules tree.now S.gives S.alike C.tells)
             (gathering service.old clock.old self.old.gathered.items
             (messages_in self.old.pending.items)) []
-            (gathering service.new clock.new self.new.gathered.items
+            (gathering service.new clock.new
+            (waiting_bytes self.new.gathered.items self.new.answered.items)
             (messages_in self.new.pending.items))) }
         ensures err { OnErr result ((refused : List (List ℕ)) × (refused ≢ [])
             × AreAnswered (rules tree.now S.gives S.alike C.tells)
             (gathering service.old clock.old self.old.gathered.items
             (messages_in self.old.pending.items)) refused
-            (gathering service.new clock.new self.new.gathered.items [])) }
+            (gathering service.new clock.new
+            (waiting_bytes self.new.gathered.items self.new.answered.items) [])) }
         ensures fewer { OnOk result (self.old.pending.items ≢ []
             → length self.new.pending.items < length self.old.pending.items) }
+        ensures few { length (waiting_bytes self.new.gathered.items self.new.answered.items)
+            ≤ GATHER_ROOM }
+        ensures same { self.new.gathered ≡ self.old.gathered }
         ensures serves { S.serves service.new ≡ tree.now.nodes }
     {
         let mut asked = 0;
-        while self.goes_on(asked) {
+        let mut waiting = self.gathered.len();
+        while self.goes_on(asked, waiting) {
             let Some(pending) = self.pending.pop_front() else {
                 return Ok(());
             };
             asked += pending.question_count();
-            self.answer(pending, service, tree, clock)?;
+            let call = AnsweredCall::of(pending, service, tree, clock)?;
+            waiting += call.len();
+            self.answered.push_back_reserved(call);
         }
         Ok(())
     }
 
-    // Whether a batch in which so many questions were asked goes on with the next call.
-    fn goes_on(&self, asked: usize) -> bool
+    // Whether a batch in which so many questions were asked, and with which so many bytes of replies wait, goes on with the
+    // next call.
+    fn goes_on(&self, asked: usize, waiting: usize) -> bool
         requires few { asked ≤ BATCH_QUESTIONS }
-        ensures goes { result ≡ goes_on self.now.pending.items asked
-            (length self.now.gathered.items) }
-        ensures first { asked ≡ 0 → length self.now.gathered.items ≤ GATHER_LIMIT
-            → self.now.pending.items ≢ [] → result ≡ true }
+        ensures goes { result ≡ goes_on self.now.pending.items asked waiting }
+        ensures first { asked ≡ 0 → waiting ≤ GATHER_LIMIT → self.now.pending.items ≢ []
+            → result ≡ true }
     {
         match self.pending.front() {
             None => false,
             Some(next) => {
                 let asked = asked + next.question_count();
-                self.gathered.len() <= GATHER_LIMIT && asked <= BATCH_QUESTIONS
+                waiting <= GATHER_LIMIT && asked <= BATCH_QUESTIONS
             }
         }
     }
 
-    // Answers a call, and adds the reply after the others, as a record of one fragment. All memory is taken, and room is
-    // made in the service, before the service is asked, so that after an error it wasn't asked.
-    fn answer<S: Service, C: Clock>(
-        &mut self,
-        pending: PendingCall,
-        service: &mut S,
-        tree: &Tree,
-        clock: &mut C,
-    ) -> Result<(), AllocError>
-        requires serves { S.serves service.old ≡ tree.now.nodes }
-        ensures ok { OnOk result ((e : Exchange) × (e.message ≡ pending.message)
-            × IsExchanged (rules tree.now S.gives S.alike C.tells) service.old clock.old e
-            service.new clock.new
-            × (self.new.gathered.items ≡ self.old.gathered.items ++ written_for tree.now e)) }
-        ensures err { OnErr result (S.alike service.old service.new × (clock.new ≡ clock.old)
-            × (self.new.gathered.items ≡ self.old.gathered.items)) }
+    // Writes the replies to the calls that were answered, and lets the calls go. The lists of their results are kept.
+    fn write_answered(&mut self)
+        requires room { length (waiting_bytes self.old.gathered.items self.old.answered.items)
+            ≤ vec_capacity self.old.gathered }
+        ensures gathered { self.new.gathered.items
+            ≡ waiting_bytes self.old.gathered.items self.old.answered.items }
+        ensures answered { self.new.answered.items ≡ [] }
         ensures pending { self.new.pending.items ≡ self.old.pending.items }
-        ensures serves { S.serves service.new ≡ tree.now.nodes }
     {
-        self.gathered.reserve(REPLY_ROOM)?;
-        match pending.into_call() {
-            RpcCall::Silent => Ok(()),
-            RpcCall::Null(xid) => put_record(&mut self.gathered, xid, &Reply::Null),
-            RpcCall::Answer(xid, reply) => put_record(&mut self.gathered, xid, &reply),
-            RpcCall::Compound(xid, principal, compound) => {
-                make_result_room(&mut self.results)?;
-                service.room(operation_count(&compound.request))?;
-                let results = mem::replace(&mut self.results, Vec::new(self.alloc));
-                let moment = clock.now();
-                let reply = run_compound(service, tree, moment, principal, compound, results);
-                self.put_compound(xid, reply)
+        while let Some(call) = self.answered.pop_front() {
+            if let Some(list) = call.write(&mut self.gathered) {
+                // It is let go where there is no room for it.
+                let _ = self.lists.push(list);
             }
         }
-    }
-
-    // Adds the reply to a COMPOUND after the others, and keeps the list of its results for the next COMPOUND.
-    fn put_compound(&mut self, xid: u32, reply: CompoundReply) -> Result<(), AllocError>
-        requires short { length (written_reply xid (Reply.Compound reply)) < 2 ^ 31 }
-        requires fits { IsWritable xid (Reply.Compound reply) }
-        ensures pending { self.new.pending.items ≡ self.old.pending.items }
-        ensures ok { OnOk result (self.new.gathered.items
-            ≡ self.old.gathered.items
-            ++ written_record (written_reply xid (Reply.Compound reply))) }
-        ensures room { length self.old.gathered.items
-            + (4 + length (written_reply xid (Reply.Compound reply)))
-            ≤ vec_capacity self.old.gathered → IsOk result }
-    {
-        let reply = Reply::Compound(reply);
-        put_record(&mut self.gathered, xid, &reply)?;
-        let Reply::Compound(reply) = reply else {
-            return Ok(());
-        };
-        self.results = reply.results.into_vec();
-        Ok(())
     }
 }
 
-// Adds a reply at the end of these bytes, as a record of one fragment (RFC 5531, section 11).
-#[tactic(auto, unfolding(xdr::specs::Writing::written_number))]
-fn put_record(out: &mut Vec<u8>, xid: u32, reply: &Reply) -> Result<(), AllocError>
-    requires short { length (written_reply xid reply.now) < 2 ^ 31 }
-    requires fits { IsWritable xid reply.now }
-    ensures ok { OnOk result
-        (out.new.items ≡ out.old.items ++ written_record (written_reply xid reply.now)) }
-    ensures room { length out.old.items + (4 + length (written_reply xid reply.now))
-        ≤ vec_capacity out.old
-        → IsOk result }
-{
-    let start = out.len();
-    // Space for the header, which is written once the length is known.
-    write_u32(out, 0).map_err(|_| AllocError)?;
-    write_reply(out, xid, reply).map_err(|_| AllocError)?;
-    let len = (out.len() - start - HEADER_LEN) as u32;
-    BigEndian::write_u32(&mut out[start..], LAST_FRAGMENT + len);
-    Ok(())
+// As many lists of results as there are calls in a batch.
+fn result_lists(alloc: Global) -> Result<Vec<Vec<OpResult>>, AllocError> {
+    let mut lists = Vec::with_capacity(alloc, BATCH_RECORDS)?;
+    for _ in 0..BATCH_RECORDS {
+        let mut list = Vec::new(alloc);
+        make_result_room(&mut list)?;
+        lists.push(list)?;
+    }
+    Ok(lists)
 }

@@ -15,7 +15,7 @@ use Rattle.nfs_owners.specs.StateOwner.{is_same_kind, open_owner}
 use Rattle.nfs_owners.specs.declared.state_owner.OwnerKind.{OwnerKind}
 use Rattle.nfs_owners.specs.declared.state_owner.OwnerKind.TheVariants as kinds
 use Rattle.nfs_owners.specs.declared.state_owner.StateOwner.{StateOwner}
-use Rattle.nfs_owners.specs.declared.kept.Kept.{Kept}
+use Rattle.nfs_owners.specs.Kept.{Kept, summary_of}
 use Rattle.nfs_owners.specs.declared.owner.Owner.{Owner}
 use Rattle.nfs_owners.specs.Owner.{has_name, is_known, new_owner, with_request}
 use Rattle.nfs_owners.specs.Owners.{AreBefore, with_kept, without_owner}
@@ -36,7 +36,7 @@ kept_within kind (first ∷ entries) (suc number) kept is = omega (arith, kept_w
 pub Agrees-before : (journal : History) (owners : List Owner) → Agrees journal owners → AreBefore (length journal.entries) owners
 Agrees-before journal [] agrees = tt
 Agrees-before journal (o ∷ owners) agrees = (
-  omega (arith, agrees.0.recorded, kept_within o.name.kind journal.entries o.state.number o.state.kept agrees.0.entry),
+  omega (arith, agrees.0.recorded, kept_within o.name.kind journal.entries o.state.number agrees.0.kept agrees.0.entry),
   Agrees-before journal owners agrees.1,
 )
 
@@ -50,8 +50,10 @@ Agrees-longer : (journal : History) (entry : Entry) (owners : List Owner) → Ag
 Agrees-longer journal entry [] agrees = agrees
 Agrees-longer journal entry (o ∷ owners) agrees = (
   record {
-    entry = kept_longer o.name.kind journal.entries (entry ∷ []) o.state.number o.state.kept agrees.0.entry;
+    kept = agrees.0.kept;
+    entry = kept_longer o.name.kind journal.entries (entry ∷ []) o.state.number agrees.0.kept agrees.0.entry;
     sendable = agrees.0.sendable;
+    stored = agrees.0.stored;
     recorded = agrees.0.recorded;
   },
   Agrees-longer journal entry owners agrees.1,
@@ -89,35 +91,37 @@ kind_of_name name o has =
     let beside_name = and_parts (is_same_kind o.name.kind name.kind && is_same_client o.name.client name.client) (bytes_eq o.name.name name.name) has in
     same_kind o.name.kind name.kind (and_parts (is_same_kind o.name.kind name.kind) (is_same_client o.name.client name.client) beside_name.0).0
 
-kept_by : (journal : History) (name : StateOwner) (number : ℕ) (kept : OwnerKind → Kept) (o : Owner) → IsEntryOf journal number kept → IsKeptIn journal o → o.name.kind ≡ name.kind → IsKeptIn journal (record o { state = with_request number (kept name.kind) o.state })
+kept_by : (journal : History) (name : StateOwner) (number : ℕ) (kept : OwnerKind → Kept) (o : Owner) → IsEntryOf journal number kept → IsKeptIn journal o → o.name.kind ≡ name.kind → IsKeptIn journal (record o { state = with_request number (summary_of (kept name.kind)) o.state })
 kept_by journal name number kept o is was kind = record {
+  kept = kept name.kind;
   entry = is.entry o.name.kind ∙ ap (λ k. Some (kept k)) kind;
   sendable = is.sendable name.kind;
-  recorded = omega (arith, was.recorded, kept_within o.name.kind journal.entries o.state.number o.state.kept was.entry, is.last);
+  stored = refl;
+  recorded = omega (arith, was.recorded, kept_within o.name.kind journal.entries o.state.number was.kept was.entry, is.last);
 }
 
-Agrees-change : (journal : History) (name : StateOwner) (number : ℕ) (kept : OwnerKind → Kept) (owners : List Owner) → IsEntryOf journal number kept → Agrees journal owners → Agrees journal (map (λ o. if has_name name o then record o { state = with_request number (kept name.kind) o.state } else o) owners)
+Agrees-change : (journal : History) (name : StateOwner) (number : ℕ) (kept : OwnerKind → Kept) (owners : List Owner) → IsEntryOf journal number kept → Agrees journal owners → Agrees journal (map (λ o. if has_name name o then record o { state = with_request number (summary_of (kept name.kind)) o.state } else o) owners)
 Agrees-change journal name number kept [] is agrees = agrees
 Agrees-change journal name number kept (o ∷ owners) is agrees = (
-  cond_both (has_name name o) (record o { state = with_request number (kept name.kind) o.state }) o (IsKeptIn journal)
+  cond_both (has_name name o) (record o { state = with_request number (summary_of (kept name.kind)) o.state }) o (IsKeptIn journal)
       (λ has. kept_by journal name number kept o is agrees.0 (kind_of_name name o has)) (λ _. agrees.0),
   Agrees-change journal name number kept owners is agrees.1,
 )
 
-Agrees-kept : (journal : History) (name : StateOwner) (number : ℕ) (kept : OwnerKind → Kept) (owners : List Owner) → IsEntryOf journal number kept → Agrees journal owners → Agrees journal (with_kept name number (kept name.kind) owners)
+Agrees-kept : (journal : History) (name : StateOwner) (number : ℕ) (kept : OwnerKind → Kept) (owners : List Owner) → IsEntryOf journal number kept → Agrees journal owners → Agrees journal (with_kept name number (summary_of (kept name.kind)) owners)
 Agrees-kept journal name number kept owners is agrees = by (is_known name owners)
   where
-    by : (b : Bool) → Agrees journal (if b then map (λ o. if has_name name o then record o { state = with_request number (kept name.kind) o.state } else o) owners else owners ++ new_owner name number (kept name.kind) ∷ [])
+    by : (b : Bool) → Agrees journal (if b then map (λ o. if has_name name o then record o { state = with_request number (summary_of (kept name.kind)) o.state } else o) owners else owners ++ new_owner name number (summary_of (kept name.kind)) ∷ [])
     by true = Agrees-change journal name number kept owners is agrees
-    by false = Agrees-push journal owners (new_owner name number (kept name.kind)) agrees (record { entry = is.entry name.kind; sendable = is.sendable name.kind; recorded = omega arith })
+    by false = Agrees-push journal owners (new_owner name number (summary_of (kept name.kind))) agrees (record { kept = kept name.kind; entry = is.entry name.kind; sendable = is.sendable name.kind; stored = refl; recorded = omega arith })
 
 after_update : (journal : History) (change : OwnerChange) (number : ℕ) (kept : OwnerKind → Kept) (owners : List Owner) → IsEntryOf journal number kept → Agrees journal owners → Agrees journal (owners_after (update_of change kept) number owners)
 after_update journal owner_changes.Nothing number kept owners is agrees = agrees
 after_update journal (owner_changes.Keeps name) number kept owners is agrees = Agrees-kept journal name number kept owners is agrees
 after_update journal (owner_changes.KeepsBoth name newcomer) number kept owners is agrees =
-    Agrees-kept journal newcomer number kept (with_kept name number (kept name.kind) owners) is (Agrees-kept journal name number kept owners is agrees)
+    Agrees-kept journal newcomer number kept (with_kept name number (summary_of (kept name.kind)) owners) is (Agrees-kept journal name number kept owners is agrees)
 after_update journal (owner_changes.Introduces name newcomer) number kept owners is agrees =
-    Agrees-kept journal newcomer number kept (with_kept name number (kept name.kind) owners) is (Agrees-kept journal name number kept owners is agrees)
+    Agrees-kept journal newcomer number kept (with_kept name number (summary_of (kept name.kind)) owners) is (Agrees-kept journal name number kept owners is agrees)
 after_update journal (owner_changes.Records name) number kept owners is agrees = Agrees-kept journal (open_owner name) number kept owners is agrees
 after_update journal (owner_changes.Restarts name) number kept owners is agrees =
     Agrees-kept journal (open_owner name) number kept (without_owner (open_owner name) owners) is (Agrees-without journal (open_owner name) owners agrees)

@@ -1,4 +1,5 @@
 pub mod Pieces
+pub mod PageLists
 pub mod FileChanges
 pub mod KeptOwners
 pub mod OpenedFiles

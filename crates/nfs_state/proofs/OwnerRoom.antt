@@ -29,7 +29,8 @@ use Rattle.nfs_owners.specs.StateOwner.{open_owner}
 use Rattle.nfs_owners.specs.declared.state_owner.OwnerKind.{OwnerKind}
 use Rattle.nfs_owners.specs.declared.state_owner.StateOwner.{StateOwner}
 use Rattle.nfs_owners.specs.ClientRoom.{FitsRecords, HasNumbersFor}
-use Rattle.nfs_owners.specs.declared.kept.Kept.{Kept}
+use Rattle.nfs_owners.specs.Kept.{Kept}
+use Rattle.nfs_owners.specs.declared.kept.KeptSummary.{KeptSummary}
 use Rattle.nfs_owners.specs.declared.owner.Owner.{Owner}
 use Rattle.nfs_owners.specs.declared.owner.OwnerState.{OwnerState}
 use Rattle.nfs_owners.specs.Owner.{has_name, is_known, with_request}
@@ -158,7 +159,7 @@ known_after_change change name other (o ∷ owners) =
       | false ↦ λ i. has_name other o || rest i
     ]
 
-pub can_keep_beside : (name other : StateOwner) (number : ℕ) (kept : Kept) (old new : RoomyOwners) → new.owners ≡ with_kept name number kept old.owners
+pub can_keep_beside : (name other : StateOwner) (number : ℕ) (kept : KeptSummary) (old new : RoomyOwners) → new.owners ≡ with_kept name number kept old.owners
     → (is_known name old.owners ≡ true → new.room ≡ old.room) → is_known name old.owners ≡ true → CanKeep other old → CanKeep other new
 can_keep_beside name other number kept old new is room known can =
     let change = with_request number kept in

@@ -21,7 +21,8 @@ use Rattle.nfs_forms.specs.declared.client_id.ClientId.{ClientId}
 use Rattle.nfs_forms.specs.declared.lock_owner.LockOwner.{LockOwner}
 use Rattle.nfs_forms.specs.declared.open_owner.OpenOwner.{OpenOwner}
 use Rattle.nfs_forms.specs.ClientId.{is_same_client}
-use Rattle.nfs_owners.specs.declared.kept.Kept.{Kept}
+use Rattle.nfs_owners.specs.Kept.{Kept}
+use Rattle.nfs_owners.specs.declared.kept.KeptSummary.{KeptSummary}
 use Rattle.nfs_owners.specs.StateOwner.{lock_owner, open_owner}
 use Rattle.nfs_owners.specs.declared.state_owner.OwnerKind.{OwnerKind}
 use Rattle.nfs_owners.specs.declared.state_owner.StateOwner.{StateOwner}
@@ -70,12 +71,12 @@ pub known_seen : (name : StateOwner) (owners : List Owner) → is_some (known.ow
 known_seen name [] = refl
 known_seen name (o ∷ owners) = grind (arith, known_seen name owners)
 
-pub kept_seen : (name : StateOwner) (number : ℕ) (kept : Kept) (owners : List Owner) → is_known name owners ≡ true
+pub kept_seen : (name : StateOwner) (number : ℕ) (kept : KeptSummary) (owners : List Owner) → is_known name owners ≡ true
     → map known_owner (with_kept name number kept owners) ≡ known.with_kept_entry number name (map known_owner owners)
 kept_seen name number kept owners is =
     rw is (change_seen (with_request number kept) (λ o. record o { kept_entry = number }) (λ o. refl) name owners)
 
-pub record_seen : (name : StateOwner) (number : ℕ) (kept : Kept) (owners : List Owner) → is_known name owners ≡ false
+pub record_seen : (name : StateOwner) (number : ℕ) (kept : KeptSummary) (owners : List Owner) → is_known name owners ≡ false
     → map known_owner (with_kept name number kept owners) ≡ known.with_record number name (map known_owner owners)
 record_seen name number kept owners none = rw none (map-append known_owner owners (new_owner name number kept ∷ []))
 
@@ -100,7 +101,7 @@ agrees_filter journal p (o ∷ owners) agrees =
     (λ fails. agrees_filter journal p owners agrees.1)
 
 confirmed_kept : (journal : History) (b : Bool) (o : Owner) → IsKeptIn journal o → IsKeptIn journal (if b then record o { state = record o.state { confirmed = true } } else o)
-confirmed_kept journal true o is = record { entry = is.entry; sendable = is.sendable; recorded = is.recorded }
+confirmed_kept journal true o is = record { kept = is.kept; entry = is.entry; sendable = is.sendable; stored = is.stored; recorded = is.recorded }
 confirmed_kept journal false o is = is
 
 pub agrees_confirmed : (journal : History) (name : StateOwner) (owners : List Owner) → Agrees journal owners → Agrees journal (with_confirmed name owners)
@@ -209,7 +210,7 @@ drops_seen old new name number is (changes.Drops n) other update =
     let same : name ≡ n = search update in
     ap meaning is ∙ without_owner_seen old name ∙ ap (λ m. without m (meaning old)) same
 
-pub restarts_seen : (old removed : Stored) (name : OpenOwner) (number : ℕ) (kept : Kept) (new : List Owner) → removed ≡ stored_without name old → new ≡ with_kept (open_owner name) number kept removed.owners
+pub restarts_seen : (old removed : Stored) (name : OpenOwner) (number : ℕ) (kept : KeptSummary) (new : List Owner) → removed ≡ stored_without name old → new ≡ with_kept (open_owner name) number kept removed.owners
     → (change : OwnerChange) (other : OwnerKind → Kept) → updates.Restarts name kept ≡ update_of change other
     → meaning (record removed { owners = new }) ≡ with_owner_change change number (meaning old)
 restarts_seen old removed name number kept new removes is changes.Nothing other update = cc

@@ -1,5 +1,5 @@
 -- The files' contents: what a READ gives of them, and what a WRITE changes (RFC 7530, sections 5.8.1, 16.23 and 16.36).
-use Rattle.std.specs.Prelude.{ℕ, ◌≡◌, ◌<◌, ◌≤◌, ◌+◌, ◌-◌, ◌^◌, ◌==◌, Bool, min, nat_le, List, [], ◌++◌, drop, find, length, map, replicate, take, Option, Some, None, if◌then◌else◌}
+use Rattle.std.specs.Prelude.{ℕ, ◌≡◌, ◌<◌, ◌+◌, ◌-◌, ◌^◌, ◌==◌, Bool, min, nat_le, List, [], ◌++◌, drop, find, length, map, replicate, take, Option, Some, None, if◌then◌else◌}
 use Rattle.std.specs.List.{AllByRecursion}
 use Rattle.nfs_tree.specs.declared.tree.TheConstants.{TEXT_LIMIT}
 
@@ -59,19 +59,19 @@ with_bytes node offset block files =
 abbrev pub CanChange : List FileState → Type 0
 CanChange files = AllByRecursion (λ f. f.change < 2 ^ 64 - 1) files
 
--- a file, and how many bytes it can have without taking memory
+-- a file, and the WRITE that takes no memory: its offset and its bytes, if there is one
 pub record RoomyFile : Type 0 where
   pub file : FileState
-  pub capacity : ℕ
+  pub ready : Option (ℕ × List ℕ)
 
 -- the files, no matter how much room they have
 abbrev pub files_in : List RoomyFile → List FileState
 files_in files = map (λ f. f.file) files
 
--- the file can have so many bytes without taking memory, if it is that of the node
-abbrev pub HasRoomIn : ℕ → ℕ → RoomyFile → Type 0
-HasRoomIn node size f = f.file.node ≡ node → size ≤ f.capacity
+-- the WRITE of this block at the offset takes no memory, if it is to the file of the node
+abbrev pub HasRoomIn : ℕ → ℕ → List ℕ → RoomyFile → Type 0
+HasRoomIn node offset block f = f.file.node ≡ node → f.ready ≡ Some (offset, block)
 
--- so many bytes of the node's file take no memory
-abbrev pub HasFileRoom : ℕ → ℕ → List RoomyFile → Type 0
-HasFileRoom node size files = AllByRecursion (HasRoomIn node size) files
+-- the WRITE of this block at the offset of the node's file takes no memory
+abbrev pub HasFileRoom : ℕ → ℕ → List ℕ → List RoomyFile → Type 0
+HasFileRoom node offset block files = AllByRecursion (HasRoomIn node offset block) files

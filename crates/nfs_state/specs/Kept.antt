@@ -11,13 +11,12 @@ use Rattle.nfs_state.specs.declared.owner_update.OwnerUpdate.TheVariants as upda
 use Rattle.nfs_forms.specs.declared.locker.Locker.{Locker}
 use Rattle.nfs_forms.specs.declared.locker.Locker.TheVariants as lockers
 use Rattle.nfs_owners.specs.StateOwner.{open_owner}
-use Rattle.nfs_owners.specs.declared.kept.Kept.{Kept}
 use Rattle.nfs_owners.specs.declared.state_owner.OwnerKind.{OwnerKind}
 use Rattle.nfs_owners.specs.declared.state_owner.OwnerKind.TheVariants as kinds
 use Rattle.nfs_owners.specs.declared.state_owner.StateOwner.{StateOwner}
 use Rattle.nfs_owners.specs.declared.owner.Owner.{Owner}
 use Rattle.nfs_owners.specs.Owners.{with_kept, without_owner}
-use Rattle.nfs_owners.specs.Kept.{request_of}
+use Rattle.nfs_owners.specs.Kept.{Kept, request_of, summary_of}
 use Rattle.nfs_state.specs.Owners.{KnownOwner}
 use Rattle.nfs_state.specs.declared.entry.Call.{Call}
 use Rattle.nfs_state.specs.declared.entry.Entry.{Entry}
@@ -61,21 +60,23 @@ kept_at journal kind number =
 abbrev pub kept_for : History → KnownOwner → Option Kept
 kept_for journal o = kept_at journal o.name.kind o.kept_entry
 
--- The owner keeps the request and the answer of its entry, which can be sent again. That entry recorded it, or came later
--- than the one that did.
+-- The owner keeps the request and the answer of its entry, which can be sent again, and of which this is stored. That
+-- entry recorded it, or came later than the one that did.
 pub record IsKeptIn (journal : History) (o : Owner) : Type 0 where
-  pub entry : kept_at journal o.name.kind o.state.number ≡ Some o.state.kept
-  pub sendable : IsSendable o.state.kept.request.op o.state.kept.answer
+  pub kept : Kept
+  pub entry : kept_at journal o.name.kind o.state.number ≡ Some kept
+  pub sendable : IsSendable kept.request.op kept.answer
+  pub stored : o.state.kept ≡ summary_of kept
   pub recorded : o.state.recorded ≤ o.state.number
 
 abbrev pub Agrees : History → List Owner → Type 0
 Agrees journal owners = AllByRecursion (IsKeptIn journal) owners
 
--- an owner, with what owners of its kind keep
+-- an owner, with what is stored of what owners of its kind keep
 abbrev pub keeping : StateOwner → (OwnerKind → Kept) → Keeping
-keeping owner kept = record { owner = owner; kept = kept owner.kind }
+keeping owner kept = record { owner = owner; kept = summary_of (kept owner.kind) }
 
--- what an entry means for the owners, with the request and the answer as owners of each kind keep them
+-- what an entry means for the owners, by the request and the answer as owners of each kind keep them
 abbrev pub update_of : OwnerChange → (OwnerKind → Kept) → OwnerUpdate
 update_of changes.Nothing kept = updates.Nothing
 update_of (changes.Keeps owner) kept = updates.Keeps (keeping owner kept)
@@ -84,7 +85,7 @@ update_of (changes.KeepsBoth owner newcomer) kept =
 update_of (changes.Introduces owner newcomer) kept =
     updates.KeepsBoth (keeping owner kept) (keeping newcomer kept)
 update_of (changes.Records owner) kept = updates.Keeps (keeping (open_owner owner) kept)
-update_of (changes.Restarts owner) kept = updates.Restarts owner (kept kinds.Open)
+update_of (changes.Restarts owner) kept = updates.Restarts owner (summary_of (kept kinds.Open))
 update_of (changes.Drops owner) kept = updates.Drops owner
 
 -- the same, if there is something to keep; an entry with nothing to keep means nothing for the owners

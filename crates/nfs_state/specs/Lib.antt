@@ -1,5 +1,6 @@
 pub mod Owners
 pub mod Files
+pub mod Pages
 pub mod State
 pub mod PieceList
 pub mod MemoryCount

@@ -1,5 +1,5 @@
 -- What the tables store, and the memory and the numbers that a change of them needs.
-use Rattle.std.specs.Prelude.{◌≡◌, ◌≢◌, ◌<◌, ◌≤◌, ◌+◌, ◌-◌, ◌^◌, ⊤, None, Bool, IsFalse, IsTrue, is_some, length}
+use Rattle.std.specs.Prelude.{◌≢◌, ◌<◌, ◌≤◌, ◌+◌, ◌-◌, ◌^◌, ⊤, None, Bool, IsFalse, IsTrue, is_some, length}
 use Rattle.nfs_state.specs.declared.change.Change.{Change}
 use Rattle.nfs_state.specs.declared.change.Change.TheVariants as changes
 use Rattle.nfs_state.specs.declared.effect.Effect.{Effect}
@@ -50,8 +50,7 @@ HasRoom (changes.Opens node owner share lent) tables =
     HasRoomAt node tables.opens × (lent ≢ None → HasLendingRoomAt node tables.opens)
 HasRoom (changes.Begins node first) tables = HasLockRoomAt node tables.locks
 HasRoom (changes.Locks node number change) tables = locks.HasRoomFor node number tables.locks
-HasRoom (changes.Writes node offset bytes) tables =
-    HasFileRoom node (offset + length bytes) tables.files
+HasRoom (changes.Writes node offset bytes) tables = HasFileRoom node offset bytes tables.files
 HasRoom change tables = ⊤
 
 -- what the entry means for an owner takes no memory
@@ -90,7 +89,6 @@ IsNewcomer name state = IsFalse (is_known name state) × (length state.owners < 
 -- The entry, for which there is room in the journal, can be committed with this effect without taking memory.
 pub record TakesNoMemory (entry : Entry) (effect : Effect) (tables : Tables) : Type 0 where
   pub call : IsNoCall entry
-  pub kept : kept_in entry ≡ None
   pub owner : HasOwnerRoom effect.owner tables
   pub change : HasRoom effect.change tables
 

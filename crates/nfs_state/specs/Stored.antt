@@ -13,7 +13,7 @@ use Rattle.nfs_tree.specs.Tree.{node_count}
 
 pub record Stored : Type 0 where
   pub clients : Registry
-  -- each with the request and the answer that are kept for it
+  -- each with what is stored of the request that is kept for it
   pub owners : List Owner
   -- those of each node, by its number
   pub opens : List (List OpenState)

@@ -1,11 +1,11 @@
-ghost use Rattle.std.specs.Prelude.{◌≡◌, ◌<◌, ◌≤◌, IfErr, IfOk, IsOk, None, OnErr, OnOk, length};
+ghost use Rattle.std.specs.Prelude.{◌≡◌, ◌<◌, ◌≤◌, IfErr, IfOk, IsOk, OnErr, OnOk, length};
 ghost use Rattle.nfs_owners.specs.Owners.{AreBefore};
 ghost use Rattle.nfs_state.specs.Changes.{after};
 ghost use Rattle.nfs_state.specs.Entries.{with_entry};
 ghost use Rattle.nfs_state.specs.Files.{CanChange};
 ghost use Rattle.nfs_state.specs.Kept.{Agrees, kept_in, owners_after, update_by};
 ghost use Rattle.nfs_state.specs.MemoryCount.{IsNoCall};
-ghost use Rattle.nfs_state.specs.Room.{Fits, HasGivenNumbers, HasOwnerRoom, HasRoom, TakesNoMemory, state_of, stored_of};
+ghost use Rattle.nfs_state.specs.Room.{Fits, HasGivenNumbers, HasOwnerRoom, HasRoom, TakesNoMemory, state_of};
 ghost use Rattle.nfs_state.specs.State.{History};
 ghost use Rattle.nfs_state.specs.Store.{HoldTheSame, OwnersAgree};
 
@@ -18,8 +18,8 @@ use crate::tables::Tables;
 use std::alloc::Global;
 
 /// Makes room for the entry and for its effect, then changes the tables by the effect and adds the entry to the
-/// journal, under the number that is returned. Fails for want of memory alone, and changes nothing then. Where nothing is
-/// kept for an owner and there is room, it takes no memory.
+/// journal, under the number that is returned. Fails for want of memory alone, and changes nothing then. Where there is
+/// room, it takes no memory.
 pub fn commit_entry(
     alloc: Global,
     store: &mut Store,
@@ -46,13 +46,8 @@ pub fn commit_entry(
     match make_ready(alloc, store, &entry, &effect) {
         Ok(()) => {
             let number = store.journal.len() as u32;
-            match make_changes(&mut store.tables, &entry, effect, number) {
-                Ok(()) => Ok(store.journal.push(entry)),
-                Err(shortage) => {
-                    drop(entry);
-                    Err(shortage)
-                }
-            }
+            make_changes(&mut store.tables, &entry, effect, number);
+            Ok(store.journal.push(entry))
         }
         Err(shortage) => {
             drop(entry);
@@ -91,41 +86,23 @@ fn make_ready(
     store.tables.make_room(alloc, &effect.change, &effect.owner)
 }
 
-// Makes the changes of the entry, which gets this number, for which there is room.
-fn make_changes(
-    tables: &mut Tables,
-    entry: &Entry,
-    effect: Effect,
-    number: u32,
-) -> Result<(), Shortage>
+// Makes the changes of the entry, which gets this number, for which there is room. It takes no memory.
+fn make_changes(tables: &mut Tables, entry: &Entry, effect: Effect, number: u32)
     requires fits { Fits entry.now effect (state_of tables.old) }
     requires room { HasRoom effect.change tables.old
         × HasOwnerRoom effect.owner tables.old }
     requires given { HasGivenNumbers (state_of tables.old) }
     requires changes { CanChange (state_of tables.old).files }
     requires newest { AreBefore number tables.old.owners.owners }
-    ensures state { OnOk result (state_of tables.new
-        ≡ after number effect (state_of tables.old)) }
-    ensures kept { OnOk result ((journal : History) → Agrees journal (owners_after
+    ensures state { state_of tables.new ≡ after number effect (state_of tables.old) }
+    ensures kept { (journal : History) → Agrees journal (owners_after
         (update_by effect.owner (kept_in entry.now)) number tables.old.owners.owners)
-        → Agrees journal tables.new.owners.owners) }
-    ensures memory { IfErr result (λ e. e ≡ Shortage.Memory) }
-    ensures ready { kept_in entry.now ≡ None → IsOk result }
-    ensures same { OnErr result (stored_of tables.new ≡ stored_of tables.old) }
+        → Agrees journal tables.new.owners.owners }
 {
     if effect.is_nothing() {
         drop(effect);
-        return Ok(());
+        return;
     }
-    match OwnerUpdate::of(effect.owner, entry) {
-        Ok(update) => {
-            tables.commit_owner(update, number);
-            tables.commit(effect.change);
-            Ok(())
-        }
-        Err(_) => {
-            drop(effect.change);
-            Err(Shortage::Memory)
-        }
-    }
+    tables.commit_owner(OwnerUpdate::of(effect.owner, entry), number);
+    tables.commit(effect.change);
 }

@@ -1,10 +1,11 @@
 ghost use Rattle.std.specs.Prelude.{◌≡◌, IfOk};
+ghost use Rattle.nfs_owners.specs.Kept.{summary_of};
 ghost use Rattle.nfs_state.specs.Kept.{kept_with, lock_owner_seqid, seqid_for};
 ghost use Rattle.nfs_xdr.specs.Names.{seqid_of};
 
 use crate::{Moment, Request};
 use nfs_forms::{Locker, OpenOwner};
-use nfs_owners::{Kept, KeptRequest, OwnerKind};
+use nfs_owners::{KeptSummary, OwnerKind};
 use nfs_xdr::{Names, Op, OpResult};
 use std::alloc::AllocError;
 
@@ -81,29 +82,16 @@ impl Call {
         }
     }
 
-    /// The request, which goes by this sequence id, and the answer, as they are kept for an owner of this kind.
-    pub(crate) fn kept(&self, seqid: u32, kind: OwnerKind) -> Result<Kept, AllocError>
-        ensures { IfOk result (λ k. k ≡ kept_with self.now seqid kind) }
+    /// What is stored of the request, which goes by this sequence id, for an owner of this kind that keeps it.
+    pub(crate) fn kept(&self, seqid: u32, kind: OwnerKind) -> KeptSummary
+        ensures { result ≡ summary_of (kept_with self.now seqid kind) }
     {
-        Ok(Kept {
-            seqid: seqid_for(kind, &self.request.op, seqid),
-            request: KeptRequest {
-                op: copy_of_op(&self.request.op)?,
-                filehandle: self.request.filehandle,
-            },
-            answer: copy_of_answer(&self.answer)?,
-        })
+        let op = &self.request.op;
+        KeptSummary::of(seqid_for(kind, op, seqid), op, &self.answer)
     }
 }
 
-// The contract of `clone` speaks of each variant on its own; this one says that the copy is equal.
-fn copy_of_op(op: &Op) -> Result<Op, AllocError>
-    ensures { IfOk result (λ r. r ≡ op.now) }
-{
-    op.clone()
-}
-
-/// A copy of the answer.
+/// A copy of the answer. The contract of `clone` speaks of each variant on its own; this one says that it is equal.
 pub fn copy_of_answer(answer: &OpResult) -> Result<OpResult, AllocError>
     ensures { IfOk result (λ r. r ≡ answer.now) }
 {

@@ -1,7 +1,8 @@
 ghost use Rattle.std.specs.Prelude.{◌≡◌, ◌+◌, ◌-◌, ◌^◌, ◌<◌, ◌≤◌, ◌⊎◌, IsFalse, IsTrue, min};
-ghost use Rattle.nfs_state.specs.MemoryCount.{IsNoCall, attributes_len, claim_len, create_len, entry_len, how_len, locker_len, mask_len, op_len, result_len};
+ghost use Rattle.nfs_state.specs.MemoryCount.{IsNoCall, attributes_len, claim_len, create_len, entry_len, how_len, locker_len, given_len, made_len, mask_len, op_len, outcome_len, read_len, write_len, written_len};
 
 use crate::Entry;
+use crate::pages::{PAGE_LEN, SHARED_LEN};
 use nfs_forms::{Answer, Bitmap, Claim, CreateHow, Fattr, Locker, OpenHow};
 use nfs_xdr::{Op, OpResult};
 
@@ -85,7 +86,7 @@ fn entry_len(entry: &Entry) -> u64
     match entry {
         Entry::Call(call) => ENTRY_LEN
             .saturating_add(op_len(&call.request.op))
-            .saturating_add(result_len(&call.answer)),
+            .saturating_add(outcome_len(&call.request.op, &call.answer)),
         Entry::Forget(forget) => {
             ENTRY_LEN.saturating_add(forget.owner.name.as_slice().len() as u64)
         }
@@ -174,12 +175,65 @@ fn mask_len(mask: &Bitmap) -> u64
     (mask.as_slice().len() as u64).saturating_mul(4)
 }
 
-// What a READ gives.
-fn result_len(answer: &OpResult) -> u64
-    ensures { result ≡ result_len answer.now }
+// What comes of the operation: what a READ gives, and the pages that a WRITE makes.
+fn outcome_len(op: &Op, answer: &OpResult) -> u64
+    ensures { result ≡ outcome_len op.now answer.now }
 {
-    match answer {
-        OpResult::Read(Answer::Done(given)) => given.bytes.as_slice().len() as u64,
+    match op {
+        Op::Read(args) => given_len(args.offset, answer),
+        Op::Write(args) => { written_len(args.offset, args.bytes.as_slice().len() as u64, answer) }
         _ => 0,
     }
+}
+
+// What the answer to a READ at the offset takes.
+fn given_len(offset: u64, answer: &OpResult) -> u64
+    ensures { result ≡ given_len offset answer.now }
+{
+    match answer {
+        OpResult::Read(Answer::Done(given)) => {
+            read_len(offset, given.bytes.as_slice().len() as u64)
+        }
+        _ => 0,
+    }
+}
+
+// What a WRITE of so many bytes at the offset takes for the file, if it was done.
+fn written_len(offset: u64, len: u64, answer: &OpResult) -> u64
+    ensures { result ≡ written_len offset len answer.now }
+{
+    match answer {
+        OpResult::Write(Answer::Done(_)) => write_len(offset, len),
+        _ => 0,
+    }
+}
+
+// What a READ takes for so many bytes from the offset on: nothing where they are a part of a page that they share.
+fn read_len(offset: u64, len: u64) -> u64
+    ensures { result ≡ read_len offset len }
+{
+    let page = PAGE_LEN as u64;
+    if len >= SHARED_LEN as u64 && len <= page - offset % page {
+        0
+    } else {
+        len
+    }
+}
+
+// What a WRITE of so many bytes at the offset takes for the file.
+fn write_len(offset: u64, len: u64) -> u64
+    ensures { result ≡ write_len offset len }
+{
+    if len == 0 { 0 } else { made_len(offset, len) }
+}
+
+// The pages that a WRITE makes: the first that it touches and the last, unless it covers them whole.
+fn made_len(offset: u64, len: u64) -> u64
+    ensures { result ≡ made_len offset len }
+{
+    let page = PAGE_LEN as u64;
+    let within = offset % page;
+    let first = if within == 0 && len >= page { 0 } else { page };
+    let has_last = len > page - within && (within + len % page) % page != 0;
+    first + if has_last { page } else { 0 }
 }

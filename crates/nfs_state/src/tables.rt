@@ -36,7 +36,7 @@ impl Tables {
     ghost use Rattle.nfs_state.specs.Changes as changed_state;
     ghost use Rattle.nfs_state.specs.Room.{IsWithinLimits, HasGivenNumbers, HasOwnerPlace, HasOwnerRoom, HasRoom, HasUpdateRoom, CanKeep, state_of, stored_of};
     ghost use Rattle.nfs_state.specs.declared.owner_change.OwnerChange.{OwnerChange};
-    ghost use Rattle.nfs_owners.specs.declared.kept.Kept.{Kept};
+    ghost use Rattle.nfs_owners.specs.Kept.{Kept};
     ghost use Rattle.nfs_state.specs.declared.change.Change.{Change};
     ghost use Rattle.nfs_owners.specs.Owner.{is_known};
     ghost use Rattle.nfs_owners.specs.StateOwner.{open_owner};
@@ -168,10 +168,7 @@ impl Tables {
                 node,
                 offset,
                 bytes,
-            } => {
-                let len = bytes.as_slice().len();
-                self.files.reserve(*node, *offset as usize + len)?
-            }
+            } => self.files.reserve(*node, *offset, bytes)?,
             Change::Nothing
             | Change::Confirms { .. }
             | Change::Downgrades { .. }
@@ -238,7 +235,7 @@ impl Tables {
         }
     }
 
-    // Makes the request and the answer the kept ones of an owner, in the entry with this number.
+    // Makes the request and the answer of the entry with this number the kept ones of an owner.
     fn keep(&mut self, keeping: Keeping, number: u32)
         requires room { CanKeep keeping.owner self.old.owners }
         requires newest { AreBefore number self.old.owners.owners }
@@ -308,7 +305,7 @@ impl Tables {
                 node,
                 offset,
                 bytes,
-            } => self.files.write(node, offset, bytes.as_slice()),
+            } => self.files.write(node, offset, &bytes),
             Change::MarksPath { client, path } => self.clients.mark(client, path),
             Change::Confirms {
                 node,

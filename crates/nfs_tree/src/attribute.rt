@@ -1,11 +1,11 @@
-ghost use Rattle.std.specs.Prelude.{◌≡◌, ◌<◌, ◌^◌, ◌++◌, IfOk, OnOk, if◌then◌else◌};
+ghost use Rattle.std.specs.Prelude.{◌≡◌, ◌^◌, ◌++◌, IfOk, OnOk, if◌then◌else◌};
 ghost use Rattle.nfs_tree.specs.Attributes.{requested_bits, attributes_of, mask_of, number_of, supported_bits, value_requested, value_of, values_of};
-ghost use Rattle.xdr.specs.Writing.{written_u32, written_u64};
+ghost use Rattle.nfs_tree.specs.Tree.{handle_of};
+ghost use Rattle.xdr.specs.Writing.{written_opaque, written_u32, written_u64};
 
-use crate::Tree;
-use nfs_xdr::{Bitmap, Fattr};
+use crate::{HANDLE_LEN, Tree};
+use nfs_xdr::{Bitmap, Fattr, Values};
 use std::alloc::{AllocError, Global};
-use xdr::{Bytes, NO_LIMIT, WireError, write_flag, write_opaque, write_u32, write_u64};
 
 /// The attributes that the server supports (RFC 7530, section 5), each with its number.
 #[derive(Clone, Copy, PartialEq, Eq)]
@@ -47,9 +47,6 @@ pub const ATTRIBUTES: [Attribute; 14] = [
 /// The word with the bits of all supported attributes.
 const SUPPORTED: u32 = 0x0018_0fff;
 
-/// How many bytes the values of all supported attributes take.
-const VALUES_LEN: usize = 92;
-
 /// The type of a file (NF4REG).
 const REGULAR_FILE: u32 = 1;
 
@@ -87,7 +84,7 @@ impl Subject {
         let word = requested_bits(mask);
         Ok(Fattr {
             mask: mask_of(alloc, word)?,
-            values: Bytes::new(values_of(alloc, self, word, &ATTRIBUTES)?),
+            values: values_of(alloc, self, word, &ATTRIBUTES)?,
         })
     }
 }
@@ -118,83 +115,87 @@ fn values_of(
     subject: Subject,
     word: u32,
     attributes: &[Attribute],
-) -> Result<Vec<u8>, AllocError>
-    ensures { IfOk result (λ v. v.items ≡ values_of subject word attributes.now) }
+) -> Result<Values, AllocError>
+    ensures { IfOk result (λ v. v ≡ values_of subject word attributes.now) }
 {
-    let mut values = Vec::with_capacity(alloc, VALUES_LEN)?;
+    let mut values = Values::empty(alloc);
     for attribute in attributes {
-        if write_if_requested(&mut values, subject, word, *attribute).is_err() {
-            return Err(AllocError);
-        }
+        add_if_requested(&mut values, subject, word, *attribute)?;
     }
     Ok(values)
 }
 
-// Writes an attribute's value at the end, if the word asks for it.
-fn write_if_requested(
-    out: &mut Vec<u8>,
+// Adds an attribute's value, if the word asks for it.
+fn add_if_requested(
+    values: &mut Values,
     subject: Subject,
     word: u32,
     attribute: Attribute,
-) -> Result<(), WireError>
-    ensures { OnOk result (out.new.items
-        ≡ out.old.items ++ value_requested subject word attribute) }
+) -> Result<(), AllocError>
+    ensures { OnOk result (values.new ≡ values.old ++ value_requested subject word attribute) }
 {
     if word & attribute.bit() == 0 {
         return Ok(());
     }
-    write_value(out, subject, attribute)
+    add_value(values, subject, attribute)
 }
 
-// Writes an attribute's value at the end.
-fn write_value(out: &mut Vec<u8>, subject: Subject, attribute: Attribute) -> Result<(), WireError>
-    ensures { OnOk result (out.new.items ≡ out.old.items ++ value_of subject attribute) }
+// Adds an attribute's value.
+fn add_value(values: &mut Values, subject: Subject, attribute: Attribute) -> Result<(), AllocError>
+    ensures { OnOk result (values.new ≡ values.old ++ value_of subject attribute) }
 {
     match attribute {
-        Attribute::SupportedAttrs => write_supported(out),
-        Attribute::Type => write_u32(
-            out,
-            if subject.is_directory {
-                DIRECTORY
-            } else {
-                REGULAR_FILE
-            },
-        ),
-        Attribute::Change => write_of_file(out, subject, subject.change),
-        Attribute::Size => write_of_file(out, subject, subject.size),
+        Attribute::SupportedAttrs => add_supported(values),
+        Attribute::Type => values.add_u32(if subject.is_directory {
+            DIRECTORY
+        } else {
+            REGULAR_FILE
+        }),
+        Attribute::Change => add_of_file(values, subject, subject.change),
+        Attribute::Size => add_of_file(values, subject, subject.size),
         Attribute::LinkSupport | Attribute::SymlinkSupport | Attribute::NamedAttr => {
-            write_flag(out, false)
+            values.add_u32(0)
         }
-        Attribute::Fsid => write_fsid(out),
-        Attribute::UniqueHandles => write_flag(out, true),
-        Attribute::LeaseTime => write_u32(out, subject.lease),
-        Attribute::FhExpireType | Attribute::RdattrError => write_u32(out, 0),
-        Attribute::Filehandle => write_opaque(out, &Tree::handle_of(subject.node), NO_LIMIT),
-        Attribute::Fileid => write_u64(out, u64::from(subject.node) + 1),
+        Attribute::Fsid => add_fsid(values),
+        Attribute::UniqueHandles => values.add_u32(1),
+        Attribute::LeaseTime => values.add_u32(subject.lease),
+        Attribute::FhExpireType | Attribute::RdattrError => values.add_u32(0),
+        Attribute::Filehandle => add_handle(values, subject.node),
+        Attribute::Fileid => values.add_u64(u64::from(subject.node) + 1),
     }
 }
 
-// Writes the supported attributes, as a bitmap.
-fn write_supported(out: &mut Vec<u8>) -> Result<(), WireError>
-    ensures { OnOk result (out.new.items
-        ≡ out.old.items ++ (written_u32 1 ++ written_u32 supported_bits)) }
+// Adds the supported attributes, as a bitmap.
+fn add_supported(values: &mut Values) -> Result<(), AllocError>
+    ensures { OnOk result (values.new
+        ≡ values.old ++ (written_u32 1 ++ written_u32 supported_bits)) }
 {
-    write_u32(out, 1)?;
-    write_u32(out, SUPPORTED)
+    values.add_u32(1)?;
+    values.add_u32(SUPPORTED)
 }
 
-// Writes a number that belongs to a file, or 0 for a directory.
-fn write_of_file(out: &mut Vec<u8>, subject: Subject, number: u64) -> Result<(), WireError>
-    ensures { OnOk result (out.new.items
-        ≡ out.old.items ++ written_u64 (if subject.is_directory then 0 else number)) }
+// Adds a number that belongs to a file, or 0 for a directory.
+fn add_of_file(values: &mut Values, subject: Subject, number: u64) -> Result<(), AllocError>
+    ensures { OnOk result (values.new
+        ≡ values.old ++ written_u64 (if subject.is_directory then 0 else number)) }
 {
-    write_u64(out, if subject.is_directory { 0 } else { number })
+    values.add_u64(if subject.is_directory { 0 } else { number })
 }
 
-// Writes the number of the only file system, major and minor.
-fn write_fsid(out: &mut Vec<u8>) -> Result<(), WireError>
-    ensures { OnOk result (out.new.items ≡ out.old.items ++ (written_u64 1 ++ written_u64 0)) }
+// Adds the number of the only file system, major and minor.
+fn add_fsid(values: &mut Values) -> Result<(), AllocError>
+    ensures { OnOk result (values.new ≡ values.old ++ (written_u64 1 ++ written_u64 0)) }
 {
-    write_u64(out, 1)?;
-    write_u64(out, 0)
+    values.add_u64(1)?;
+    values.add_u64(0)
+}
+
+// Adds the handle of a node, which needs no padding.
+#[tactic(auto, unfolding(xdr::specs::Writing::written_opaque))]
+fn add_handle(values: &mut Values, node: u32) -> Result<(), AllocError>
+    ensures { OnOk result (values.new ≡ values.old ++ written_opaque (handle_of node)) }
+{
+    let handle = Tree::handle_of(node);
+    values.add_u32(HANDLE_LEN as u32)?;
+    values.add(&handle)
 }

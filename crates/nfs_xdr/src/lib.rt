@@ -22,7 +22,7 @@ pub use nfs_forms::{
     Address, Answer, Bitmap, Callback, ChangeInfo, Claim, ClientId, CreateHow, DelegationType,
     FILE_HANDLE_LIMIT, Fattr, FileHandle, KnownLocker, LockDenied, LockOwner, LockType, Locker,
     NewLocker, OWNER_NAME_LIMIT, OpenDelegation, OpenHow, OpenOwner, Principal, Refusal, STATUSES,
-    StableHow, Stateid, Status, Verifier, limits_of_forms,
+    StableHow, Stateid, Status, Values, Verifier, limits_of_forms,
 };
 pub use op::Op;
 pub use op_result::OpResult;

@@ -17,7 +17,7 @@ pub use basic::{
     padding_of, read_constant, read_fixed, read_flag, read_opaque, read_opaque_bytes, read_u32,
     read_u64, write_fixed, write_flag, write_opaque, write_u32, write_u64,
 };
-pub use bytes::{Bytes, NO_LIMIT};
+pub use bytes::{Bytes, BytesInPlace, NO_LIMIT};
 pub use fields::{write_five, write_four, write_three, write_two};
 pub use laws::written_is_read_again;
 pub use many::{read_few, read_many, write_many};

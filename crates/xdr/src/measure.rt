@@ -2,7 +2,7 @@ ghost use Rattle.std.specs.Prelude.{◌≡◌, ◌≤◌, ◌^◌, length};
 ghost use Rattle.xdr.specs.Form.{Form};
 
 use crate::basic::padding_of;
-use crate::{Bytes, Opaque, SharedBytes, Wire};
+use crate::{BytesInPlace, Opaque, SharedBytes, Wire};
 
 /// A type whose values know how many bytes they take when written.
 pub trait Measure: Wire {
@@ -32,7 +32,7 @@ impl Measure for u64 {
     }
 }
 
-impl Measure for Bytes {
+impl<const IN_PLACE: usize> Measure for BytesInPlace<IN_PLACE> {
     #[tactic(auto, unfolding(crate::specs::Writing::written_opaque, crate::specs::Writing::written_number))]
     fn written_len(&self) -> usize {
         let len = self.as_slice().len();

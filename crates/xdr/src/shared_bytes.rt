@@ -1,24 +1,30 @@
-ghost use Rattle.std.specs.Prelude.{◌≡◌, IfOk};
+ghost use Rattle.std.specs.Prelude.{◌≡◌, ◌+◌, ◌≤◌, IfOk, drop, length, take};
 
 use std::alloc::{AllocError, Global};
 use std::marker::Model;
 use std::sync::ArcSlice;
 
-/// Owned bytes (opaque<>) that their clones share, so that a clone takes no memory, however many they are. They can be
-/// written if there are at most `NO_LIMIT` of them. Contracts see the list of them.
+/// Owned bytes (opaque<>) that their clones and parts share, so that none of these takes memory, however many the bytes
+/// are. They can be written if there are at most `NO_LIMIT` of them. Contracts see the list of them.
 #[derive(Drop)]
 pub struct SharedBytes {
-    items: ArcSlice<u8>,
+    // Those that are shared.
+    all: ArcSlice<u8>,
+    // Where in them these begin, and how many these are.
+    start: usize,
+    len: usize,
 }
 
-const _: () = prove!(size_of::<SharedBytes>() == 8);
+const _: () = prove!(size_of::<SharedBytes>() == 24);
 
 impl Model for SharedBytes {
-    ghost use Rattle.std.specs.Prelude.{List, ℕ};
+    ghost use Rattle.std.specs.Prelude.{List, ℕ, ◌+◌, ◌≤◌, drop, length, take};
 
     ghost Value = { List ℕ };
 
-    ghost view = { λ b. b.items.items.value.items };
+    ghost view = { λ b. take b.len (drop b.start b.all.items.value.items) };
+
+    ghost invariant = { λ b. b.start + b.len ≤ length b.all.items.value.items };
 }
 
 impl SharedBytes {
@@ -26,8 +32,11 @@ impl SharedBytes {
     pub fn new(items: Vec<u8>) -> Result<SharedBytes, AllocError>
         ensures { IfOk result (λ b. b ≡ items.items) }
     {
+        let len = items.len();
         Ok(SharedBytes {
-            items: ArcSlice::from_vec(items)?,
+            all: ArcSlice::from_vec(items)?,
+            start: 0,
+            len,
         })
     }
 
@@ -35,8 +44,18 @@ impl SharedBytes {
     pub fn copy_of(alloc: Global, items: &[u8]) -> Result<SharedBytes, AllocError>
         ensures { IfOk result (λ b. b ≡ items.now) }
     {
+        SharedBytes::new(Vec::from_slice(alloc, items)?)
+    }
+
+    /// So many of the bytes, from this one on, which share their memory.
+    pub fn part(&self, start: usize, len: usize) -> Result<SharedBytes, AllocError>
+        requires { start + len ≤ length self.now }
+        ensures { IfOk result (λ b. b ≡ take len (drop start self.now)) }
+    {
         Ok(SharedBytes {
-            items: ArcSlice::from_slice(alloc, items)?,
+            all: self.all.clone()?,
+            start: self.start + start,
+            len,
         })
     }
 
@@ -44,7 +63,7 @@ impl SharedBytes {
     pub fn as_slice(&self) -> &[u8]
         ensures { result.now ≡ self.now }
     {
-        self.items.as_slice()
+        &self.all.as_slice()[self.start..self.start + self.len]
     }
 }
 
@@ -67,7 +86,9 @@ impl Clone for SharedBytes {
 
     fn clone(&self) -> Result<SharedBytes, AllocError> {
         Ok(SharedBytes {
-            items: self.items.clone()?,
+            all: self.all.clone()?,
+            start: self.start,
+            len: self.len,
         })
     }
 }

@@ -11,7 +11,7 @@ use crate::basic::{
 };
 use crate::fields::write_two;
 use crate::many::{read_many, write_many};
-use crate::{Bytes, Opaque, Sequence, SharedBytes, WireError};
+use crate::{BytesInPlace, Opaque, Sequence, SharedBytes, WireError};
 use std::alloc::Global;
 
 /// A type that has a form on the wire, by which it is read and written.
@@ -96,12 +96,12 @@ impl<const N: usize> Wire for [u8; N] {
     }
 }
 
-impl Wire for Bytes {
+impl<const IN_PLACE: usize> Wire for BytesInPlace<IN_PLACE> {
     ghost form = { forms.opaque NO_LIMIT };
 
-    fn read(alloc: Global, bytes: &[u8]) -> Result<(Bytes, &[u8]), WireError> {
+    fn read(alloc: Global, bytes: &[u8]) -> Result<(BytesInPlace<IN_PLACE>, &[u8]), WireError> {
         let (value, rest) = read_opaque(bytes, crate::NO_LIMIT)?;
-        Ok((Bytes::copy_of(alloc, value)?, rest))
+        Ok((BytesInPlace::copy_of(alloc, value)?, rest))
     }
 
     fn write(&self, out: &mut Vec<u8>) -> Result<(), WireError> {

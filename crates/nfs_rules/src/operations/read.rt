@@ -10,7 +10,6 @@ use nfs_operations::read::{Read, ReadOk};
 use nfs_state::{Change, Effect, Request, Shortage, Store, Tables};
 use nfs_xdr::{Answer, Op, OpResult};
 use std::alloc::{AllocError, Global};
-use xdr::SharedBytes;
 
 /// Decides a READ: its answer, and what it calls back.
 pub(super) fn decide(
@@ -33,14 +32,11 @@ pub(super) fn decide(
     })
 }
 
-// The bytes of the node's file, as a copy.
+// The bytes of the node's file.
 fn read(alloc: Global, tables: &Tables, node: u32, args: &Read) -> Result<ReadOk, AllocError>
     ensures answer { IfOk result (λ ok. ok ≡ answer_of (state_of tables.now) args.now node) }
     ensures short { IfOk result (λ ok. IsShort (OpResult.Read (Answer.Done ok))) }
 {
-    let (eof, bytes) = tables.files.read(node, args.offset, args.count);
-    Ok(ReadOk {
-        eof,
-        bytes: SharedBytes::copy_of(alloc, bytes)?,
-    })
+    let (eof, bytes) = tables.files.read(alloc, node, args.offset, args.count)?;
+    Ok(ReadOk { eof, bytes })
 }

@@ -2,7 +2,7 @@ use Rattle.std.proofs.Common.{◌≡◌, ℕ, Bool, true, false, List, [], ◌�
 use Rattle.nfs_owners.specs.Owner.{has_name, is_known, with_request, new_owner, owner_of}
 use Rattle.nfs_owners.specs.Owners.{with_change, with_kept, without_owner}
 use Rattle.nfs_owners.specs.StateOwner.{is_same_state_owner}
-use Rattle.nfs_owners.specs.declared.kept.Kept.{Kept}
+use Rattle.nfs_owners.specs.declared.kept.KeptSummary.{KeptSummary}
 use Rattle.nfs_owners.specs.declared.owner.Owner.{Owner}
 use Rattle.nfs_owners.specs.declared.owner.OwnerState.{OwnerState}
 use Rattle.nfs_owners.specs.declared.state_owner.StateOwner.{StateOwner}
@@ -21,11 +21,11 @@ changed change name other (o ∷ owners) apart = by (has_name name o) refl (chan
     by true same rest = grind (arith, same, rest, not_other name other o apart same)
     by false different rest = grind (arith, different, rest)
 
-added : (name other : StateOwner) (number : ℕ) (kept : Kept) (owners : List Owner) → is_same_state_owner name other ≡ false → owner_of other (owners ++ new_owner name number kept ∷ []) ≡ owner_of other owners
+added : (name other : StateOwner) (number : ℕ) (kept : KeptSummary) (owners : List Owner) → is_same_state_owner name other ≡ false → owner_of other (owners ++ new_owner name number kept ∷ []) ≡ owner_of other owners
 added name other number kept [] apart = grind (arith, apart)
 added name other number kept (o ∷ owners) apart = grind (arith, added name other number kept owners apart)
 
-kept_for : (name other : StateOwner) (number : ℕ) (kept : Kept) (owners : List Owner) → is_same_state_owner name other ≡ false → owner_of other (with_kept name number kept owners) ≡ owner_of other owners
+kept_for : (name other : StateOwner) (number : ℕ) (kept : KeptSummary) (owners : List Owner) → is_same_state_owner name other ≡ false → owner_of other (with_kept name number kept owners) ≡ owner_of other owners
 kept_for name other number kept owners apart = by (is_known name owners) refl
   where
     by : (b : Bool) → is_known name owners ≡ b → owner_of other (with_kept name number kept owners) ≡ owner_of other owners

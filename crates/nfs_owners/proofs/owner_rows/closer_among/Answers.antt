@@ -1,12 +1,12 @@
 use Rattle.std.proofs.Common.{◌∙◌, ℕ, Bool, List, ap, find, option_map}
-use Rattle.nfs_owners.specs.Kept.{closes}
+use Rattle.nfs_owners.specs.Kept.{summary_closes}
 use Rattle.nfs_owners.specs.declared.owner.Owner.{Owner}
 use Rattle.nfs_owners.proofs.Leaving.{pairs_found}
 use Rattle.nfs_owners.proofs.owner_rows.closer_among.Goals as goal
 
 pub loop-owner-init : goal.loop-owner-init
 loop-owner-init c =
-    let test : Owner → Bool = λ o. closes c.args.client c.args.number o.state.kept in
+    let test : Owner → Bool = λ o. summary_closes c.args.client c.args.number o.state.kept in
     record {
       can = tt;
       finite = tt;

@@ -33,7 +33,7 @@ loop-owner-preserved-then-has_client c =
       pairs = (pairs.0.1, pairs.1.1);
       closers = λ are.
           subst (AreClosers c.forget.new.self) (left_forgotten test rows p rest order pairs (sym c.has_client.ensures ∙ c.if-has_client.true))
-          (c.forget.ensures (left test rows (p ∷ rest)) p.0 (left_closed test rows p rest order pairs ∙ sym c.closed.ensures)
+          (c.forget.ensures (left test rows (p ∷ rest)) p.0 (left_closed test rows p rest order pairs ∙ sym c.closed_number.ensures)
           (subst (λ ps. AreClosers c.loop-owner.closers (left test rows ps)) step (c.loop-owner.invariant.closers are)));
     }
 

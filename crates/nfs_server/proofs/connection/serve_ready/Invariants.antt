@@ -1,4 +1,4 @@
-use Rattle.std.proofs.Common.{◌≡◌, ◌≤◌, ◌++◌, length}
+use Rattle.std.proofs.Common.{◌≡◌, ◌≤◌, ◌++◌, [], length}
 use Rattle.std.specs.List.{AllByRecursion}
 use Rattle.nfs_rpc.specs.declared.records.TheConstants.{RECORD_LIMIT}
 use Rattle.nfs_server.specs.Batch.{messages_in}
@@ -15,6 +15,7 @@ invariant-loop-device g l = record {
   limits : AllByRecursion (λ message. length message ≤ RECORD_LIMIT) l.records.ready;
   same : l.records ≡ record l.fn.records { ready = l.records.ready };
   within : length l.replies.gathered.items ≤ GATHER_LIMIT;
+  written : l.replies.answered.items ≡ [];
   serves : g.S.Service.serves l.service ≡ l.fn.tree.nodes;
   reads : g.D.Duplex.read_failures l.device ≡ g.D.Duplex.read_failures l.fn.device;
   writes : g.D.Duplex.write_failures l.device ≡ g.D.Duplex.write_failures l.fn.device;

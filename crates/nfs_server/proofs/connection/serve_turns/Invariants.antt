@@ -15,6 +15,7 @@ invariant-loop-records g l = record {
   room : length l.buffer ≡ PIECE_LEN;
   idle : l.replies.gathered.items ≡ [];
   none : l.replies.pending.items ≡ [];
+  written : l.replies.answered.items ≡ [];
   serves : g.S.Service.serves l.service ≡ l.fn.tree.nodes;
   reads : g.D.Duplex.read_failures l.device ≡ g.D.Duplex.read_failures l.fn.device;
   writes : g.D.Duplex.write_failures l.device ≡ g.D.Duplex.write_failures l.fn.device;

@@ -22,14 +22,14 @@ returns-then-is_nothing-clause-kept c = λ journal agrees.
 pub commit_owner-requires-clause-room : goal.commit_owner-requires-clause-room
 commit_owner-requires-clause-room c =
     let tables = c.args.tables.now in
-    subst (λ u. HasUpdateRoom u tables) (sym c.in-Ok.ensures.update) (update_room_by c.args.effect.owner (kept_in c.args.entry.now) tables c.requires.fits.place c.requires.room.1)
+    subst (λ u. HasUpdateRoom u tables) (sym c.of.ensures) (update_room_by c.args.effect.owner (kept_in c.args.entry.now) tables c.requires.fits.place c.requires.room.1)
 
 pub commit-requires-clause-numbers : goal.commit-requires-clause-numbers
 commit-requires-clause-numbers c =
     let effect = c.args.effect in
     let roomy = c.args.tables.now in
     let place = c.requires.fits.place in
-    let changed = owners_changed c.in-Ok.update effect.owner (kept_in c.args.entry.now) c.args.number (state_of roomy) (state_of c.commit_owner.new.self) c.in-Ok.ensures.update c.requires.fits.kept c.commit_owner.ensures.state c.commit_owner.ensures.nothing place in
+    let changed = owners_changed c.of.result effect.owner (kept_in c.args.entry.now) c.args.number (state_of roomy) (state_of c.commit_owner.new.self) c.of.ensures c.requires.fits.kept c.commit_owner.ensures.state c.commit_owner.ensures.nothing place in
     subst (IsWithinLimits effect.change) (sym changed)
     (limits_after effect.change effect.owner c.args.number (state_of c.args.tables.now) c.requires.fits.numbers)
 
@@ -38,7 +38,7 @@ commit-requires-clause-given c =
     let effect = c.args.effect in
     let roomy = c.args.tables.now in
     let place = c.requires.fits.place in
-    let changed = owners_changed c.in-Ok.update effect.owner (kept_in c.args.entry.now) c.args.number (state_of roomy) (state_of c.commit_owner.new.self) c.in-Ok.ensures.update c.requires.fits.kept c.commit_owner.ensures.state c.commit_owner.ensures.nothing place in
+    let changed = owners_changed c.of.result effect.owner (kept_in c.args.entry.now) c.args.number (state_of roomy) (state_of c.commit_owner.new.self) c.of.ensures c.requires.fits.kept c.commit_owner.ensures.state c.commit_owner.ensures.nothing place in
     subst HasGivenNumbers (sym changed) (given_after effect.owner c.args.number (state_of c.args.tables.now) c.requires.given)
 
 pub commit-requires-clause-changes : goal.commit-requires-clause-changes
@@ -46,21 +46,21 @@ commit-requires-clause-changes c =
     let effect = c.args.effect in
     let roomy = c.args.tables.now in
     let place = c.requires.fits.place in
-    let changed = owners_changed c.in-Ok.update effect.owner (kept_in c.args.entry.now) c.args.number (state_of roomy) (state_of c.commit_owner.new.self) c.in-Ok.ensures.update c.requires.fits.kept c.commit_owner.ensures.state c.commit_owner.ensures.nothing place in
+    let changed = owners_changed c.of.result effect.owner (kept_in c.args.entry.now) c.args.number (state_of roomy) (state_of c.commit_owner.new.self) c.of.ensures c.requires.fits.kept c.commit_owner.ensures.state c.commit_owner.ensures.nothing place in
     subst CanChange (sym (ap (λ (s : State). s.files) changed ∙ same_files effect.owner c.args.number (state_of c.args.tables.now))) c.requires.changes
 
-pub returns-in-Ok-clause-state : goal.returns-in-Ok-clause-state
-returns-in-Ok-clause-state c =
+pub returns-clause-state : goal.returns-clause-state
+returns-clause-state c =
     let effect = c.args.effect in
     let roomy = c.args.tables.now in
     let place = c.requires.fits.place in
-    let changed = owners_changed c.in-Ok.update effect.owner (kept_in c.args.entry.now) c.args.number (state_of roomy) (state_of c.commit_owner.new.self) c.in-Ok.ensures.update c.requires.fits.kept c.commit_owner.ensures.state c.commit_owner.ensures.nothing place in
+    let changed = owners_changed c.of.result effect.owner (kept_in c.args.entry.now) c.args.number (state_of roomy) (state_of c.commit_owner.new.self) c.of.ensures c.requires.fits.kept c.commit_owner.ensures.state c.commit_owner.ensures.nothing place in
     c.commit.ensures.state ∙ ap (with_state_change effect.change) changed
 
-pub returns-in-Ok-clause-kept : goal.returns-in-Ok-clause-kept
-returns-in-Ok-clause-kept c = λ journal agrees.
+pub returns-clause-kept : goal.returns-clause-kept
+returns-clause-kept c = λ journal agrees.
     let roomy = c.args.tables.now in
     let update = update_by c.args.effect.owner (kept_in c.args.entry.now) in
     let are = c.commit_owner.ensures.owners
-    ∙ ap (λ u. owners_after u c.args.number roomy.owners.owners) c.in-Ok.ensures.update in
+    ∙ ap (λ u. owners_after u c.args.number roomy.owners.owners) c.of.ensures in
     c.commit.ensures.kept journal (subst (Agrees journal) (sym are) agrees)

@@ -8,7 +8,7 @@ pub loop-file-preserved : goal.loop-file-preserved
 loop-file-preserved c =
     let i = c.loop-file.file-index in
     let next = c.reserve_one.new.file in
-    let has = HasRoomIn c.args.node c.args.size in
+    let has = HasRoomIn c.args.node c.args.offset c.args.block.now in
     record {
       same = map-set_same (λ (f : RoomyFile). f.file) c.loop-file.files i next c.file-item.result c.reserve_one.ensures.same ∙ c.loop-file.invariant.same;
       room = all_set has c.loop-file.files i next (omega arith) c.loop-file.invariant.room c.in_ok-reserve_one.ensures.room;

@@ -7,6 +7,6 @@ use Rattle.nfs_state.proofs.stored_files.reserve_in.Given as goal
 abbrev pub invariant-loop-file : goal.invariant-loop-file
 invariant-loop-file l = record {
   same : files_in l.files ≡ files_in l.initial.files;
-  room : AllByRecursion (HasRoomIn l.node l.size) (take l.file-index l.files);
-  ready : HasFileRoom l.node l.size l.initial.files → AllByRecursion (HasRoomIn l.node l.size) (drop l.file-index l.files);
+  room : AllByRecursion (HasRoomIn l.node l.offset l.block) (take l.file-index l.files);
+  ready : HasFileRoom l.node l.offset l.block l.initial.files → AllByRecursion (HasRoomIn l.node l.offset l.block) (drop l.file-index l.files);
 }

@@ -1,4 +1,4 @@
-use Rattle.std.proofs.Common.{◌+◌, ◌<◌, ◌∙◌, length, refl, arith}
+use Rattle.std.proofs.Common.{◌<◌, ◌∙◌, refl, arith}
 use Rattle.std.specs.Prelude.{◌==◌, ◌-◌, ◌^◌, if◌then◌else◌}
 use Rattle.std.proofs.lemmas.List.{length-map}
 use Rattle.nfs_state.specs.Files.{FileState, HasRoomIn, RoomyFile, after_write, files_in}
@@ -14,7 +14,7 @@ loop-file-init c = record {
 
 pub write_one-requires-clause-room : goal.write_one-requires-clause-room
 write_one-requires-clause-room c =
-    all_here (HasRoomIn c.args.node (c.args.offset + length c.args.block.now)) c.loop-file.files c.loop-file.file-index c.file-item.result (omega arith) c.loop-file.invariant.room
+    all_here (HasRoomIn c.args.node c.args.offset c.args.block.now) c.loop-file.files c.loop-file.file-index c.file-item.result (omega arith) c.loop-file.invariant.room
 
 pub write_one-requires-clause-changes : goal.write_one-requires-clause-changes
 write_one-requires-clause-changes c =
@@ -27,7 +27,7 @@ loop-file-preserved c =
     let change : FileState → FileState = λ f. if f.node == c.args.node then after_write c.args.offset c.args.block.now f else f in
     record {
       files = one_more change c.args.files.now c.loop-file.files i c.file-item.result next (omega arith) (omega arith) c.loop-file.invariant.files c.write_one.ensures;
-      room = all_left (HasRoomIn c.args.node (c.args.offset + length c.args.block.now)) c.loop-file.files i next (omega arith) c.loop-file.invariant.room;
+      room = all_left (HasRoomIn c.args.node c.args.offset c.args.block.now) c.loop-file.files i next (omega arith) c.loop-file.invariant.room;
       changes = all_left (λ (f : RoomyFile). f.file.change < 2 ^ 64 - 1) c.loop-file.files i next (omega arith) c.loop-file.invariant.changes;
     }
 

@@ -1,4 +1,4 @@
-use Rattle.std.proofs.Common.{◌≡◌, ◌+◌, ◌++◌, ◌<◌, drop, length, map, take}
+use Rattle.std.proofs.Common.{◌≡◌, ◌++◌, ◌<◌, drop, map, take}
 use Rattle.std.specs.Prelude.{◌==◌, ◌-◌, ◌^◌, if◌then◌else◌}
 use Rattle.std.specs.List.{AllByRecursion}
 use Rattle.nfs_state.specs.Files.{HasRoomIn, after_write, files_in}
@@ -10,6 +10,6 @@ invariant-loop-file l = record {
   files : files_in l.files
       ≡ map (λ f. if f.node == l.node then after_write l.offset l.block f else f) (take l.file-index (files_in l.initial.files))
       ++ drop l.file-index (files_in l.initial.files);
-  room : AllByRecursion (HasRoomIn l.node (l.offset + length l.block)) (drop l.file-index l.files);
+  room : AllByRecursion (HasRoomIn l.node l.offset l.block) (drop l.file-index l.files);
   changes : AllByRecursion (λ f. f.file.change < 2 ^ 64 - 1) (drop l.file-index l.files);
 }

@@ -34,7 +34,7 @@ invariant_of-self c =
           (all_push (IsFiled names) rows r c.self.invariant.0
           (record { numbered = c.from-row.ensures; hashed = c.requires.hash ∙ ap (λ (o : RoomyOwnerRows). name_hash o.names c.args.owner.name) (sym c.self.view_is); of_client = refl })),
       subst (AreClosers c.note.new.self)
-          (ap (λ n. with_at c.from-row.result n (closed_at rows)) c.closed.ensures ∙ closed_more rows r (above c) ∙ ap closed_at (sym c.add.ensures.rows))
+          (ap (λ n. with_at c.from-row.result n (closed_at rows)) c.closed_number.ensures ∙ closed_more rows r (above c) ∙ ap closed_at (sym c.add.ensures.rows))
           (c.note.ensures (closed_at rows) (closed_nothing c.from-row.result rows (above c)) c.self.invariant.1),
     )
 

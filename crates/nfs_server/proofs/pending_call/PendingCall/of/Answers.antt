@@ -7,6 +7,9 @@ pub invariant_of-result : goal.invariant_of-result
 invariant_of-result c =
     let value = c.as_slice.ensures.value in
     let short = ap (λ (m : List ℕ). length m) value in (
-      subst (λ (m : List ℕ). IsCall m c.read_call-call.result) value c.read_call-call.ensures.call,
-      within_limits (length c.as_slice.result.now) c.read_call-call.result (omega (arith, short, c.requires)) c.read_call-call.ensures.limits,
+      (
+        subst (λ (m : List ℕ). IsCall m c.read_call-call.result) value c.read_call-call.ensures.call,
+        within_limits (length c.as_slice.result.now) c.read_call-call.result (omega (arith, short, c.requires)) c.read_call-call.ensures.limits,
+      ),
+      c.in_ok-results.ensures,
     )

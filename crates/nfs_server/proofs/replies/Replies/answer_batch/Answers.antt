@@ -1,42 +1,83 @@
-use Rattle.std.proofs.Common.{◌≡◌, ◌∙◌, List, ◌∷◌, length, ap, sym, subst, true, arith}
-use Rattle.nfs_server.specs.Batch.{gathering, goes_on, messages_in}
+use Rattle.std.proofs.Common.{◌≡◌, ◌∙◌, ℕ, List, [], ◌∷◌, ◌++◌, length, ap, refl, sym, subst, true, arith}
+use Rattle.std.proofs.lemmas.List.{length-append}
+use Rattle.nfs_server.specs.Batch.{AreAnswered, gathering, goes_on, messages_in, waiting_bytes}
 use Rattle.nfs_server.specs.Exchange.{rules}
 use Rattle.nfs_server.specs.PendingCall.{PendingView}
-use Rattle.nfs_server.proofs.Batching.{answered_more, answered_until, asked_then, on_err, some_left}
+use Rattle.nfs_server.proofs.Batching.{answered_more, answered_none, answered_until, asked_then, on_err, some_left, waiting-more, waiting-none, waits_few}
 use Rattle.nfs_server.proofs.replies.Replies.answer_batch.Goals as goal
+
+pub loop-self-init : goal.loop-self-init
+loop-self-init g c =
+    let by = rules c.args.tree.now g.S.Service.gives g.S.Service.alike g.C.Clock.tells in
+    let gathered = c.args.self.now.gathered.items in
+    let none = waiting-none gathered c.args.self.now.answered.items c.requires.written in
+    let first = gathering c.args.service.now c.args.clock.now gathered (messages_in c.args.self.now.pending.items) in
+    record {
+      answered = subst (λ (w : List ℕ). AreAnswered by first [] (gathering c.args.service.now c.args.clock.now w (messages_in c.args.self.now.pending.items))) (sym none) (answered_none by first);
+      counted = omega (arith, c.len-waiting.ensures, c.args.self.now.gathered.ok.0, ap (λ (w : List ℕ). length w) none);
+      within = omega (arith, c.requires.within, c.len-waiting.ensures, c.args.self.now.gathered.ok.0);
+      room = c.requires.room;
+      same = refl;
+      few = omega arith;
+      fewer = omega arith;
+      first = λ same. (refl, omega (arith, c.requires.within, c.len-waiting.ensures, c.args.self.now.gathered.ok.0));
+      serves = c.requires.serves;
+    }
+
+pub push_back_reserved-requires : goal.push_back_reserved-requires
+push_back_reserved-requires g c = omega (arith, c.loop-self.invariant.room, c.in-Some.ensures.len)
 
 pub loop-self-preserved : goal.loop-self-preserved
 loop-self-preserved g c =
     let i = c.loop-self.invariant in
     let now = c.loop-self.self in
-    let next = c.answer.new.self in
+    let left = c.pop_front.new.self.items in
+    let answered = c.push_back_reserved.new.self.items in
     let by = rules c.args.tree.now g.S.Service.gives g.S.Service.alike g.C.Clock.tells in
     let first = gathering c.args.service.now c.args.clock.now c.args.self.now.gathered.items (messages_in c.args.self.now.pending.items) in
-    let mid = gathering c.loop-self.service c.loop-self.clock now.gathered.items (messages_in now.pending.items) in
-    let after = gathering c.answer.new.service c.answer.new.clock next.gathered.items (messages_in next.pending.items) in
-    let popped : now.pending.items ≡ c.in-Some.pending ∷ next.pending.items = c.in-Some.ensures.items ∙ ap (λ (ps : List PendingView). c.in-Some.pending ∷ ps) (sym c.answer.ensures.pending) in
+    let mid = gathering c.loop-self.service c.loop-self.clock (waiting_bytes now.gathered.items now.answered.items) (messages_in now.pending.items) in
+    let after = gathering c.of.new.service c.of.new.clock (waiting_bytes now.gathered.items answered) (messages_in left) in
+    let popped : now.pending.items ≡ c.in-Some.pending ∷ left = c.in-Some.ensures.items in
     let shorter = ap (λ (ps : List PendingView). length ps) popped in
-    let goes = subst (λ (ps : List PendingView). goes_on ps c.loop-self.asked (length now.gathered.items) ≡ true) popped (sym c.goes_on.ensures.goes ∙ c.loop-self-test.true) in
+    let more : waiting_bytes now.gathered.items answered ≡ waiting_bytes now.gathered.items now.answered.items ++ c.in_ok-call.call =
+    ap (λ (a : List (List ℕ)). waiting_bytes now.gathered.items a) c.push_back_reserved.ensures.items ∙ waiting-more now.gathered.items now.answered.items c.in_ok-call.call in
+    let longer = ap (λ (w : List ℕ). length w) more ∙ length-append (waiting_bytes now.gathered.items now.answered.items) c.in_ok-call.call in
+    let goes = subst (λ (ps : List PendingView). goes_on ps c.loop-self.asked c.loop-self.waiting ≡ true) popped (sym c.goes_on.ensures.goes ∙ c.loop-self-test.true) in
     record {
-      answered = answered_more by first mid after c.in-Some.pending.message i.answered (ap messages_in popped) c.in_ok-answer.ensures.ok;
-      few = omega (arith, c.question_count-asked.ensures.count, asked_then c.in-Some.pending next.pending.items c.loop-self.asked (length now.gathered.items) goes);
+      answered = answered_more by first mid after c.in-Some.pending.message c.in_ok-call.call i.answered (ap messages_in popped) more c.in_ok-call.ensures.ok;
+      counted = omega (arith, i.counted, longer, c.len-waiting-in-loop-self.ensures.len);
+      within = omega (arith, waits_few c.in-Some.pending left c.loop-self.asked c.loop-self.waiting goes, c.len-waiting-in-loop-self.ensures.few);
+      room = omega (arith, i.room, c.in-Some.ensures.len, c.push_back_reserved.ensures.len, c.push_back_reserved.ensures.capacity);
+      same = i.same;
+      few = omega (arith, c.question_count-asked.ensures.count, asked_then c.in-Some.pending left c.loop-self.asked c.loop-self.waiting goes);
       fewer = omega (arith, i.fewer, shorter);
       first = λ same. absurd (omega (arith, i.fewer, shorter, same));
-      serves = c.answer.ensures.serves;
+      serves = c.of.ensures.serves;
     }
 
-pub returns-in_err-answer-clause-err : goal.returns-in_err-answer-clause-err
-returns-in_err-answer-clause-err g c =
+pub returns-in_err-call-clause-err : goal.returns-in_err-call-clause-err
+returns-in_err-call-clause-err g c =
     let now = c.loop-self.self in
-    let next = c.answer.new.self in
     let by = rules c.args.tree.now g.S.Service.gives g.S.Service.alike g.C.Clock.tells in
     let first = gathering c.args.service.now c.args.clock.now c.args.self.now.gathered.items (messages_in c.args.self.now.pending.items) in
-    let mid = gathering c.loop-self.service c.loop-self.clock now.gathered.items (messages_in now.pending.items) in
-    let popped : now.pending.items ≡ c.in-Some.pending ∷ next.pending.items = c.in-Some.ensures.items ∙ ap (λ (ps : List PendingView). c.in-Some.pending ∷ ps) (sym c.answer.ensures.pending) in
-    let refused = c.in_err-answer.ensures.err in
-    let rest = messages_in next.pending.items in
+    let bytes = waiting_bytes now.gathered.items now.answered.items in
+    let mid = gathering c.loop-self.service c.loop-self.clock bytes (messages_in now.pending.items) in
+    let refused = c.in_err-call.ensures.err in
+    let rest = messages_in c.pop_front.new.self.items in
     on_err c.from_residual.result _ (
       c.in-Some.pending.message ∷ rest,
       some_left c.in-Some.pending.message rest,
-      answered_until by first mid c.answer.new.service c.answer.new.clock next.gathered.items c.in-Some.pending.message rest c.loop-self.invariant.answered (ap messages_in popped) refused.0 refused.1 refused.2,
+      answered_until by first mid c.of.new.service c.of.new.clock bytes c.in-Some.pending.message rest c.loop-self.invariant.answered (ap messages_in c.in-Some.ensures.items) refused.0 refused.1 refl,
     )
+
+pub returns-in_err-call-clause-few : goal.returns-in_err-call-clause-few
+returns-in_err-call-clause-few g c = omega (arith, c.loop-self.invariant.counted, c.loop-self.invariant.within)
+
+pub returns-clause-few : goal.returns-clause-few
+returns-clause-few g c = omega (arith, c.loop-self.invariant.counted, c.loop-self.invariant.within)
+
+pub returns-clause-ok : goal.returns-clause-ok
+returns-clause-ok g c = c.loop-self.invariant.answered
+
+pub returns-clause-same : goal.returns-clause-same
+returns-clause-same g c = c.loop-self.invariant.same

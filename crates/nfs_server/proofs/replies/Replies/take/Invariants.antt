@@ -9,6 +9,7 @@ abbrev pub invariant-loop-records : goal.invariant-loop-records
 invariant-loop-records l = record {
   left : messages_in l.fn.self.pending.items ++ l.fn.records.ready ≡ messages_in l.self.pending.items ++ l.records.ready;
   gathered : l.self.gathered.items ≡ l.fn.self.gathered.items;
+  answered : l.self.answered.items ≡ l.fn.self.answered.items;
   limits : AllByRecursion (λ message. length message ≤ RECORD_LIMIT) l.records.ready;
   same : l.records ≡ record l.fn.records { ready = l.records.ready };
 }

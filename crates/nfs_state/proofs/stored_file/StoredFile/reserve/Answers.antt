@@ -1,0 +1,19 @@
+use Rattle.std.proofs.Common.{◌∙◌, ap, arith, length, sym}
+use Rattle.nfs_state.specs.Pages.{page_start, replaced}
+use Rattle.nfs_state.proofs.FileChanges.{grown}
+use Rattle.nfs_state.proofs.stored_file.StoredFile.reserve.Goals as goal
+
+pub invariant_of-self-2 : goal.invariant_of-self-2
+invariant_of-self-2 c =
+    let f = c.self.inside in
+    let w = c.in_ok-prepare.field-0 in
+    let new = c.prepare.new.pages in
+    let is = c.in_ok-prepare.ensures in
+    let more = grown f.size f.pages new c.self.invariant.1 c.self.invariant.0 is.zeros in (
+      more.0,
+      more.1,
+      (
+        omega (arith, is.fits, is.write.0, ap length is.write.1),
+        (λ i. replaced (page_start (is.write.0 i)) w.pages new) ∙ is.pages ∙ (λ i. replaced (sym is.write.0 i) (sym is.write.1 i) new),
+      ),
+    )

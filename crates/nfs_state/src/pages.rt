@@ -1,0 +1,194 @@
+ghost use Rattle.std.specs.Prelude.{◌≡◌, ◌+◌, ◌-◌, ◌*◌, ◌≤◌, ◌<◌, ◌^◌, ◌++◌, [], IfOk, OnOk, drop, length, take};
+ghost use Rattle.std.specs.List.{concat};
+ghost use Rattle.nfs_state.specs.Pages.{AreFilledUp, AreWhole, page_start, replaced, zero_page};
+
+use std::alloc::{AllocError, Global};
+use std::marker::Model;
+use xdr::SharedBytes;
+
+/// How many bytes a page has.
+pub const PAGE_LEN: usize = 4_096;
+
+/// The fewest bytes of a page that share its memory: fewer are copied, so that they don't keep the page.
+pub const SHARED_LEN: usize = 2_048;
+
+/// Bytes in pages, from which they can be read without a copy. A page is never written: another one comes in its place.
+/// Contracts see the list of the bytes.
+#[derive(Drop)]
+pub(crate) struct Pages {
+    pages: Vec<SharedBytes>,
+}
+
+impl Model for Pages {
+    ghost use Rattle.std.specs.Prelude.{List, ℕ};
+    ghost use Rattle.std.specs.List.{concat};
+    ghost use Rattle.nfs_state.specs.Pages.{AreWhole};
+
+    ghost Value = { List ℕ };
+
+    ghost view = { λ p. concat p.pages.items };
+
+    ghost invariant = { λ p. AreWhole p.pages.items };
+}
+
+impl Pages {
+    /// No bytes, taking no memory.
+    pub(crate) fn new(alloc: Global) -> Pages
+        ensures { result ≡ [] }
+    {
+        Pages {
+            pages: Vec::new(alloc),
+        }
+    }
+
+    /// Adds pages of zeros until there are so many bytes. What fails adds zeros at most.
+    pub(crate) fn grow(&mut self, zeros: &SharedBytes, len: usize) -> Result<(), AllocError>
+        requires { zeros.now ≡ zero_page }
+        ensures zeros { AreFilledUp self.old self.new }
+        ensures room { OnOk result (len ≤ length self.new) }
+    {
+        add_zeros(&mut self.pages, zeros, len.div_ceil(PAGE_LEN))?;
+        Ok(())
+    }
+
+    /// So many of the bytes, from the offset on: a part of a page where they stand in one, unless they are few.
+    pub(crate) fn part(
+        &self,
+        alloc: Global,
+        offset: usize,
+        len: usize,
+    ) -> Result<SharedBytes, AllocError>
+        requires { offset + len ≤ length self.now }
+        ensures { IfOk result (λ b. b ≡ take len (drop offset self.now)) }
+    {
+        let within = offset % PAGE_LEN;
+        if len >= SHARED_LEN && len <= PAGE_LEN - within {
+            self.pages[offset / PAGE_LEN].part(within, len)
+        } else {
+            SharedBytes::new(copy_of(alloc, &self.pages, offset, len)?)
+        }
+    }
+
+    /// The pages that come in the place of those from that of the offset on, where the block does in the place of the
+    /// bytes there. Those that it covers whole are parts of it.
+    pub(crate) fn after(&self, offset: usize, block: &SharedBytes) -> Result<Pages, AllocError>
+        requires within { offset + length block.now ≤ length self.now }
+        requires limit { offset + length block.now < 2 ^ 64 }
+        ensures { IfOk result (λ pages. replaced (page_start offset) pages self.now
+            ≡ replaced offset block.now self.now) }
+    {
+        let (first, end) = (offset / PAGE_LEN, offset + block.as_slice().len());
+        let mut pages = Vec::new(*self.pages.allocator());
+        for number in first..end.div_ceil(PAGE_LEN) {
+            pages.push(self.page_after(number, offset, block)?)?;
+        }
+        Ok(Pages { pages })
+    }
+
+    // The page with this number, where the block comes in the place of the bytes at the offset.
+    fn page_after(
+        &self,
+        number: usize,
+        offset: usize,
+        block: &SharedBytes,
+    ) -> Result<SharedBytes, AllocError>
+        requires within { offset + length block.now ≤ length self.now }
+        requires limit { offset + length block.now < 2 ^ 64 }
+        requires before { number * PAGE_LEN < offset + length block.now }
+        requires behind { offset < number * PAGE_LEN + PAGE_LEN }
+        ensures { IfOk result (λ page. page
+            ≡ take PAGE_LEN (drop (number * PAGE_LEN) (replaced offset block.now self.now))) }
+    {
+        let (start, page) = (number * PAGE_LEN, self.pages[number].as_slice());
+        let (at, from) = (offset.saturating_sub(start), start.saturating_sub(offset));
+        let bytes = block.as_slice();
+        let len = (PAGE_LEN - at).min(bytes.len() - from);
+        if len == PAGE_LEN {
+            return block.part(from, len);
+        }
+        page_with(*self.pages.allocator(), page, at, &bytes[from..from + len])
+    }
+
+    /// Puts these pages in the place of those from that of the offset on.
+    pub(crate) fn replace(&mut self, offset: usize, pages: Pages)
+        requires { page_start offset + length pages ≤ length self.old }
+        ensures { self.new ≡ replaced (page_start offset) pages self.old }
+    {
+        let Pages { pages } = pages;
+        put_pages(&mut self.pages, offset / PAGE_LEN, pages);
+    }
+}
+
+/// A page of zeros alone.
+pub(crate) fn zero_page(alloc: Global) -> Result<SharedBytes, AllocError>
+    ensures { IfOk result (λ page. page ≡ zero_page) }
+{
+    SharedBytes::new(Vec::from_elem(alloc, 0, PAGE_LEN)?)
+}
+
+// Adds pages of zeros until there are so many.
+fn add_zeros(
+    pages: &mut Vec<SharedBytes>,
+    zeros: &SharedBytes,
+    count: usize,
+) -> Result<(), AllocError>
+    requires { zeros.now ≡ zero_page }
+    ensures zeros { AreFilledUp (concat pages.old.items) (concat pages.new.items) }
+    ensures whole { AreWhole pages.old.items → AreWhole pages.new.items }
+    ensures room { OnOk result (count ≤ length pages.new.items) }
+{
+    while pages.len() < count {
+        pages.push(zeros.clone()?)?;
+    }
+    Ok(())
+}
+
+// A copy of so many of the bytes in these pages, from the offset on.
+fn copy_of(
+    alloc: Global,
+    pages: &[SharedBytes],
+    offset: usize,
+    len: usize,
+) -> Result<Vec<u8>, AllocError>
+    ensures { IfOk result (λ v. v.items ≡ take len (drop offset (concat pages.now))) }
+{
+    let mut bytes = Vec::with_capacity(alloc, len)?;
+    let mut before = offset;
+    for page in pages {
+        let page = page.as_slice();
+        let (_, rest) = page.split_at(before.min(page.len()));
+        let (part, _) = rest.split_at((len - bytes.len()).min(rest.len()));
+        bytes.extend_from_slice(part)?;
+        before = before.saturating_sub(page.len());
+    }
+    Ok(bytes)
+}
+
+// A copy of the page, with other bytes in the place of as many of its own.
+fn page_with(alloc: Global, page: &[u8], at: usize, part: &[u8]) -> Result<SharedBytes, AllocError>
+    requires { at + length part.now ≤ length page.now }
+    ensures { IfOk result (λ made. made ≡ replaced at part.now page.now) }
+{
+    let mut made = Vec::from_slice(alloc, page)?;
+    put_at(&mut made, at, part);
+    SharedBytes::new(made)
+}
+
+// Writes the block over the bytes from this offset on, as many as it has.
+fn put_at(bytes: &mut [u8], offset: usize, block: &[u8])
+    requires { offset + length block.now ≤ length bytes.old }
+    ensures { bytes.new ≡ replaced offset block.now bytes.old }
+{
+    bytes[offset..offset + block.len()].copy_from_slice(block);
+}
+
+// Puts these pages in the place of those from this number on.
+fn put_pages(all: &mut [SharedBytes], first: usize, mut pages: Vec<SharedBytes>)
+    requires { first + length pages.items ≤ length all.old }
+    ensures { all.new
+        ≡ take first all.old ++ pages.items ++ drop (first + length pages.items) all.old }
+{
+    while let Some(page) = pages.pop() {
+        all[first + pages.len()] = page;
+    }
+}
