@@ -1,4 +1,4 @@
-ghost use Rattle.std.specs.Prelude.{◌≡◌, ◌+◌, ◌^◌, ◌≤◌, ◌++◌, List, ℕ, [], false, length, take, IfOk, OnOk, OnErr};
+ghost use Rattle.std.specs.Prelude.{◌≡◌, ◌+◌, ◌^◌, ◌≤◌, ◌++◌, List, ℕ, [], false, length, take, if◌then◌else◌, is_ok, IfOk, OnOk, OnErr};
 ghost use Rattle.nfs_rpc.specs.Keeping.{IsPlace, Fits, TakesMore, Begins, AreFound, Finds, first_or, messages_of};
 
 use crate::place::{Place, fits, take_front};
@@ -132,8 +132,25 @@ fn add_all(
         (Begins bodies.old.items (first_or (messages_of found.new.items) bodies.new.items)) }
 {
     let first = take_all(alloc, found, bodies, from, piece)?;
-    ready.append(found)?;
+    make_ready(ready, found)?;
     Ok(first)
+}
+
+/// Moves the records that were found behind those that are ready. It takes no memory where none is ready.
+fn make_ready(
+    ready: &mut VecDeque<Vec<u8>>,
+    found: &mut VecDeque<Vec<u8>>,
+) -> Result<(), AllocError>
+    ensures ok { OnOk result
+        (messages_of ready.new.items ≡ messages_of ready.old.items ++ messages_of found.old.items) }
+    ensures err { OnErr result (ready.new.items ≡ ready.old.items) }
+    ensures found { found.new.items ≡ (if is_ok result then [] else found.old.items) }
+{
+    if ready.is_empty() {
+        mem::swap(ready, found);
+        return Ok(());
+    }
+    ready.append(found)
 }
 
 /// Restores the first `len` bytes of the bodies, which may have been moved to a record that was found, and lets what was
