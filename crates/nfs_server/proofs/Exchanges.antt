@@ -1,5 +1,5 @@
 -- A record that was answered, as an exchange.
-use Rattle.std.proofs.Common.{◌≡◌, ℕ, List, [], map, refl, ap, ◌∙◌}
+use Rattle.std.proofs.Common.{◌≡◌, ℕ, List, [], ◌∷◌, ◌++◌, length, map, refl, ap, ◌∙◌}
 use Rattle.nfs_rpc.specs.declared.rpc_call.RpcCall.TheVariants as calls
 use Rattle.nfs_rpc.specs.declared.reply.CompoundReply.{CompoundReply}
 use Rattle.nfs_rpc.specs.declared.reply.Reply.{Reply}
@@ -18,6 +18,13 @@ abbrev pub IsAnswered : {S C : Type 0} → Rules S C → S → C → List ℕ �
 IsAnswered rules service clock message bytes service' clock' =
     (e : Exchange) × (e.message ≡ message) × IsExchanged rules service clock e service' clock'
     × (bytes ≡ written_for rules.tree e)
+
+-- what is to be written for the message is put behind that of others
+pub answered_behind : {S C : Type 0} (rules : Rules S C) (service service' : S) (clock clock' : C) (message bytes : List ℕ) (old new : List (List ℕ)) (len : ℕ)
+    → IsAnswered rules service clock message bytes service' clock' → new ≡ old ++ bytes ∷ [] → len ≡ length bytes
+    → (e : Exchange) × (e.message ≡ message) × IsExchanged rules service clock e service' clock' × (new ≡ old ++ written_for rules.tree e ∷ []) × (len ≡ length (written_for rules.tree e))
+answered_behind rules service service' clock clock' message bytes old new len one more counted =
+    (one.0, one.1, one.2, more ∙ ap (λ (b : List ℕ). old ++ b ∷ []) one.3, counted ∙ ap (λ (b : List ℕ). length b) one.3)
 
 pub answers_silence : {S C : Type 0} (rules : Rules S C) (service : S) (clock : C) (message bytes : List ℕ) → IsCall message calls.Silent → bytes ≡ [] → IsAnswered rules service clock message bytes service clock
 answers_silence rules service clock message bytes call same =

@@ -1,4 +1,5 @@
-ghost use Rattle.std.specs.Prelude.{◌≡◌, ◌+◌, ◌^◌, ◌++◌, ◌<◌, ◌≤◌, [], ℕ, IfOk, OnErr, length, vec_capacity};
+ghost use Rattle.std.specs.Prelude.{◌≡◌, ◌+◌, ◌^◌, ◌∷◌, ◌++◌, ◌<◌, ◌≤◌, [], ℕ, IfOk, OnErr, OnOk, length, vec_capacity};
+ghost use Rattle.std.specs.VecDeque.{deque_capacity, deque_len};
 ghost use Rattle.nfs_rpc.specs.Reply.{IsWritable, written_record, written_reply};
 ghost use Rattle.nfs_rpc.specs.declared.records.TheConstants.{RECORD_LIMIT};
 ghost use Rattle.nfs_rpc.specs.declared.reply.TheConstants.{SHORT_REPLY_LEN};
@@ -6,7 +7,7 @@ ghost use Rattle.nfs_server.specs.Exchange.{Exchange, IsExchanged, rules, writte
 ghost use Rattle.nfs_server.specs.declared.answered_call.TheConstants.{REPLY_LIMIT};
 
 use crate::compound::{AnsweredCompound, operation_count};
-use crate::pending_call::PendingCall;
+use crate::pending_call::{PendingCall, keep_list};
 use crate::{Clock, Service, run_compound};
 use nfs_rpc::{ACCEPTED_LEN, HEADER_LEN, LAST_FRAGMENT, RECORD_LIMIT, Reply, RpcCall, write_reply};
 use nfs_tree::Tree;
@@ -25,12 +26,12 @@ const DENIED_LEN: usize = 16;
 /// A call that was answered, whose reply isn't written yet. Contracts see what is to be written.
 #[derive(Drop)]
 pub(crate) struct AnsweredCall {
-    /// The record and the operations that were not run, which are let go with the call.
+    // The record and the operations that were not run, which are let go with the call.
     message: Vec<u8>,
     rest: Option<VecDeque<ArgOp>>,
-    /// The xid and the reply, if there is one.
+    // The xid and the reply, if there is one.
     reply: Option<(u32, Reply)>,
-    /// How many bytes are to be written.
+    // How many bytes are to be written.
     len: usize,
 }
 
@@ -45,37 +46,89 @@ impl Model for AnsweredCall {
     ghost invariant = { λ a. CanBeWritten a.reply × (a.len ≡ length (reply_bytes a.reply)) };
 }
 
-impl AnsweredCall {
-    /// Answers a call. Memory for its results was taken when it was read, and room is made in the service before it is asked,
-    /// so that after an error it wasn't asked.
-    pub(crate) fn of<S: Service, C: Clock>(
-        pending: PendingCall,
-        service: &mut S,
-        tree: &Tree,
-        clock: &mut C,
-    ) -> Result<AnsweredCall, AllocError>
-        requires serves { S.serves service.old ≡ tree.now.nodes }
-        ensures ok { IfOk result (λ call. (e : Exchange) × (e.message ≡ pending.message)
-            × IsExchanged (rules tree.now S.gives S.alike C.tells) service.old clock.old e
-            service.new clock.new
-            × (call ≡ written_for tree.now e)) }
-        ensures err { OnErr result (S.alike service.old service.new × (clock.new ≡ clock.old)) }
-        ensures serves { S.serves service.new ≡ tree.now.nodes }
-    {
-        let (message, call, results) = pending.into_parts();
-        match call {
-            RpcCall::Silent => Ok(AnsweredCall::without_reply(message)),
-            RpcCall::Null(xid) => Ok(AnsweredCall::with_short_reply(message, xid, Reply::Null)),
-            RpcCall::Answer(xid, reply) => Ok(AnsweredCall::with_short_reply(message, xid, reply)),
-            RpcCall::Compound(xid, principal, compound) => {
-                service.room(operation_count(&compound.request))?;
-                let moment = clock.now();
-                let answered = run_compound(service, tree, moment, principal, compound, results);
-                Ok(AnsweredCall::with_results(message, xid, answered))
-            }
+/// Answers a call, and puts it behind those that were answered. Memory for its results was taken when it was read, and
+/// room is made in the service before it is asked, so that after an error it wasn't asked, and the list for its results
+/// comes to these lists. Returns how many bytes are to be written for it.
+pub(crate) fn answer_call<S: Service, C: Clock>(
+    pending: PendingCall,
+    service: &mut S,
+    tree: &Tree,
+    clock: &mut C,
+    answered: &mut VecDeque<AnsweredCall>,
+    lists: &mut Vec<Vec<OpResult>>,
+) -> Result<usize, AllocError>
+    requires serves { S.serves service.old ≡ tree.now.nodes }
+    requires room { deque_len answered.old < deque_capacity answered.old }
+    ensures ok { IfOk result (λ len. (e : Exchange) × (e.message ≡ pending.message)
+        × IsExchanged (rules tree.now S.gives S.alike C.tells) service.old clock.old e
+        service.new clock.new
+        × (answered.new.items ≡ answered.old.items ++ written_for tree.now e ∷ [])
+        × (len ≡ length (written_for tree.now e))) }
+    ensures few { IfOk result (λ len. len ≤ REPLY_LIMIT) }
+    ensures count { OnOk result (deque_len answered.new ≡ deque_len answered.old + 1) }
+    ensures room { deque_capacity answered.old ≤ deque_capacity answered.new }
+    ensures err { OnErr result (S.alike service.old service.new × (clock.new ≡ clock.old)
+        × (answered.new.items ≡ answered.old.items)) }
+    ensures serves { S.serves service.new ≡ tree.now.nodes }
+{
+    let (message, call, results) = pending.into_parts();
+    match call {
+        RpcCall::Silent => Ok(put(answered, AnsweredCall::without_reply(message))),
+        RpcCall::Null(xid) => {
+            let call = AnsweredCall::with_short_reply(message, xid, Reply::Null);
+            Ok(put(answered, call))
+        }
+        RpcCall::Answer(xid, reply) => {
+            let call = AnsweredCall::with_short_reply(message, xid, reply);
+            Ok(put(answered, call))
+        }
+        RpcCall::Compound(xid, principal, compound) => {
+            let questions = operation_count(&compound.request);
+            let results = with_service_room(service, questions, results, lists)?;
+            let moment = clock.now();
+            let compound = run_compound(service, tree, moment, principal, compound, results);
+            Ok(put(answered, AnsweredCall::with_results(message, xid, compound)))
         }
     }
+}
 
+// Makes room in the service for so many questions, and returns the list; where there is none, it comes to these lists.
+fn with_service_room<S: Service>(
+    service: &mut S,
+    questions: usize,
+    list: Vec<OpResult>,
+    lists: &mut Vec<Vec<OpResult>>,
+) -> Result<Vec<OpResult>, AllocError>
+    ensures list { IfOk result (λ r. r ≡ list) }
+    ensures room { OnOk result (questions ≤ S.room service.new) }
+    ensures alike { S.alike service.old service.new }
+    ensures serves { S.serves service.new ≡ S.serves service.old }
+{
+    match service.room(questions) {
+        Ok(()) => Ok(list),
+        Err(error) => {
+            keep_list(lists, list);
+            Err(error)
+        }
+    }
+}
+
+// Puts a call behind those that were answered, for which there has to be room. Returns how many bytes are to be written
+// for it.
+fn put(answered: &mut VecDeque<AnsweredCall>, call: AnsweredCall) -> usize
+    requires { deque_len answered.old < deque_capacity answered.old }
+    ensures items { answered.new.items ≡ answered.old.items ++ call ∷ [] }
+    ensures len { result ≡ length call }
+    ensures few { result ≤ REPLY_LIMIT }
+    ensures count { deque_len answered.new ≡ deque_len answered.old + 1 }
+    ensures room { deque_capacity answered.old ≤ deque_capacity answered.new }
+{
+    let len = call.len;
+    answered.push_back_reserved(call);
+    len
+}
+
+impl AnsweredCall {
     fn without_reply(message: Vec<u8>) -> AnsweredCall
         ensures { result ≡ [] }
     {
@@ -118,32 +171,22 @@ impl AnsweredCall {
         }
     }
 
-    /// How many bytes are to be written.
-    pub(crate) fn len(&self) -> usize
-        ensures len { result ≡ length self.now }
-        ensures few { result ≤ REPLY_LIMIT }
-    {
-        self.len
-    }
-
-    /// Writes the reply at the end of these bytes, which have room for it, and lets the call go. Returns the list that its
-    /// results were in, to be used again.
-    pub(crate) fn write(self, out: &mut Vec<u8>) -> Option<Vec<OpResult>>
+    /// Writes the reply at the end of these bytes, which have room for it, and lets the call go. The list that its results
+    /// were in comes to these lists, to be used again, unless there is no room for it.
+    pub(crate) fn write(self, out: &mut Vec<u8>, lists: &mut Vec<Vec<OpResult>>)
         requires { length out.old.items + length self ≤ vec_capacity out.old }
         ensures items { out.new.items ≡ out.old.items ++ self }
         ensures capacity { vec_capacity out.old ≤ vec_capacity out.new }
     {
         let AnsweredCall { reply, len, .. } = self;
         let Some((xid, reply)) = reply else {
-            return None;
+            return;
         };
         put_record(out, xid, &reply, len);
         let Reply::Compound(reply) = reply else {
-            return None;
+            return;
         };
-        let mut results = reply.results.into_vec();
-        results.clear();
-        Some(results)
+        keep_list(lists, reply.results.into_vec());
     }
 }
 

@@ -74,6 +74,20 @@ impl PendingCall {
         } = self;
         (message, call, results)
     }
+
+    /// Lets the call go. The list comes to these lists, to be used again.
+    pub(crate) fn give_back(self, lists: &mut Vec<Vec<OpResult>>) {
+        let PendingCall { results, .. } = self;
+        keep_list(lists, results);
+    }
+}
+
+/// Keeps a list for the results of another COMPOUND, if it has memory and there is room for it among these lists.
+pub(crate) fn keep_list(lists: &mut Vec<Vec<OpResult>>, mut list: Vec<OpResult>) {
+    if list.capacity() > 0 {
+        list.clear();
+        let _ = lists.push(list);
+    }
 }
 
 // The list for the results of a call, which is one of these if there is one. Only a COMPOUND needs room in it.

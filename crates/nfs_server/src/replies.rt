@@ -4,7 +4,7 @@ ghost use Rattle.std.specs.VecDeque.{deque_capacity, deque_len};
 ghost use Rattle.nfs_server.specs.Batch.{AreAnswered, gathering, goes_on, messages_in, waiting_bytes};
 ghost use Rattle.nfs_server.specs.Exchange.{rules};
 
-use crate::answered_call::{AnsweredCall, REPLY_LIMIT};
+use crate::answered_call::{AnsweredCall, REPLY_LIMIT, answer_call};
 use crate::compound::make_result_room;
 use crate::pending_call::PendingCall;
 use crate::{Clock, Service};
@@ -95,14 +95,16 @@ impl Replies {
         ensures pending { self.new.pending.items ≡ [] }
         ensures answered { self.new.answered.items ≡ [] }
     {
+        while let Some(call) = self.pending.pop_front() {
+            call.give_back(&mut self.lists);
+        }
         self.gathered.clear();
-        self.pending.clear();
         self.answered.clear();
     }
 
     /// Reads the calls of records that are ready, and has the service answer the first of the pending ones in a batch. Their
     /// replies are written, and the calls let go, once the batch has ended. Returns whether there were any. Where memory is
-    /// refused for a record, those before it remain answered, and the service wasn't asked for it.
+    /// refused, those that were answered remain so, and the service wasn't asked for the others.
     pub(crate) fn answer_some<S: Service, C: Clock>(
         &mut self,
         records: &mut Records,
@@ -177,6 +179,7 @@ impl Replies {
     // Makes room for the answers to the pending calls, and for the replies that may wait together.
     fn make_room(&mut self) -> Result<(), AllocError>
         requires within { length self.old.gathered.items ≤ GATHER_LIMIT }
+        requires written { self.old.answered.items ≡ [] }
         ensures answered { self.new.answered.items ≡ self.old.answered.items }
         ensures same { self.new.gathered.items ≡ self.old.gathered.items }
         ensures pending { self.new.pending.items ≡ self.old.pending.items }
@@ -184,7 +187,9 @@ impl Replies {
             ≤ deque_capacity self.new.answered) }
         ensures bytes { OnOk result (GATHER_ROOM ≤ vec_capacity self.new.gathered) }
     {
-        self.answered.reserve(self.pending.len())?;
+        if self.answered.capacity() < self.pending.len() {
+            self.answered.reserve(self.pending.len())?;
+        }
         self.gathered.reserve(GATHER_ROOM - self.gathered.len())
     }
 
@@ -226,9 +231,15 @@ impl Replies {
                 return Ok(());
             };
             asked += pending.question_count();
-            let call = AnsweredCall::of(pending, service, tree, clock)?;
-            waiting += call.len();
-            self.answered.push_back_reserved(call);
+            let len = answer_call(
+                pending,
+                service,
+                tree,
+                clock,
+                &mut self.answered,
+                &mut self.lists,
+            )?;
+            waiting += len;
         }
         Ok(())
     }
@@ -260,10 +271,7 @@ impl Replies {
         ensures pending { self.new.pending.items ≡ self.old.pending.items }
     {
         while let Some(call) = self.answered.pop_front() {
-            if let Some(list) = call.write(&mut self.gathered) {
-                // It is let go where there is no room for it.
-                let _ = self.lists.push(list);
-            }
+            call.write(&mut self.gathered, &mut self.lists);
         }
     }
 }

@@ -1,7 +1,7 @@
 use Rattle.std.proofs.Common.{◌≡◌, ◌∙◌, ℕ, List, [], ◌∷◌, ◌++◌, length, ap, refl, sym, subst, true, arith}
 use Rattle.std.proofs.lemmas.List.{length-append}
 use Rattle.nfs_server.specs.Batch.{AreAnswered, gathering, goes_on, messages_in, waiting_bytes}
-use Rattle.nfs_server.specs.Exchange.{rules}
+use Rattle.nfs_server.specs.Exchange.{rules, written_for}
 use Rattle.nfs_server.specs.PendingCall.{PendingView}
 use Rattle.nfs_server.proofs.Batching.{answered_more, answered_none, answered_until, asked_then, on_err, some_left, waiting-more, waiting-none, waits_few}
 use Rattle.nfs_server.proofs.replies.Replies.answer_batch.Goals as goal
@@ -24,54 +24,59 @@ loop-self-init g c =
       serves = c.requires.serves;
     }
 
-pub push_back_reserved-requires : goal.push_back_reserved-requires
-push_back_reserved-requires g c = omega (arith, c.loop-self.invariant.room, c.in-Some.ensures.len)
+pub answer_call-requires-clause-room : goal.answer_call-requires-clause-room
+answer_call-requires-clause-room g c = omega (arith, c.loop-self.invariant.room, c.in-Some.ensures.len)
 
 pub loop-self-preserved : goal.loop-self-preserved
 loop-self-preserved g c =
     let i = c.loop-self.invariant in
     let now = c.loop-self.self in
     let left = c.pop_front.new.self.items in
-    let answered = c.push_back_reserved.new.self.items in
+    let answered = c.answer_call.new.answered.items in
     let by = rules c.args.tree.now g.S.Service.gives g.S.Service.alike g.C.Clock.tells in
     let first = gathering c.args.service.now c.args.clock.now c.args.self.now.gathered.items (messages_in c.args.self.now.pending.items) in
     let mid = gathering c.loop-self.service c.loop-self.clock (waiting_bytes now.gathered.items now.answered.items) (messages_in now.pending.items) in
-    let after = gathering c.of.new.service c.of.new.clock (waiting_bytes now.gathered.items answered) (messages_in left) in
+    let after = gathering c.answer_call.new.service c.answer_call.new.clock (waiting_bytes now.gathered.items answered) (messages_in left) in
+    let one = c.in_ok-len.ensures.ok in
+    let bytes = written_for c.args.tree.now one.0 in
     let popped : now.pending.items ≡ c.in-Some.pending ∷ left = c.in-Some.ensures.items in
     let shorter = ap (λ (ps : List PendingView). length ps) popped in
-    let more : waiting_bytes now.gathered.items answered ≡ waiting_bytes now.gathered.items now.answered.items ++ c.in_ok-call.call =
-    ap (λ (a : List (List ℕ)). waiting_bytes now.gathered.items a) c.push_back_reserved.ensures.items ∙ waiting-more now.gathered.items now.answered.items c.in_ok-call.call in
-    let longer = ap (λ (w : List ℕ). length w) more ∙ length-append (waiting_bytes now.gathered.items now.answered.items) c.in_ok-call.call in
+    let more : waiting_bytes now.gathered.items answered ≡ waiting_bytes now.gathered.items now.answered.items ++ bytes =
+    ap (λ (a : List (List ℕ)). waiting_bytes now.gathered.items a) one.3 ∙ waiting-more now.gathered.items now.answered.items bytes in
+    let longer = ap (λ (w : List ℕ). length w) more ∙ length-append (waiting_bytes now.gathered.items now.answered.items) bytes in
     let goes = subst (λ (ps : List PendingView). goes_on ps c.loop-self.asked c.loop-self.waiting ≡ true) popped (sym c.goes_on.ensures.goes ∙ c.loop-self-test.true) in
     record {
-      answered = answered_more by first mid after c.in-Some.pending.message c.in_ok-call.call i.answered (ap messages_in popped) more c.in_ok-call.ensures.ok;
-      counted = omega (arith, i.counted, longer, c.len-waiting-in-loop-self.ensures.len);
-      within = omega (arith, waits_few c.in-Some.pending left c.loop-self.asked c.loop-self.waiting goes, c.len-waiting-in-loop-self.ensures.few);
-      room = omega (arith, i.room, c.in-Some.ensures.len, c.push_back_reserved.ensures.len, c.push_back_reserved.ensures.capacity);
+      answered = answered_more by first mid after c.in-Some.pending.message bytes i.answered (ap messages_in popped) more (one.0, one.1, one.2, refl);
+      counted = omega (arith, i.counted, longer, one.4);
+      within = omega (arith, waits_few c.in-Some.pending left c.loop-self.asked c.loop-self.waiting goes, c.in_ok-len.ensures.few);
+      room = omega (arith, i.room, c.in-Some.ensures.len, c.in_ok-len.ensures.count, c.answer_call.ensures.room);
       same = i.same;
       few = omega (arith, c.question_count-asked.ensures.count, asked_then c.in-Some.pending left c.loop-self.asked c.loop-self.waiting goes);
       fewer = omega (arith, i.fewer, shorter);
       first = λ same. absurd (omega (arith, i.fewer, shorter, same));
-      serves = c.of.ensures.serves;
+      serves = c.answer_call.ensures.serves;
     }
 
-pub returns-in_err-call-clause-err : goal.returns-in_err-call-clause-err
-returns-in_err-call-clause-err g c =
+pub returns-in_err-len-clause-err : goal.returns-in_err-len-clause-err
+returns-in_err-len-clause-err g c =
     let now = c.loop-self.self in
     let by = rules c.args.tree.now g.S.Service.gives g.S.Service.alike g.C.Clock.tells in
     let first = gathering c.args.service.now c.args.clock.now c.args.self.now.gathered.items (messages_in c.args.self.now.pending.items) in
-    let bytes = waiting_bytes now.gathered.items now.answered.items in
-    let mid = gathering c.loop-self.service c.loop-self.clock bytes (messages_in now.pending.items) in
-    let refused = c.in_err-call.ensures.err in
+    let mid = gathering c.loop-self.service c.loop-self.clock (waiting_bytes now.gathered.items now.answered.items) (messages_in now.pending.items) in
+    let refused = c.in_err-len.ensures.err in
     let rest = messages_in c.pop_front.new.self.items in
+    let same = ap (λ (a : List (List ℕ)). waiting_bytes now.gathered.items a) refused.2 in
     on_err c.from_residual.result _ (
       c.in-Some.pending.message ∷ rest,
       some_left c.in-Some.pending.message rest,
-      answered_until by first mid c.of.new.service c.of.new.clock bytes c.in-Some.pending.message rest c.loop-self.invariant.answered (ap messages_in c.in-Some.ensures.items) refused.0 refused.1 refl,
+      answered_until by first mid c.answer_call.new.service c.answer_call.new.clock (waiting_bytes now.gathered.items c.answer_call.new.answered.items) c.in-Some.pending.message rest c.loop-self.invariant.answered (ap messages_in c.in-Some.ensures.items) refused.0 refused.1 same,
     )
 
-pub returns-in_err-call-clause-few : goal.returns-in_err-call-clause-few
-returns-in_err-call-clause-few g c = omega (arith, c.loop-self.invariant.counted, c.loop-self.invariant.within)
+pub returns-in_err-len-clause-few : goal.returns-in_err-len-clause-few
+returns-in_err-len-clause-few g c =
+    let now = c.loop-self.self in
+    let same = ap (λ (a : List (List ℕ)). length (waiting_bytes now.gathered.items a)) c.in_err-len.ensures.err.2 in
+    omega (arith, c.loop-self.invariant.counted, c.loop-self.invariant.within, same)
 
 pub returns-clause-few : goal.returns-clause-few
 returns-clause-few g c = omega (arith, c.loop-self.invariant.counted, c.loop-self.invariant.within)
