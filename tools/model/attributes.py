@@ -5,12 +5,21 @@ from states import Refusal, handle_of
 from tree import FILES, NAME_LIMIT, TEXT_LIMIT
 from wire import Status, u32, u64
 
+# Those that there are, here or to be set, by their numbers (sections 5.6 and 5.7).
+NAMES = {
+    0: "supported_attrs", 1: "type", 2: "fh_expire_type", 3: "change", 4: "size", 5: "link_support",
+    6: "symlink_support", 7: "named_attr", 8: "fsid", 9: "unique_handles", 10: "lease_time", 11: "rdattr_error",
+    19: "filehandle", 20: "fileid", 21: "files_avail", 22: "files_free", 23: "files_total", 27: "maxfilesize",
+    29: "maxname", 30: "maxread", 31: "maxwrite", 33: "mode", 35: "numlinks", 36: "owner", 37: "owner_group",
+    42: "space_avail", 43: "space_free", 44: "space_total", 45: "space_used", 47: "time_access",
+    48: "time_access_set", 52: "time_metadata", 53: "time_modify", 54: "time_modify_set"}
 SIZE, MODE, OWNER, OWNER_GROUP, TIME_ACCESS_SET, TIME_MODIFY_SET = 4, 33, 36, 37, 48, 54
 # Those that can only be set, and are no attributes to be asked for (section 5.5).
 SET_ONLY = {TIME_ACCESS_SET, TIME_MODIFY_SET}
 # Those that can be set, here or by any server; but of a file nobody changes who may do what with it, and whose it is.
 WRITABLE = {SIZE, MODE, OWNER, OWNER_GROUP, TIME_MODIFY_SET}
 FIXED = {MODE, OWNER, OWNER_GROUP}
+# How a time is set (settime4).
 SET_TO_SERVER_TIME, SET_TO_CLIENT_TIME = 0, 1
 
 # Whoever comes may read and write a file, and read and search a directory: rw-rw-rw-, and r-xr-xr-x.

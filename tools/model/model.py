@@ -72,6 +72,11 @@ OF_NODE = {Opnum.GETATTR, Opnum.LOCKT, Opnum.DELEGRETURN, Opnum.READ, Opnum.READ
 LONG = {Opnum.READ, Opnum.READDIR}
 
 
+def room_of_entries(maxcount):
+    """How many bytes the entries of a listing may have, of one that may have so many in all; below 0 it may be none."""
+    return min(maxcount, LISTING_LIMIT) - LISTING_ENDS
+
+
 def refused(number, status):
     """An answer other than OK; of SETATTR it says that no attribute was set."""
     return Result(status, wire.bitmap([]) if number == Opnum.SETATTR else b"")
@@ -298,29 +303,33 @@ class Server(Delegating, Sweeping, Attributes):
         if self.tree.is_file(directory):
             raise Refusal(Status.NOTDIR)
         self.expect_readable(arguments.mask)
-        children = [number for number, node in enumerate(self.tree.nodes) if node.parent == directory]
+        children = self.tree.children(directory)
         if arguments.cookie not in [0, *(child + FIRST_COOKIE for child in children)]:
             raise Refusal(Status.BAD_COOKIE)
         if arguments.cookie != 0 and arguments.verifier != NO_VERIFIER:
             raise Refusal(Status.NOT_SAME)
         left = [child for child in children if child + FIRST_COOKIE > arguments.cookie]
-        entries = self.entries_within(left, arguments.mask, min(arguments.maxcount, LISTING_LIMIT) - LISTING_ENDS)
+        room = room_of_entries(arguments.maxcount)
+        entries = self.entries_within(left, arguments.mask, room)
+        if room < 0 or left and not entries:
+            raise Refusal(Status.TOOSMALL)
         return NO_VERIFIER + b"".join(entries) + u32(0, len(entries) == len(left))
 
     def entries_within(self, children, mask, room):
-        """The entries of as many of these children as fit whole, one behind the other."""
-        entries, is_full = [], room < 0
+        """The entries of as many of these children as fit whole, one behind the other, up to the first that doesn't."""
+        entries = []
         for child in children:
-            entry = u32(1) + u64(child + FIRST_COOKIE) + wire.opaque(self.tree.nodes[child].name)
-            entry += self.values_asked(child, mask)
+            entry = self.listing_entry(child, mask)
             room -= len(entry)
             if room < 0:
-                is_full = is_full or not entries
                 break
             entries.append(entry)
-        if is_full:
-            raise Refusal(Status.TOOSMALL)
         return entries
+
+    def listing_entry(self, child, mask):
+        """A child in a listing of its directory: that it is one, its cookie and name, and its own attributes."""
+        name = wire.opaque(self.tree.nodes[child].name)
+        return u32(1) + u64(child + FIRST_COOKIE) + name + self.values_asked(child, mask)
 
     def setattr(self, arguments, file):
         """Section 16.32. The one attribute that can be set is the size; the time of the last change is what the server

@@ -54,6 +54,10 @@ class Tree:
                 return number
         return None
 
+    def children(self, directory):
+        """Their numbers, which rise."""
+        return [number for number, node in enumerate(self.nodes) if node.parent == directory]
+
     def is_file(self, number):
         return self.nodes[number].is_file
 
