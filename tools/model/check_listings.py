@@ -1,8 +1,9 @@
 #!/usr/bin/env python3
-"""check_listings.py [COUNT]: so many random directories, each listed by the model from cookie 0, and then each time from
-the last entry's cookie, with maxcounts of which each lets a child in. Each child comes once, by rising numbers, with
-what GETATTR says of it; no answer is longer than it may be, or has left out a child that would have fitted; and the end
-is told where no child is left, and nowhere before. With one byte less than the first entry needs it is TOOSMALL."""
+"""check_listings.py [COUNT]: so many random directories, each listed by the model from cookie 0, and then each time
+from the last entry's cookie, with maxcounts of which each lets a child in. Each child comes once, by rising numbers,
+with what GETATTR says of it; no answer is longer than it may be, or has left out a child that would have fitted; and
+the end is told where no child is left, and nowhere before. With one byte less than the first entry needs it is
+TOOSMALL."""
 import random
 import sys
 

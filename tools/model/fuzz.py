@@ -9,10 +9,10 @@ three clients, which get delegations and are called back; and in the last READ a
 those of what these clients have, at the first bytes, round the size, where pages of 4,096 bytes begin and end, and at
 the most that a file has. In half of the runs a CLOSE is refused where bytes are locked; and half of them are under the
 profile "clients", unless --profile says which one all are: then there are listings too, and sizes that are set, near
-what READ and WRITE are near. The other operations with a rule come too. Each operation is made when the model comes to it, so that most of them name what is there by then; some
-are a little off, and some are an earlier one again. At a difference the steps that lead to it are printed as a row,
-without those that it needs not, and the status is 1; and so it is where many runs have no READ or WRITE of a case that
-pages have (`pages.py`).
+what READ and WRITE are near. The other operations with a rule come too. Each operation is made when the model comes to
+it, so that most of them name what is there by then; some are a little off, and some are an earlier one again. At a
+difference the steps that lead to it are printed as a row, without those that it needs not, and the status is 1; and so
+it is where many runs have no READ or WRITE of a case that pages have (`pages.py`).
 
 With --ids clients of so many ids come, of which many aren't confirmed: with 300 all slots of clients are taken, again
 and again."""
@@ -444,9 +444,10 @@ class Caller:
         return self.handle(file) + [head + u32(self.chance.choice([0, 1, 2] * 30 + [3])) + opaque(self.file_bytes())]
 
     def setattr(self):
-        """Mostly the size, and often the server's time with it; seldom what can't be set, and values that aren't its."""
+        """Mostly the size, and often the server's time with it; seldom what can't be set, or other values."""
         file, stateid = self.io_state()
-        size, time = u64(self.offset(file, self.chance.choice([0, 0, 1, 3]))), u32(self.chance.choice([0] * 20 + [1, 2]))
+        size = u64(self.offset(file, self.chance.choice([0, 0, 1, 3])))
+        time = u32(self.chance.choice([0] * 20 + [1, 2]))
         chosen = [((16,), size)] * 12 + [((16, 1 << 22), size + time)] * 6 + [((0, 1 << 22), time), ((), b"")]
         mask, values = self.chance.choice(chosen)
         if self.is_rare(0.05):

@@ -19,8 +19,8 @@ from tree import (CALLBACKS, CLIENTS, CLOSE_LOCKS, DELEGATIONS, NAME_LIMIT, Node
                   tree_of)
 from wire import Status, opaque, u32
 
-# How a file begins, by the profile. One of the earlier edition, which knew one profile, has no word for what CLOSE does,
-# which was to free, and no Forget.
+# How a file begins, by the profile. One of the earlier edition, which knew one profile, has no word for what CLOSE
+# does, which was to free, and no Forget.
 HEAD, HEAD_OF_CLIENTS, EARLIER = b"NFSJRN03", b"NFSJRC03", b"NFSJRN02"
 PROFILE_OF = {HEAD: PLAIN, HEAD_OF_CLIENTS: CLIENTS, EARLIER: PLAIN}
 HEAD_OF = {PLAIN: HEAD, CLIENTS: HEAD_OF_CLIENTS}

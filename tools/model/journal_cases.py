@@ -506,7 +506,8 @@ def broken_answers():
         answer = answered(Answer(Opnum.READDIR, Status.OK, rest))
         yield f"READDIR with a bool of 2 behind {len(rest) - 4} bytes", answer, "a number that isn't 0 to 1"
     name = NO_VERIFIER + u32(1) + u64(3) + b"\0\0\0\1a\0\0\1" + u32(0, 0, 0, 1)
-    yield "padding of a name that is listed", answered(Answer(Opnum.READDIR, Status.OK, name)), "padding that isn't zero"
+    name = answered(Answer(Opnum.READDIR, Status.OK, name))
+    yield "padding of a name that is listed", name, "padding that isn't zero"
     yield "COMMIT with OK and 4 bytes", answered(Answer(Opnum.COMMIT, Status.OK, u32(1))), early
     for status in (Status.OK, Status.NOTSUPP, Status.INVAL):
         yield f"SETATTR with {status.name} alone", answered(Answer(Opnum.SETATTR, status, b"")), early

@@ -736,7 +736,8 @@ def sizes():
     refuse((0, 0x30), b"", "attribute 36 (owner); 37 (owner_group) stays what it is for good")
     refuse((16,), size + server_time, "the 12 bytes of values are no values of attribute 4 (size)")
     refuse((), server_time, "the 4 bytes of values are no values of no attribute")
-    refuse((0, 1 << 22), bytes((0, 0, 0, 1)) + bytes(12), "the time is a client's own, and the server takes none but its own")
+    own_time = "the time is a client's own, and the server takes none but its own"
+    refuse((0, 1 << 22), bytes((0, 0, 0, 1)) + bytes(12), own_time)
     story.set((16,), size, filehandle=OTHER_FILE)
     story.set((16, 1 << 22), size + server_time, filehandle=OTHER_FILE)
     story.set((), b"", filehandle=DIRECTORY, stateid=state(9))

@@ -215,7 +215,8 @@ def verdicts_for_clients():
         told = with_rest(changes, u32(1, 24) + opaque(u64(change) + u64(size)))
         yield f"{name} behind a cut", said_of(cut, told), said
     longer = cut._replace(arguments=cut.arguments._replace(attributes=((16,), u64(9))))
-    for name, data, said in (("zeros", bytes(9), "lawful: 3 entries"), ("the old bytes", b"hello" + bytes(4), wrong(2))):
+    for name, data, said in (("zeros", bytes(9), "lawful: 3 entries"),
+                             ("the old bytes", b"hello" + bytes(4), wrong(2))):
         again = with_rest(read, u32(1) + opaque(data))
         yield f"{name} where it is longer again", said_of(cut, longer, again), said
     for name, rest in (("nothing set", u32(0)), ("a zero word more", u32(2, 16, 0)), ("another bit", u32(1, 8))):
