@@ -117,7 +117,7 @@ kept_is_call kind (Some entry) kept is = of_call (call_of entry) is
     of_call (Some c) is = refl
 
 -- what is stored of an owner, and the call that its entry has, are what is kept for it
-seen_as_kept : (journal : History) (o : Owner) (call : KeptCall) (is : IsKeptIn journal o) → IsCallAt journal o.state.number call → kept_seen o.state.kept call ≡ is.kept
+pub seen_as_kept : (journal : History) (o : Owner) (call : KeptCall) (is : IsKeptIn journal o) → IsCallAt journal o.state.number call → kept_seen o.state.kept call ≡ is.kept
 seen_as_kept journal o call is there =
     let parts = kept_parts o.name.kind (slice_get journal.entries o.state.number) is.kept call is.entry there in
     λ i. record { seqid = (ap (λ (s : KeptSummary). s.seqid) is.stored) i; request = sym parts.0 i; answer = sym parts.1 i }

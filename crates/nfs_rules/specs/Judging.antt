@@ -1,20 +1,22 @@
 -- What becomes of a request by the verdict on it that the stored owners give (`Owners::judge` of `nfs_owners`), and that it
 -- is the step that the frame of the sequenced operations takes.
-use Rattle.std.specs.Prelude.{◌≡◌, ◌↔◌, ℕ, Bool, true, false, not, ◌&&◌, Option, Some, None, option_and_then, if◌then◌else◌}
+use Rattle.std.specs.Prelude.{◌≡◌, ◌↔◌, ℕ, Bool, true, false, not, ◌&&◌, Option, Some, None, option_map, if◌then◌else◌}
 use Rattle.nfs_forms.specs.declared.status.Refusal.TheVariants.{BadSeqId, BadStateId}
-use Rattle.nfs_owners.specs.Kept.{request_of}
+use Rattle.nfs_owners.specs.Kept.{kept_seen, request_of}
 use Rattle.nfs_owners.specs.Owner.{owner_of}
 use Rattle.nfs_owners.specs.Owners.{IsJudged}
+use Rattle.nfs_owners.specs.declared.kept.KeptCall.{KeptCall}
 use Rattle.nfs_owners.specs.declared.kept.Verdict.{Verdict}
 use Rattle.nfs_owners.specs.declared.kept.Verdict.TheVariants.{New, Replay, Bad}
 use Rattle.nfs_owners.specs.declared.owner.Owner.{Owner}
 use Rattle.nfs_owners.specs.declared.state_owner.StateOwner.{StateOwner}
+use Rattle.nfs_rules.specs.Finding.{IsCallAt}
 use Rattle.nfs_rules.specs.Sequences as sequences
 use Rattle.nfs_rules.specs.Sequences.{SequenceStep, Answered, GoesOn, IsSequence, is_open, refusal_to}
 use Rattle.nfs_rules.specs.declared.passage.Passage.TheVariants.{Begins, Continues, Restarts}
-use Rattle.nfs_state.specs.Kept.{Agrees, kept_for}
+use Rattle.nfs_state.specs.Kept.{Agrees}
 use Rattle.nfs_state.specs.State.{History}
-use Rattle.nfs_state.specs.Stored.{Stored, known_owner, meaning}
+use Rattle.nfs_state.specs.Stored.{Stored, meaning}
 use Rattle.nfs_state.specs.declared.request.Request.{Request}
 use Rattle.nfs_xdr.specs.declared.op.Op.{Op}
 
@@ -40,15 +42,18 @@ step_by starts_anew name op None =
     if is_open op then GoesOn Begins name else refusal_to op BadStateId
 step_by starts_anew name op (Some verdict) = step_of_known starts_anew name op verdict
 
--- Where what is stored for each owner is what its entry in the journal has, the verdict of the stored owners on a request,
--- given the call that this entry has, leads to the one step that the rules take.
+-- Where what is stored for each owner is what its entry in the journal has, and the call is the one that the entry of the
+-- request's owner records, the verdict of the stored owners on the request, as `Owners::judge` gives it, leads to the one
+-- step that the rules take.
 abbrev pub JudgedAsSequenced : Type 0
 JudgedAsSequenced =
     (journal : History) (stored : Stored) (name : StateOwner) (seqid : ℕ) (request : Request)
-    (verdict : Option Verdict) (step : SequenceStep)
+    (call : KeptCall) (verdict : Option Verdict) (step : SequenceStep)
     → Agrees journal stored.owners
-    → let kept = option_and_then (λ o. kept_for journal (known_owner o)) (owner_of name stored.owners) in
-    IsJudged kept seqid (request_of request.op request.filehandle) verdict
-    → let starts_anew = is_open request.op && is_unconfirmed (owner_of name stored.owners) in
+    → let found = owner_of name stored.owners in
+    ((o : Owner) → found ≡ Some o → IsCallAt journal o.state.number call)
+    → IsJudged (option_map (λ o. kept_seen o.state.kept call) found) seqid
+    (request_of request.op request.filehandle) verdict
+    → let starts_anew = is_open request.op && is_unconfirmed found in
     IsSequence journal (meaning stored) (sequences.Owner name seqid) request step
     ↔ (step ≡ step_by starts_anew name request.op verdict)

@@ -12,8 +12,8 @@ pub fn at_most_one_decision()
     at_most_one_report();
 }
 
-/// The law that the verdict of the stored owners on a request (`Owners::judge`) leads to the one step that the rules take,
-/// where what is stored for each owner is what its entry in the journal has.
+/// The law that the verdict of the stored owners on a request (`Owners::judge`, handed the call that the owner's entry in the
+/// journal records) leads to the one step that the rules take, where what is stored for each owner is what its entry has.
 pub fn judged_as_sequenced()
     ensures { JudgedAsSequenced }
 {}
