@@ -20,7 +20,7 @@ LEAST_RATES = {
     "renew": {(1, 1): 1.6, (1, 16): 10, (4, 1): 3, (4, 16): 20},
     "open": OF_STATES,
     "lock": OF_STATES,
-    "read": OF_STATES,
+    "read": {**OF_STATES, (4, 16): 4.5},
     "write": OF_STATES,
 }
 # And which part of its processor time a call may take, by calls under way.
@@ -28,7 +28,7 @@ MOST_PROCESSOR = {"getattr": {1: 0.25, 16: 0.1}}
 # As many calls are under way in both, once on many connections and once on one alone; and how many times the calls a
 # second of the latter are wanted from the former.
 MANY, ALONE = (4, 16), (1, 64)
-LEAST_OF_MANY = {"getattr": 1.6, "open": 1, "lock": 1}
+LEAST_OF_MANY = {"getattr": 1.8, "open": 1, "lock": 1}
 # How many times the processor time that NULL takes the echo a call may take, by connections and calls under way.
 MOST_OF_ECHO = {"getattr": {(1, 1): 1.15}}
 
