@@ -11,6 +11,7 @@ import messages  # It makes the model's modules known.
 
 import rows
 import wire
+from attributes import NAMES
 from wire import Opnum, Reader, Status, Unreadable, split_records
 from words import SHOWN, STATUS_NAMES, is_shown_as_text, number_word
 
@@ -79,6 +80,8 @@ HANDLE = Kind("filehandle", Reader.opaque, show_words, DISTINCT)
 FILEID = Kind("fileid", Reader.u64, str, DISTINCT)
 VERIFIER = Kind("verifier", lambda reader: reader.fixed(8), show_words, NAMED)
 CHANGE = Kind("change", Reader.u64, str, FREE)
+COOKIE = Kind("cookie", Reader.u64, str, DISTINCT)
+COOKIE_VERIFIER = Kind("cookie verifier", lambda reader: reader.fixed(8), show_words, NAMED)
 ATOMIC = Kind("atomic", Reader.u32, str, FREE)
 REST = Kind("bytes", lambda reader: reader.fixed(len(reader.data) - reader.at), show_bytes, False)
 
@@ -88,15 +91,28 @@ def chosen(name, read=Reader.u32, show=str):
     return Kind(name, read, show, NAMED)
 
 
+def chosen_long(name):
+    return chosen(name, Reader.u64)
+
+
+def time_kind(name):
+    """Seconds and nanoseconds, which go on as they do."""
+    return Kind(name, lambda reader: reader.fixed(12), show_words, FREE)
+
+
 # The attributes that have a layout here, by their numbers.
 ATTRIBUTES = {
     0: chosen("supported_attrs", read_mask, show_mask), 1: NUMBER._replace(name="type"), 2: chosen("fh_expire_type"),
     3: CHANGE, 4: LONG._replace(name="size"), 5: chosen("link_support"), 6: chosen("symlink_support"),
     7: chosen("named_attr"), 8: chosen("fsid", lambda reader: reader.fixed(16), show_words),
     9: chosen("unique_handles"), 10: chosen("lease_time"), 11: NUMBER._replace(name="rdattr_error"), 19: HANDLE,
-    20: FILEID}
+    20: FILEID, 29: chosen("maxname"), 33: chosen("mode", show=oct), 35: chosen("numlinks"),
+    36: chosen("owner", Reader.opaque, show_bytes), 37: chosen("owner_group", Reader.opaque, show_bytes),
+    **{number: chosen_long(NAMES[number]) for number in (21, 22, 23, 27, 30, 31, 42, 43, 44, 45)},
+    **{number: time_kind(NAMES[number]) for number in (47, 52, 53)}}
 
-# What follows the status of a result.
+# What follows the status of a result; of a listing what an entry begins with, and what follows the last one.
+OF_ENTRY, OF_LISTING = [("cookie", COOKIE), ("name", TEXT)], [("end of the directory", NUMBER)]
 OF_STATE = [("seqid", NUMBER), ("stateid", STATEID)]
 OF_DENIAL = [("offset", LONG), ("length", LONG), ("type", NUMBER), ("the owner's clientid", CLIENTID), ("owner", TEXT)]
 OF_OPEN = OF_STATE + [("atomic", ATOMIC), ("change before", CHANGE), ("change after", CHANGE), ("rflags", NUMBER),
@@ -108,6 +124,7 @@ OF_ACE = [("access list entry's type", NUMBER), ("its flag", NUMBER), ("its mask
 OF_KIND = {wire.OPEN_DELEGATE_READ: OF_DELEGATION + OF_ACE, wire.OPEN_DELEGATE_WRITE: OF_DELEGATION + OF_SPACE + OF_ACE}
 RESTS = {
     (Opnum.ACCESS, Status.OK): [("supported", NUMBER), ("access", NUMBER)],
+    (Opnum.COMMIT, Status.OK): [("verifier", VERIFIER)],
     (Opnum.GETFH, Status.OK): [("filehandle", HANDLE)],
     (Opnum.LOCK, Status.DENIED): OF_DENIAL,
     (Opnum.LOCKT, Status.DENIED): OF_DENIAL,
@@ -146,6 +163,14 @@ def take_attributes(reader, found):
         take(values, found, [("bytes behind the attributes", REST)])
 
 
+def take_listing(reader, found):
+    take(reader, found, [("verifier", COOKIE_VERIFIER)])
+    while take(reader, found, [("another entry", NUMBER)]):
+        take(reader, found, OF_ENTRY)
+        take_attributes(reader, found)
+    take(reader, found, OF_LISTING)
+
+
 def take_result(reader, found):
     """Adds a result."""
     result = Result(reader.u32(), [])
@@ -153,6 +178,8 @@ def take_result(reader, found):
     status = take(reader, result.values, [("status", STATUS)])
     if (result.number, status) == (Opnum.GETATTR, Status.OK):
         take_attributes(reader, result.values)
+    elif (result.number, status) == (Opnum.READDIR, Status.OK):
+        take_listing(reader, result.values)
     elif result.number == Opnum.SETATTR:
         take(reader, result.values, [("attributes set", MASK)])
     else:

@@ -6,14 +6,16 @@ There is one spelling: what is read here is written again by the same bytes, so 
 from collections import namedtuple
 
 import wire
+from model import CHANGING_DIRECTORIES, STATEFUL_BY_PROFILE
 from wire import (CLAIM_DELEGATE_CUR, CLAIM_PREVIOUS, EXCLUSIVE4, NewLocker, OPEN4_NOCREATE, OPEN_DELEGATE_NONE,
-                  OPEN_DELEGATE_WRITE, Opnum, READ_LT, Status, Unreadable, bitmap, opaque, read_lock_owner,
-                  read_open_owner, read_stateid, u32, u64)
+                  OPEN_DELEGATE_WRITE, Opnum, READ_LT, Status, Unreadable, bitmap, opaque, read_attributes,
+                  read_directory, read_lock_owner, read_open_owner, read_stateid, u32, u64)
 
 MOMENT_LIMIT = 2**40 - 2
 
-# The statuses that an answer may have.
+# The statuses that an answer may have; and those of an operation without a rule that changes directories.
 STATUSES = set(Status)
+WITHOUT_RULE = dict.fromkeys(CHANGING_DIRECTORIES, {Status.NOTSUPP, Status.ROFS})
 
 # A request with its answer: when it came, who sent it, and the current filehandle's node, or None.
 Call = namedtuple("Call", "moment principal filehandle opnum arguments answer")
@@ -85,13 +87,17 @@ def locker_bytes(locker):
     return u32(0, *locker.lock_stateid, locker.lock_seqid)
 
 
+def fattr_bytes(attributes):
+    mask, values = attributes
+    return bitmap(mask) + opaque(values)
+
+
 def openhow_bytes(how):
     if how.create == OPEN4_NOCREATE:
         return u32(how.create)
     if how.mode == EXCLUSIVE4:
         return u32(how.create, how.mode) + how.value
-    mask, values = how.value
-    return u32(how.create, how.mode) + bitmap(mask) + opaque(values)
+    return u32(how.create, how.mode) + fattr_bytes(how.value)
 
 
 def claim_bytes(claim):
@@ -123,7 +129,9 @@ ARGUMENT_BYTES = {
     Opnum.OPEN_CONFIRM: lambda a: u32(*a.stateid, a.seqid),
     Opnum.OPEN_DOWNGRADE: lambda a: u32(*a.stateid, a.seqid, a.access, a.deny),
     Opnum.READ: lambda a: u32(*a.stateid) + u64(a.offset) + u32(a.count),
+    Opnum.READDIR: lambda a: u64(a.cookie) + a.verifier + u32(a.dircount, a.maxcount) + bitmap(a.mask),
     Opnum.RELEASE_LOCKOWNER: lambda a: owner_bytes(a.owner),
+    Opnum.SETATTR: lambda a: u32(*a.stateid) + fattr_bytes(a.attributes),
     Opnum.SETCLIENTID: setclientid_bytes,
     Opnum.SETCLIENTID_CONFIRM: lambda a: u32(a.epoch, a.client) + u64(a.confirm),
     Opnum.WRITE: lambda a: u32(*a.stateid) + u64(a.offset) + u32(a.stable) + opaque(a.data),
@@ -131,10 +139,6 @@ ARGUMENT_BYTES = {
 
 
 # What follows the status of an answer, by the operation and the status; for all others nothing does.
-
-def read_fattr(reader):
-    return reader.bitmap(), reader.opaque()
-
 
 def read_denied(reader):
     return reader.u64(), reader.u64(), reader.one_of(4, first=READ_LT), read_lock_owner(reader)
@@ -172,7 +176,8 @@ def delegation_given(entry):
 RESTS = {
     (Opnum.ACCESS, Status.OK): lambda r: (r.u32(), r.u32()),
     (Opnum.CLOSE, Status.OK): read_stateid,
-    (Opnum.GETATTR, Status.OK): read_fattr,
+    (Opnum.COMMIT, Status.OK): lambda r: r.fixed(8),
+    (Opnum.GETATTR, Status.OK): read_attributes,
     (Opnum.GETFH, Status.OK): lambda r: r.opaque(wire.FILEHANDLE_LIMIT),
     (Opnum.LOCK, Status.OK): read_stateid,
     (Opnum.LOCK, Status.DENIED): read_denied,
@@ -185,7 +190,8 @@ RESTS = {
     # stable_how4, and the verifier.
     (Opnum.READ, Status.OK): lambda r: (r.one_of(2), r.file_bytes()),
     (Opnum.WRITE, Status.OK): lambda r: (r.u32(), r.one_of(3), r.u32(), r.u32()),
-    (Opnum.SETATTR, Status.NOTSUPP): lambda r: r.fixed_words(0),
+    (Opnum.READDIR, Status.OK): read_directory,
+    **{(Opnum.SETATTR, status): lambda r: r.bitmap() for status in Status},
     (Opnum.SETCLIENTID, Status.OK): lambda r: (r.u32(), r.u32(), r.u64()),
     (Opnum.SETCLIENTID, Status.CLID_INUSE): lambda r: (r.opaque(), r.opaque()),
 }
@@ -198,7 +204,7 @@ def read_answer(reader):
     if status not in STATUSES:
         raise NotJournal("no status")
     has_rule = number in wire.ARGUMENTS or number == Opnum.ILLEGAL
-    if not has_rule and status != Status.NOTSUPP:
+    if not has_rule and status not in WITHOUT_RULE.get(number, {Status.NOTSUPP}):
         raise NotJournal("an operation without a rule has another answer than NOTSUPP")
     begin = reader.at
     RESTS.get((number, status), lambda r: None)(reader)
@@ -209,7 +215,8 @@ def answer_bytes(answer):
     return u32(answer.number, answer.status) + answer.rest
 
 
-# The entries by their kinds. `nodes` is how many there are, with the root.
+# The entries by their kinds. `nodes` is how many there are, with the root; which operations make an entry hangs on the
+# profile.
 
 def read_moment(reader):
     moment = reader.u64()
@@ -234,16 +241,17 @@ def read_filehandle(reader, nodes):
     return node if is_present else None
 
 
-def read_operation(reader):
+def read_operation(reader, profile):
     number = reader.u32()
-    if number not in ARGUMENT_BYTES:
+    if number not in STATEFUL_BY_PROFILE[profile]:
         raise NotJournal("an operation that makes no entry")
     return Opnum(number), wire.ARGUMENTS[number](reader)
 
 
-def read_call(reader, nodes):
-    moment, principal, filehandle = read_moment(reader), read_principal(reader), read_filehandle(reader, nodes)
-    return Call(moment, principal, filehandle, *read_operation(reader), read_answer(reader))
+def read_call(reader, tree):
+    moment, principal = read_moment(reader), read_principal(reader)
+    filehandle, operation = read_filehandle(reader, len(tree.nodes)), read_operation(reader, tree.policy.profile)
+    return Call(moment, principal, filehandle, *operation, read_answer(reader))
 
 
 def request_bytes(call):
@@ -256,11 +264,11 @@ def request_bytes(call):
 CALL, EXPIRE, REVOKE, PATH, FORGET = 1, 2, 3, 4, 5
 
 
-def read_entry(reader, nodes, has_forgets=True):
-    """The next entry. Journals of an earlier version have no Forget."""
+def read_entry(reader, tree, has_forgets=True):
+    """The next entry of a journal over this tree. Journals of an earlier version have no Forget."""
     kind = reader.u32()
     if kind == CALL:
-        return read_call(reader, nodes)
+        return read_call(reader, tree)
     if kind == EXPIRE:
         return Expire(reader.u32(), read_moment(reader), read_moment(reader))
     if kind == REVOKE:

@@ -15,11 +15,15 @@ from entries import (Answer, Call, EndsEarly, Expire, Forget, NotJournal, Path, 
                      read_entry)
 from model import JOURNAL_LIMIT, Server
 from states import Unchanged
-from tree import CALLBACKS, CLOSE_LOCKS, DELEGATIONS, NAME_LIMIT, Node, Policy, Refused, TEXT_LIMIT, tree_of
+from tree import (CALLBACKS, CLIENTS, CLOSE_LOCKS, DELEGATIONS, NAME_LIMIT, Node, PLAIN, Policy, Refused, TEXT_LIMIT,
+                  tree_of)
 from wire import Status, opaque, u32
 
-# How a file begins. One of the earlier edition has no word for what CLOSE does, which was to free, and no Forget.
-HEAD, EARLIER = b"NFSJRN03", b"NFSJRN02"
+# How a file begins, by the profile. One of the earlier edition, which knew one profile, has no word for what CLOSE
+# does, which was to free, and no Forget.
+HEAD, HEAD_OF_CLIENTS, EARLIER = b"NFSJRN03", b"NFSJRC03", b"NFSJRN02"
+PROFILE_OF = {HEAD: PLAIN, HEAD_OF_CLIENTS: CLIENTS, EARLIER: PLAIN}
+HEAD_OF = {PLAIN: HEAD, CLIENTS: HEAD_OF_CLIENTS}
 LEASE_LIMIT = 86400
 
 # A journal; and how its file begins, which it has again when it is written.
@@ -64,7 +68,7 @@ class Recorder(Server):
         return entry
 
     def journal(self):
-        return Journal(self.epoch, self.lease, self.tree, self.recorded)
+        return Journal(self.epoch, self.lease, self.tree, self.recorded, HEAD_OF[self.tree.policy.profile])
 
 
 # The file.
@@ -78,7 +82,7 @@ def head_bytes(journal):
     """What the server began with."""
     policy, nodes = journal.tree.policy, journal.tree.nodes[1:]
     numbers = [DELEGATIONS.index(policy.delegations), CALLBACKS.index(policy.callbacks)]
-    numbers += [CLOSE_LOCKS.index(policy.close_locks)] * (journal.head == HEAD)
+    numbers += [CLOSE_LOCKS.index(policy.close_locks)] * (journal.head != EARLIER)
     head = journal.head + u32(journal.epoch, journal.lease, *numbers, len(nodes))
     return head + b"".join(node_bytes(node) for node in nodes)
 
@@ -103,19 +107,20 @@ def read_whole(reader):
 
 def read_next(reader, journal):
     """The next entry of a journal with this head."""
-    return read_entry(reader, len(journal.tree.nodes), journal.head == HEAD)
+    return read_entry(reader, journal.tree, journal.head != EARLIER)
 
 
 def read_head(reader):
     """A journal without its entries, and their number as the file says it."""
     head = reader.fixed(len(HEAD))
-    if head not in (HEAD, EARLIER):
+    if head not in PROFILE_OF:
         raise NotJournal("it begins with other bytes")
     epoch, lease = reader.u32(), reader.u32()
     if not 1 <= lease <= LEASE_LIMIT:
         raise NotJournal("a lease outside its limits")
     delegations, callbacks = DELEGATIONS[reader.one_of(3)], CALLBACKS[reader.one_of(2)]
-    policy = Policy(delegations, callbacks, CLOSE_LOCKS[reader.one_of(2) if head == HEAD else 0])
+    close_locks = CLOSE_LOCKS[0 if head == EARLIER else reader.one_of(2)]
+    policy = Policy(delegations, callbacks, close_locks, PROFILE_OF[head])
     nodes = [read_node(reader) for _ in range(reader.u32())]
     try:
         tree = tree_of(nodes, policy)

@@ -12,6 +12,7 @@ import copy
 from dataclasses import dataclass, field
 
 import wire
+from attributes import Attributes, mask_of
 from delegations import Delegating
 from ranges import READ_MODE, Ranges, denial, length_of
 from states import (ClientRecord, Delegation, GENERATIONS, Kept, LockState, OpenState, Owner, Refusal, Request, Result,
@@ -19,17 +20,22 @@ from states import (ClientRecord, Delegation, GENERATIONS, Kept, LockState, Open
                     expect_runs, expect_seqid, expect_share, handle_of, is_first_lock, is_lawful_downgrade, is_special,
                     mode_of, next_seqid, next_sequence_id, replay, sequence_id_of, slot_of, stateid_of)
 from sweeps import Sweeping
-from tree import TEXT_LIMIT, Tree
+from tree import CLIENTS, PLAIN, TEXT_LIMIT, Tree
 from wire import (BOTH, CLAIM_DELEGATE_CUR, CLAIM_DELEGATE_PREV, CLAIM_PREVIOUS, CompoundCall, EXCLUSIVE4, FILE_SYNC4,
                   GUARDED4, NewLocker, OPEN4_CREATE, OPEN_DELEGATE_NONE, OPEN_DELEGATE_WRITE, Opnum, READ, Status,
                   WRITE, u32, u64)
 
 OPERATIONS_LIMIT = 64
-# The bytes that the reply's record has to have left for an operation to be run; and for a READ.
+# The bytes that the reply's record has to have left for an operation to be run; and for a READ or a READDIR.
 ANSWER_ROOM = 2048
 READ_ROOM = 67584
-# The most bytes that a READ gives.
-READ_LIMIT = 65536
+# The most bytes that a READ gives, and those of a READDIR behind its status.
+READ_LIMIT = LISTING_LIMIT = 65536
+# How many bytes of a READDIR's answer are no entries: the verifier, the end of the list, and whether no child is left.
+LISTING_ENDS = 16
+# A child's cookie is its node's number and this: 0 is the beginning, and 1 and 2 are nobody's.
+FIRST_COOKIE = 2
+NO_VERIFIER = bytes(8)
 RPC_HEAD = 24
 NAME_LIMIT = 255
 ADDRESS_LIMIT = 128
@@ -44,19 +50,36 @@ CONFIRM, LOCKTYPE_POSIX = 2, 4
 NOT_COUNTED = {Status.STALE_CLIENTID, Status.STALE_STATEID, Status.BAD_STATEID, Status.BAD_SEQID, Status.BADXDR,
                Status.RESOURCE, Status.NOFILEHANDLE}
 
-# The operations that ask the state, and so make an entry of the journal.
+# The operations that ask the state, and so make an entry of the journal; and those that do under either profile.
 STATEFUL = {Opnum.GETATTR, Opnum.SETCLIENTID, Opnum.SETCLIENTID_CONFIRM, Opnum.OPEN, Opnum.OPEN_CONFIRM,
             Opnum.OPEN_DOWNGRADE, Opnum.CLOSE, Opnum.LOCK, Opnum.LOCKT, Opnum.LOCKU, Opnum.RELEASE_LOCKOWNER,
             Opnum.DELEGRETURN, Opnum.READ, Opnum.WRITE}
+STATEFUL_BY_PROFILE = {PLAIN: STATEFUL, CLIENTS: STATEFUL | {Opnum.READDIR, Opnum.SETATTR}}
+# The operations that have a rule under the profile "clients" alone; and those whose arguments aren't read under either,
+# but which are known then to change a directory.
+OF_CLIENTS = {Opnum.COMMIT, Opnum.READDIR, Opnum.SETATTR}
+CHANGING_DIRECTORIES = {wire.OTHER_OPERATIONS[name] for name in ("CREATE", "LINK", "REMOVE", "RENAME")}
 # The operations that renew the lease of the client which a clientid among their arguments names (section 9.5).
 # SETCLIENTID and its confirmation never do.
 RENEWING_BY_CLIENTID = {Opnum.OPEN, Opnum.LOCKT, Opnum.RELEASE_LOCKOWNER, Opnum.RENEW}
 # Those that renew the lease of the client which their stateid names.
 RENEWING_BY_STATEID = {Opnum.OPEN_CONFIRM, Opnum.OPEN_DOWNGRADE, Opnum.CLOSE, Opnum.LOCK, Opnum.LOCKU,
-                       Opnum.DELEGRETURN, Opnum.READ, Opnum.WRITE}
+                       Opnum.DELEGRETURN, Opnum.READ, Opnum.WRITE, Opnum.SETATTR}
 SEQUENCED = {Opnum.OPEN, Opnum.OPEN_CONFIRM, Opnum.OPEN_DOWNGRADE, Opnum.CLOSE, Opnum.LOCK, Opnum.LOCKU}
 # Those that work on a file or a node, by the current filehandle, and belong to no owner.
-OF_NODE = {Opnum.GETATTR, Opnum.LOCKT, Opnum.DELEGRETURN, Opnum.READ, Opnum.WRITE}
+OF_NODE = {Opnum.GETATTR, Opnum.LOCKT, Opnum.DELEGRETURN, Opnum.READ, Opnum.READDIR, Opnum.SETATTR, Opnum.WRITE}
+# Those whose answer may be as long as a READ's.
+LONG = {Opnum.READ, Opnum.READDIR}
+
+
+def room_of_entries(maxcount):
+    """How many bytes the entries of a listing may have, of one that may have so many in all; below 0 it may be none."""
+    return min(maxcount, LISTING_LIMIT) - LISTING_ENDS
+
+
+def refused(number, status):
+    """An answer other than OK; of SETATTR it says that no attribute was set."""
+    return Result(status, wire.bitmap([]) if number == Opnum.SETATTR else b"")
 
 
 @dataclass
@@ -67,7 +90,7 @@ class Filehandles:
 
 
 @dataclass
-class Server(Delegating, Sweeping):
+class Server(Delegating, Sweeping, Attributes):
     """The files, and all that is kept of clients, owners, opens, locks and delegations."""
     tree: Tree = field(default_factory=Tree)
     lease: int = 90
@@ -91,7 +114,7 @@ class Server(Delegating, Sweeping):
     last_confirm: int = 0
     # When each live client's lease was opened or renewed last, by the client's number.
     renewals: dict = field(default_factory=dict)
-    # Of the files that were written, by their numbers: their bytes by now, and how many WRITEs changed them.
+    # Of the files that were changed, by their numbers: their bytes by now, and how many operations changed them.
     texts: dict = field(default_factory=dict)
     changes: dict = field(default_factory=dict)
 
@@ -148,19 +171,19 @@ class Server(Delegating, Sweeping):
             number = call.operations.u32()
         except wire.Unreadable:
             return Opnum.ILLEGAL, Result(Status.BADXDR)
-        if number not in wire.ARGUMENTS:
+        if number not in wire.ARGUMENTS or number in OF_CLIENTS and not self.is_for_clients():
             return self.without_rule(number)
         opnum = Opnum(number)
         try:
             arguments = wire.ARGUMENTS[opnum](call.operations)
         except wire.Unreadable:
-            return opnum, Result(Status.BADXDR)
-        if room < (READ_ROOM if opnum == Opnum.READ else ANSWER_ROOM):
-            return opnum, Result(Status.RESOURCE)
+            return opnum, refused(opnum, Status.BADXDR)
+        if room < (READ_ROOM if opnum in LONG else ANSWER_ROOM):
+            return opnum, refused(opnum, Status.RESOURCE)
         self.renew_by(opnum, arguments)
         if opnum == Opnum.RENEW:
             return opnum, answer(lambda: self.renew(arguments))
-        if opnum not in STATEFUL:
+        if opnum not in STATEFUL_BY_PROFILE[self.tree.policy.profile]:
             return opnum, answer(lambda: self.on_tree(opnum, arguments, handles))
         result = self.apply(opnum, arguments, handles.current, call.principal, is_refused)
         if opnum == Opnum.OPEN and result.status == Status.OK:
@@ -170,7 +193,13 @@ class Server(Delegating, Sweeping):
     def without_rule(self, number):
         if not 3 <= number <= 39:
             return Opnum.ILLEGAL, Result(Status.OP_ILLEGAL)
-        return number, Result(Status.NOTSUPP, u32(0) if number == Opnum.SETATTR else b"")
+        if number in CHANGING_DIRECTORIES and self.is_for_clients():
+            return number, Result(Status.ROFS)
+        return number, refused(number, Status.NOTSUPP)
+
+    def is_for_clients(self):
+        """Whether there is also what the programs of real clients ask for."""
+        return self.tree.policy.profile == CLIENTS
 
     # Operations on the tree alone.
 
@@ -208,8 +237,15 @@ class Server(Delegating, Sweeping):
     def access(self, arguments, handles):
         """Section 16.1."""
         expect_filehandle(handles.current)
-        supported = arguments.access & 63
-        return u32(supported, supported & (13 if self.tree.is_file(handles.current) else 3))
+        supported, of_directory = arguments.access & 63, 7 if self.is_for_clients() else 3
+        return u32(supported, supported & (13 if self.tree.is_file(handles.current) else of_directory))
+
+    def commit(self, _arguments, handles):
+        """Section 16.3. Bytes that were written are as safe as they will be, so there is nothing to be done."""
+        expect_filehandle(handles.current)
+        if not self.tree.is_file(handles.current):
+            raise Refusal(Status.ISDIR)
+        return self.write_verifier()
 
     def lookup(self, arguments, handles):
         """Section 16.13."""
@@ -240,7 +276,7 @@ class Server(Delegating, Sweeping):
 
     def apply(self, opnum, arguments, filehandle, principal, is_refused=False):
         if is_refused or self.entries >= self.journal_limit:
-            return Result(Status.RESOURCE)
+            return refused(opnum, Status.RESOURCE)
         if opnum in SEQUENCED:
             result = self.sequenced(Request(opnum, arguments, filehandle))
         elif opnum in OF_NODE:
@@ -258,19 +294,64 @@ class Server(Delegating, Sweeping):
     def getattr(self, arguments, filehandle):
         """Section 16.7."""
         expect_filehandle(filehandle)
-        values = self.attributes(filehandle)
-        asked = [number for number in sorted(values)
-                 if number // 32 < len(arguments.mask) and arguments.mask[number // 32] >> number % 32 & 1]
-        mask = [sum(1 << number for number in asked)] if asked else []
-        return wire.bitmap(mask) + wire.opaque(b"".join(values[number] for number in asked))
+        self.expect_readable(arguments.mask)
+        return self.values_asked(filehandle, arguments.mask)
 
-    def attributes(self, node):
-        is_file, size, change = self.tree.is_file(node), len(self.text_of(node)), self.changes.get(node, 0)
-        return {
-            0: wire.bitmap([0x00180FFF]), 1: u32(1 if is_file else 2), 2: u32(0), 3: u64(change), 4: u64(size),
-            5: u32(0), 6: u32(0), 7: u32(0), 8: u64(1) + u64(0), 9: u32(1), 10: u32(self.lease), 11: u32(0),
-            19: wire.opaque(handle_of(node)), 20: u64(node + 1),
-        }
+    def readdir(self, arguments, directory):
+        """Section 16.24. The verifier that it gives is zero for good, as no cookie ever means another child."""
+        expect_filehandle(directory)
+        if self.tree.is_file(directory):
+            raise Refusal(Status.NOTDIR)
+        self.expect_readable(arguments.mask)
+        children = self.tree.children(directory)
+        if arguments.cookie not in [0, *(child + FIRST_COOKIE for child in children)]:
+            raise Refusal(Status.BAD_COOKIE)
+        if arguments.cookie != 0 and arguments.verifier != NO_VERIFIER:
+            raise Refusal(Status.NOT_SAME)
+        left = [child for child in children if child + FIRST_COOKIE > arguments.cookie]
+        room = room_of_entries(arguments.maxcount)
+        entries = self.entries_within(left, arguments.mask, room)
+        if room < 0 or left and not entries:
+            raise Refusal(Status.TOOSMALL)
+        return NO_VERIFIER + b"".join(entries) + u32(0, len(entries) == len(left))
+
+    def entries_within(self, children, mask, room):
+        """The entries of as many of these children as fit whole, one behind the other, up to the first that doesn't."""
+        entries = []
+        for child in children:
+            entry = self.listing_entry(child, mask)
+            room -= len(entry)
+            if room < 0:
+                break
+            entries.append(entry)
+        return entries
+
+    def listing_entry(self, child, mask):
+        """A child in a listing of its directory: that it is one, its cookie and name, and its own attributes."""
+        name = wire.opaque(self.tree.nodes[child].name)
+        return u32(1) + u64(child + FIRST_COOKIE) + name + self.values_asked(child, mask)
+
+    def setattr(self, arguments, file):
+        """Section 16.32. The one attribute that can be set is the size; the time of the last change is what the server
+        says."""
+        mask, values = arguments.attributes
+        try:
+            expect_filehandle(file)
+            asked = self.settable(mask)
+            size = self.size_of(asked, values)
+            if asked:
+                self.expect_access(arguments.stateid, file, WRITE)
+                self.resize(file, len(self.text_of(file)) if size is None else size)
+        except Refusal as refusal:
+            raise Refusal(refusal.status, wire.bitmap([])) from None
+        return wire.bitmap(mask_of(asked))
+
+    def resize(self, file, size):
+        """The file gets so many bytes: its first ones, and behind these zeros."""
+        if size > TEXT_LIMIT:
+            raise Refusal(Status.FBIG)
+        self.texts[file] = self.text_of(file)[:size].ljust(size, b"\0")
+        self.changes[file] = self.changes.get(file, 0) + 1
 
     # Client ids (sections 9.1.1, 16.33 and 16.34).
 
@@ -645,7 +726,11 @@ class Server(Delegating, Sweeping):
             text = self.text_of(file).ljust(begin, b"\0")
             self.texts[file] = text[:begin] + data + text[begin + len(data):]
             self.changes[file] = self.changes.get(file, 0) + 1
-        return u32(len(data), FILE_SYNC4) + u32(self.epoch, 0)
+        return u32(len(data), FILE_SYNC4) + self.write_verifier()
+
+    def write_verifier(self):
+        """Of this run: another one has lost what was written."""
+        return u32(self.epoch, 0)
 
     def expect_access(self, stateid, file, wanted):
         """The file may be read, or written, by whoever has this stateid."""

@@ -6,15 +6,17 @@ call what it found. The first one is the reason. `check_reasons.py` sees that ea
 was answered, and that no other call has any."""
 from collections import namedtuple
 
+from attributes import FIXED, NAMES, SET_ONLY, SIZE, WRITABLE, numbers_of
 from delegations import bars
 from entries import Call, Expire, Revoke
 from events import Events
 from history import History
 from journal import states
-from model import JOURNAL_LIMIT, NAME_LIMIT, OF_NODE, SEQUENCED
+from model import (FIRST_COOKIE, JOURNAL_LIMIT, LISTING_ENDS, LISTING_LIMIT, NAME_LIMIT, NO_VERIFIER, OF_NODE,
+                   SEQUENCED, room_of_entries)
 from ranges import LAST_BYTE, READ_MODE, denial, range_of
-from states import (Delegation, LockState, OpenState, Request, closed_by, conflict, is_lawful_downgrade, is_special,
-                    mode_of, next_sequence_id, replay, sequence_id_of, stateid_of)
+from states import (Delegation, LockState, OpenState, Refusal, Request, closed_by, conflict, is_lawful_downgrade,
+                    is_special, mode_of, next_sequence_id, replay, sequence_id_of, stateid_of)
 from tree import TEXT_LIMIT
 from wire import (BOTH, CLAIM_DELEGATE_CUR, CLAIM_DELEGATE_PREV, CLAIM_PREVIOUS, EXCLUSIVE4, GUARDED4, NewLocker,
                   OPEN4_CREATE, OPEN_DELEGATE_WRITE, Opnum, READ, Status, WRITE)
@@ -57,6 +59,12 @@ def reasons(journal, limit=JOURNAL_LIMIT):
 def again_words(call, again):
     """A call that has a kept answer: its owner, and the entry whose answer that is."""
     return f"{call.opnum.name} by {owner_words(again.owner)} is the request of entry {again.entry} again"
+
+
+def attribute_words(numbers):
+    """Attributes by their numbers and names."""
+    words = [f"{number} ({NAMES[number]})" if number in NAMES else f"{number}" for number in sorted(numbers)]
+    return f"attribute {listed(words)}" if words else "no attribute"
 
 
 def run_words(run, place):
@@ -518,6 +526,68 @@ class Causes:
         if access & wanted == 0:
             yield Reason(Status.OPENMODE, f"{heading} takes access to {MODES[wanted]}, and {text}", heading)
 
+    # Attributes, and listings.
+
+    def of_getattr(self, arguments, filehandle):
+        yield from self.of_filehandle(filehandle)
+        yield from self.of_set_only(arguments.mask, "GETATTR")
+
+    def of_set_only(self, mask, heading):
+        asked = numbers_of(mask) & SET_ONLY
+        if asked and self.server.is_for_clients():
+            yield Reason(Status.INVAL, f"{attribute_words(asked)} can only be set", heading)
+
+    def of_readdir(self, arguments, directory):
+        yield from self.of_filehandle(directory)
+        tree, cookie = self.server.tree, arguments.cookie
+        if tree.is_file(directory):
+            text = f"the current filehandle is that of {self.place_words(directory)}, and no directory's"
+            yield Reason(Status.NOTDIR, text, "READDIR")
+        yield from self.of_set_only(arguments.mask, "READDIR")
+        children = tree.children(directory)
+        if cookie != 0 and cookie - FIRST_COOKIE not in children:
+            text = f"cookie {cookie} is neither 0 nor that of a child of {self.place_words(directory)}"
+            yield Reason(Status.BAD_COOKIE, text, "READDIR")
+        if cookie != 0 and arguments.verifier != NO_VERIFIER:
+            text = f"the verifier is {arguments.verifier.hex()}, and that of all listings is zero"
+            yield Reason(Status.NOT_SAME, text, "READDIR")
+        yield from self.of_room(arguments, [child for child in children if child + FIRST_COOKIE > cookie])
+
+    def of_room(self, arguments, left):
+        """That not even the first of the children that are left fits into a listing; or its ends alone don't."""
+        asked, room = min(arguments.maxcount, LISTING_LIMIT), room_of_entries(arguments.maxcount)
+        needed, what = LISTING_ENDS, "a listing without an entry"
+        if left:
+            needed += len(self.server.listing_entry(left[0], arguments.mask))
+            what = f"one with {name_words(self.server.tree.nodes[left[0]].name)} alone"
+        if room < needed - LISTING_ENDS:
+            yield Reason(Status.TOOSMALL, f"{what} has {needed} bytes, and {asked} are the most here", "READDIR")
+
+    def of_setattr(self, arguments, file):
+        mask, values = arguments.attributes
+        yield from self.of_filehandle(file)
+        asked = numbers_of(mask)
+        for status, numbers, text in ((Status.ATTRNOTSUPP, asked - self.server.supported(), "isn't supported"),
+                                      (Status.INVAL, asked - WRITABLE, "can only be read"),
+                                      (Status.ROFS, asked & FIXED, "stays what it is for good")):
+            if numbers:
+                yield Reason(status, f"{attribute_words(numbers)} {text}", "SETATTR")
+        yield from self.of_values(asked, values)
+        if asked:
+            yield from self.of_access(arguments.stateid, file, WRITE, "SETATTR")
+        size = int.from_bytes(values[:8], "big") if SIZE in asked else 0
+        if size > TEXT_LIMIT:
+            yield Reason(Status.FBIG, f"the size is {size}, and a file has {TEXT_LIMIT} bytes at most", "SETATTR")
+
+    def of_values(self, asked, values):
+        try:
+            self.server.size_of(asked, values)
+        except Refusal as refusal:
+            text = f"the {len(values)} bytes of values are no values of {attribute_words(asked)}"
+            if refusal.status == Status.ROFS:
+                text = "the time is a client's own, and the server takes none but its own"
+            yield Reason(refusal.status, text, "SETATTR")
+
     # The others.
 
     def of_release_lockowner(self, arguments, _principal):
@@ -533,9 +603,6 @@ class Causes:
         yield from self.of_filehandle(file)
         yield from self.of_stateid_client(arguments.stateid)
         yield from self.of_stateid(arguments.stateid, Delegation, file)
-
-    def of_getattr(self, _arguments, filehandle):
-        return self.of_filehandle(filehandle)
 
     def of_setclientid(self, arguments, principal):
         record = self.server.record_where(True, lambda it: it.id == arguments.id)

@@ -5,7 +5,7 @@ from dataclasses import dataclass, field
 import wire
 from entries import Answer
 from journal import Recorder
-from wire import Opnum, Status
+from wire import Opnum
 from words import STATUS_NAMES, answer_words, line_of, principal_words, words_read
 
 OPERATION_NAMES = {**{int(it): it.name for it in Opnum}, **{it: name for name, it in wire.OTHER_OPERATIONS.items()}}
@@ -34,11 +34,18 @@ class Tracer(Recorder):
 
 def step_words(number, arguments, result):
     """An operation and its answer. The arguments are shown where they were read."""
-    is_read = number in wire.ARGUMENTS and result.status != Status.BADXDR
-    shown = " ".join([OPERATION_NAMES[number]] + (words_read(wire.ARGUMENTS[number], arguments) if is_read else []))
+    shown = " ".join([OPERATION_NAMES[number]] + argument_words(number, arguments))
     if len(shown) > LETTERS:
         shown = f"{shown[:LETTERS]} .."
     return f"{shown} -> {answer_words(Answer(number, result.status, result.rest)).partition(' ')[2]}"
+
+
+def argument_words(number, arguments):
+    """The words of arguments that can be read, and were; or none."""
+    try:
+        return words_read(wire.ARGUMENTS[number], arguments)
+    except (KeyError, wire.Unreadable):
+        return []
 
 
 def call_line(server, record, reply):

@@ -19,10 +19,14 @@ path = "d/c"
 Node = namedtuple("Node", "parent name is_file text")
 ROOT = Node(None, b"", False, b"")
 
-# Which delegations may be given, whether a client's callback path is tried first, and what a CLOSE does where bytes are
-# locked, free them or refuse: words of the document.
-Policy = namedtuple("Policy", "delegations callbacks close_locks")
+# Which delegations may be given, whether a client's callback path is tried first, what a CLOSE does where bytes are
+# locked, free them or refuse, and whether there is also what the programs of real clients ask for: words of the
+# document.
 DELEGATIONS, CALLBACKS, CLOSE_LOCKS = ("none", "read", "all"), ("probe", "assume"), ("free", "refuse")
+PLAIN, CLIENTS = PROFILES = "plain", "clients"
+Policy = namedtuple("Policy", "delegations callbacks close_locks profile", defaults=[PLAIN])
+# What the document says where it has no word.
+USUAL = Policy("all", "probe", "free")
 
 
 class Refused(Exception):
@@ -49,6 +53,10 @@ class Tree:
             if node.parent == directory and node.name == name:
                 return number
         return None
+
+    def children(self, directory):
+        """Their numbers, which rise."""
+        return [number for number, node in enumerate(self.nodes) if node.parent == directory]
 
     def is_file(self, number):
         return self.nodes[number].is_file
@@ -149,8 +157,8 @@ def read_document(text):
     expect_keys(document, "directory", "file", "policy")
     table = document.get("policy", {})
     expect_keys(table, *Policy._fields)
-    policy = Policy(table.get("delegations", "all"), table.get("callbacks", "probe"), table.get("close_locks", "free"))
-    if not all(word in words for word, words in zip(policy, (DELEGATIONS, CALLBACKS, CLOSE_LOCKS))):
+    policy = USUAL._replace(**table)
+    if not all(word in words for word, words in zip(policy, (DELEGATIONS, CALLBACKS, CLOSE_LOCKS, PROFILES))):
         raise Refused(SYNTAX)
     directories = [text_of(table, "path") for table in tables(document, "directory", "path")]
     files = [(text_of(table, "path"), text_of(table, "text", "").encode())

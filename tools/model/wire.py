@@ -21,9 +21,12 @@ class Status(IntEnum):
     ISDIR = 21
     INVAL = 22
     FBIG = 27
+    ROFS = 30
     NAMETOOLONG = 63
     BADHANDLE = 10001
+    BAD_COOKIE = 10003
     NOTSUPP = 10004
+    TOOSMALL = 10005
     DELAY = 10008
     DENIED = 10010
     EXPIRED = 10011
@@ -38,7 +41,9 @@ class Status(IntEnum):
     OLD_STATEID = 10024
     BAD_STATEID = 10025
     BAD_SEQID = 10026
+    NOT_SAME = 10027
     RESTOREFH = 10030
+    ATTRNOTSUPP = 10032
     NO_GRACE = 10033
     BADXDR = 10036
     LOCKS_HELD = 10037
@@ -50,6 +55,7 @@ class Opnum(IntEnum):
     """nfs_opnum4 of RFC 7531: the operations that have a rule in the model, and ILLEGAL."""
     ACCESS = 3
     CLOSE = 4
+    COMMIT = 5
     DELEGRETURN = 8
     GETATTR = 9
     GETFH = 10
@@ -63,6 +69,7 @@ class Opnum(IntEnum):
     PUTFH = 22
     PUTROOTFH = 24
     READ = 25
+    READDIR = 26
     RENEW = 30
     RESTOREFH = 31
     SAVEFH = 32
@@ -76,17 +83,15 @@ class Opnum(IntEnum):
 
 # The other operations of RFC 7531, which have no rule in the model.
 OTHER_OPERATIONS = {
-    "COMMIT": 5, "CREATE": 6, "DELEGPURGE": 7, "LINK": 11, "LOOKUPP": 16, "NVERIFY": 17, "OPENATTR": 19,
-    "PUTPUBFH": 23, "READDIR": 26, "READLINK": 27, "REMOVE": 28, "RENAME": 29, "SECINFO": 33, "VERIFY": 37}
+    "CREATE": 6, "DELEGPURGE": 7, "LINK": 11, "LOOKUPP": 16, "NVERIFY": 17, "OPENATTR": 19, "PUTPUBFH": 23,
+    "READLINK": 27, "REMOVE": 28, "RENAME": 29, "SECINFO": 33, "VERIFY": 37}
 # Its other statuses, which this server doesn't give.
 OTHER_STATUSES = {
-    "PERM": 1, "IO": 5, "NXIO": 6, "XDEV": 18, "NOSPC": 28, "ROFS": 30, "MLINK": 31, "NOTEMPTY": 66,
-    "DQUOT": 69, "STALE": 70, "BAD_COOKIE": 10003, "TOOSMALL": 10005, "SERVERFAULT": 10006, "BADTYPE": 10007,
-    "SAME": 10009, "GRACE": 10013, "FHEXPIRED": 10014, "WRONGSEC": 10016, "MOVED": 10019,
-    "NOT_SAME": 10027, "LOCK_RANGE": 10028, "SYMLINK": 10029, "LEASE_MOVED": 10031, "ATTRNOTSUPP": 10032,
-    "RECLAIM_BAD": 10034, "RECLAIM_CONFLICT": 10035, "BADOWNER": 10039, "BADCHAR": 10040, "BADNAME": 10041,
-    "BAD_RANGE": 10042, "LOCK_NOTSUPP": 10043, "DEADLOCK": 10045, "FILE_OPEN": 10046, "ADMIN_REVOKED": 10047,
-    "CB_PATH_DOWN": 10048}
+    "PERM": 1, "IO": 5, "NXIO": 6, "XDEV": 18, "NOSPC": 28, "MLINK": 31, "NOTEMPTY": 66, "DQUOT": 69, "STALE": 70,
+    "SERVERFAULT": 10006, "BADTYPE": 10007, "SAME": 10009, "GRACE": 10013, "FHEXPIRED": 10014, "WRONGSEC": 10016,
+    "MOVED": 10019, "LOCK_RANGE": 10028, "SYMLINK": 10029, "LEASE_MOVED": 10031, "RECLAIM_BAD": 10034,
+    "RECLAIM_CONFLICT": 10035, "BADOWNER": 10039, "BADCHAR": 10040, "BADNAME": 10041, "BAD_RANGE": 10042,
+    "LOCK_NOTSUPP": 10043, "DEADLOCK": 10045, "FILE_OPEN": 10046, "ADMIN_REVOKED": 10047, "CB_PATH_DOWN": 10048}
 
 
 class Unreadable(Exception):
@@ -226,6 +231,7 @@ def read_claim(reader):
 
 Access = namedtuple("Access", "access")
 Close = namedtuple("Close", "seqid stateid")
+Commit = namedtuple("Commit", "offset count")
 Delegreturn = namedtuple("Delegreturn", "stateid")
 Getattr = namedtuple("Getattr", "mask")
 Getfh = namedtuple("Getfh", "")
@@ -239,13 +245,24 @@ OpenDowngrade = namedtuple("OpenDowngrade", "stateid seqid access deny")
 Putfh = namedtuple("Putfh", "filehandle")
 Putrootfh = namedtuple("Putrootfh", "")
 Read = namedtuple("Read", "stateid offset count")
+Readdir = namedtuple("Readdir", "cookie verifier dircount maxcount mask")
 ReleaseLockowner = namedtuple("ReleaseLockowner", "owner")
 Renew = namedtuple("Renew", "epoch client")
 Restorefh = namedtuple("Restorefh", "")
 Savefh = namedtuple("Savefh", "")
+Setattr = namedtuple("Setattr", "stateid attributes")
 Setclientid = namedtuple("Setclientid", "verifier id callback")
 SetclientidConfirm = namedtuple("SetclientidConfirm", "epoch client confirm")
 Write = namedtuple("Write", "stateid offset stable data")
+
+
+def read_attributes(reader):
+    """A fattr4: the mask, and the values as bytes."""
+    return reader.bitmap(), reader.opaque()
+
+
+def read_readdir(reader):
+    return Readdir(reader.u64(), reader.fixed(8), reader.u32(), reader.u32(), reader.bitmap())
 
 
 def read_open(reader):
@@ -261,6 +278,7 @@ def read_setclientid(reader):
 ARGUMENTS = {
     Opnum.ACCESS: lambda r: Access(r.u32()),
     Opnum.CLOSE: lambda r: Close(r.u32(), read_stateid(r)),
+    Opnum.COMMIT: lambda r: Commit(r.u64(), r.u32()),
     Opnum.DELEGRETURN: lambda r: Delegreturn(read_stateid(r)),
     Opnum.GETATTR: lambda r: Getattr(r.bitmap()),
     Opnum.GETFH: lambda r: Getfh(),
@@ -274,9 +292,11 @@ ARGUMENTS = {
     Opnum.PUTFH: lambda r: Putfh(r.opaque(FILEHANDLE_LIMIT)),
     Opnum.PUTROOTFH: lambda r: Putrootfh(),
     Opnum.READ: lambda r: Read(read_stateid(r), r.u64(), r.u32()),
+    Opnum.READDIR: read_readdir,
     Opnum.RENEW: lambda r: Renew(r.u32(), r.u32()),
     Opnum.RESTOREFH: lambda r: Restorefh(),
     Opnum.SAVEFH: lambda r: Savefh(),
+    Opnum.SETATTR: lambda r: Setattr(read_stateid(r), read_attributes(r)),
     Opnum.SETCLIENTID: read_setclientid,
     Opnum.SETCLIENTID_CONFIRM: lambda r: SetclientidConfirm(r.u32(), r.u32(), r.u64()),
     Opnum.WRITE: lambda r: Write(read_stateid(r), r.u64(), r.one_of(3), r.file_bytes()),
@@ -286,7 +306,6 @@ ARGUMENTS = {
 
 # The arguments of the operations that have no rule in the model, by their numbers. The model doesn't read them.
 
-Commit = namedtuple("Commit", "offset count")
 # What is created: its type, the text of a symbolic link or the two numbers of a device, its name and attributes.
 Create = namedtuple("Create", "kind value name attributes")
 Delegpurge = namedtuple("Delegpurge", "epoch client")
@@ -295,20 +314,13 @@ Lookupp = namedtuple("Lookupp", "")
 Nverify = namedtuple("Nverify", "attributes")
 Openattr = namedtuple("Openattr", "create")
 Putpubfh = namedtuple("Putpubfh", "")
-Readdir = namedtuple("Readdir", "cookie verifier dircount maxcount mask")
 Readlink = namedtuple("Readlink", "")
 Remove = namedtuple("Remove", "name")
 Rename = namedtuple("Rename", "old new")
 Secinfo = namedtuple("Secinfo", "name")
-Setattr = namedtuple("Setattr", "stateid attributes")
 Verify = namedtuple("Verify", "attributes")
 
 NF4BLK, NF4CHR, NF4LNK = 3, 4, 5
-
-
-def read_attributes(reader):
-    """A fattr4: the mask, and the values as bytes."""
-    return reader.bitmap(), reader.opaque()
 
 
 def read_create(reader):
@@ -320,12 +332,7 @@ def read_create(reader):
     return Create(kind, value, reader.opaque(), read_attributes(reader))
 
 
-def read_readdir(reader):
-    return Readdir(reader.u64(), reader.fixed(8), reader.u32(), reader.u32(), reader.bitmap())
-
-
 OTHER_ARGUMENTS = {
-    OTHER_OPERATIONS["COMMIT"]: lambda r: Commit(r.u64(), r.u32()),
     OTHER_OPERATIONS["CREATE"]: read_create,
     OTHER_OPERATIONS["DELEGPURGE"]: lambda r: Delegpurge(r.u32(), r.u32()),
     OTHER_OPERATIONS["LINK"]: lambda r: Link(r.opaque()),
@@ -333,13 +340,11 @@ OTHER_ARGUMENTS = {
     OTHER_OPERATIONS["NVERIFY"]: lambda r: Nverify(read_attributes(r)),
     OTHER_OPERATIONS["OPENATTR"]: lambda r: Openattr(r.one_of(2)),
     OTHER_OPERATIONS["PUTPUBFH"]: lambda r: Putpubfh(),
-    OTHER_OPERATIONS["READDIR"]: read_readdir,
     OTHER_OPERATIONS["READLINK"]: lambda r: Readlink(),
     OTHER_OPERATIONS["REMOVE"]: lambda r: Remove(r.opaque()),
     OTHER_OPERATIONS["RENAME"]: lambda r: Rename(r.opaque(), r.opaque()),
     OTHER_OPERATIONS["SECINFO"]: lambda r: Secinfo(r.opaque()),
     OTHER_OPERATIONS["VERIFY"]: lambda r: Verify(read_attributes(r)),
-    Opnum.SETATTR: lambda r: Setattr(read_stateid(r), read_attributes(r)),
 }
 ALL_ARGUMENTS = {**ARGUMENTS, **OTHER_ARGUMENTS}
 
@@ -406,6 +411,7 @@ def read_flavors(reader):
 RESULTS = {
     Opnum.ACCESS: lambda r: (r.u32(), r.u32()),
     Opnum.CLOSE: read_stateid,
+    Opnum.COMMIT: lambda r: r.fixed(8),
     Opnum.GETATTR: read_attributes,
     Opnum.GETFH: lambda r: r.opaque(FILEHANDLE_LIMIT),
     Opnum.LOCK: read_stateid,
@@ -414,13 +420,12 @@ RESULTS = {
     Opnum.OPEN_CONFIRM: read_stateid,
     Opnum.OPEN_DOWNGRADE: read_stateid,
     Opnum.READ: lambda r: (r.one_of(2), r.file_bytes()),
+    Opnum.READDIR: read_directory,
     Opnum.SETATTR: lambda r: r.bitmap(),
     Opnum.SETCLIENTID: lambda r: (r.u32(), r.u32(), r.u64()),
     Opnum.WRITE: lambda r: (r.u32(), r.one_of(3), r.fixed(8)),
-    OTHER_OPERATIONS["COMMIT"]: lambda r: r.fixed(8),
     OTHER_OPERATIONS["CREATE"]: lambda r: (read_change(r), r.bitmap()),
     OTHER_OPERATIONS["LINK"]: read_change,
-    OTHER_OPERATIONS["READDIR"]: read_directory,
     OTHER_OPERATIONS["READLINK"]: lambda r: r.opaque(),
     OTHER_OPERATIONS["REMOVE"]: read_change,
     OTHER_OPERATIONS["RENAME"]: lambda r: (read_change(r), read_change(r)),
