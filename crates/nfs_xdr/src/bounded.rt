@@ -3,7 +3,7 @@
 ghost use Rattle.std.specs.Prelude.{◌≡◌, ℕ, ◌+◌, ◌^◌, ◌<◌, ◌≤◌, length};
 ghost use Rattle.nfs_xdr.specs.Opnum.{answer_limit};
 ghost use Rattle.nfs_xdr.specs.OpResult.{op_result, opnum_of};
-ghost use Rattle.nfs_xdr.specs.Short.{Any, AreFewAttributes, AreFewBytes, HasShortName, IsShort, IsShortAddress, IsShortAnswer, SetsNothing};
+ghost use Rattle.nfs_xdr.specs.Short.{Any, AreFewAttributes, AreFewBytes, AreFewEntries, HasShortName, IsShort, IsShortAddress, IsShortAnswer, SetsFew, SetsNothing};
 
 use crate::op_result::of_answer;
 use crate::opnum::each_operation;
@@ -14,6 +14,8 @@ use crate::{
 use nfs_operations::access::AccessBits;
 use nfs_operations::open::OpenOk;
 use nfs_operations::read::ReadOk;
+use nfs_operations::readdir::ReaddirOk;
+use nfs_operations::setattr::SetattrResult;
 use nfs_operations::setclientid_confirm::SetclientidConfirm;
 use nfs_operations::write::WriteOk;
 use xdr::Wire;
@@ -211,6 +213,23 @@ impl Bounded for ReadOk {
     fn fits(&self) {}
 }
 
+impl Bounded for ReaddirOk {
+    ghost most = { 65_536 };
+
+    ghost IsShort = { AreFewEntries };
+
+    fn fits(&self) {}
+}
+
+impl Bounded for SetattrResult {
+    ghost most = { 16 };
+
+    ghost IsShort = { SetsFew };
+
+    #[tactic(auto, using(nfs_forms::proofs::Words::words_len, crate::proofs::Refusals::refusal_fits), unfolding(nfs_operations::specs::Setattr::result, nfs_forms::specs::Status::status, xdr::specs::Writing::written_number))]
+    fn fits(&self) {}
+}
+
 impl Bounded for WriteOk {
     ghost most = { 16 };
 
@@ -259,7 +278,7 @@ impl OpResult {
     {
         each_operation!(
             of_answer self, answer => answer.fits();
-            OpResult::Unsupported(_) => {},
+            OpResult::Unsupported(_) | OpResult::ReadOnly(_) => {},
             OpResult::Illegal(answer) => answer.fits(),
         )
     }
