@@ -86,13 +86,23 @@ fn write_link<T: Wire>(out: &mut Vec<u8>, value: &T) -> Result<(), WireError>
 }
 
 /// How many bytes the linked list of the values takes when it is written.
+#[tactic(auto, using(crate::proofs::MeasuringChains::chain_length, crate::proofs::MeasuringChains::link_within))]
 pub fn chain_len<T: Measure>(values: &[T]) -> usize
     requires { length ((forms.chain T.form).encoding values.now) ≤ 2 ^ 32 }
     ensures { result ≡ length ((forms.chain T.form).encoding values.now) }
 {
     let mut len = 4;
     for value in values {
-        len += 4 + value.written_len();
+        len += link_len(value);
     }
     len
+}
+
+// How many bytes the value takes behind a TRUE.
+#[tactic(auto, using(crate::proofs::MeasuringChains::link_length))]
+fn link_len<T: Measure>(value: &T) -> usize
+    requires { length (written_link T.form.encoding value.now) ≤ 2 ^ 32 }
+    ensures { result ≡ length (written_link T.form.encoding value.now) }
+{
+    4 + value.written_len()
 }

@@ -1,9 +1,9 @@
 -- Linked lists: the laws of reading and encoding them.
-use Rattle.std.proofs.Common.{◌≡◌, ℕ, zero, suc, ◌<◌, Bool, true, false, Option, Some, None, List, [], ◌∷◌, ◌++◌, length, Ok, refl, sym, ap, subst, ◌∙◌, append_assoc, arith}
+use Rattle.std.proofs.Common.{◌≡◌, ℕ, zero, suc, ◌<◌, Bool, true, false, Option, Some, None, List, [], ◌∷◌, ◌++◌, length, Ok, refl, ap, subst, ◌∙◌, append_assoc, arith}
 use Rattle.std.proofs.lemmas.List.{length-append}
 use Rattle.std.specs.List.{All, flat_map}
-use Rattle.xdr.specs.Layout.{◌⨾◌, Flag, Link, Chain}
-use Rattle.xdr.specs.Reading.{Read, Reads, Begins, ◌>>=◌, as_value, flag_at, link_of, link_at, or_end, chain_below, chain_at}
+use Rattle.xdr.specs.Layout.{Flag, Link, Chain}
+use Rattle.xdr.specs.Reading.{Read, Reads, Begins, flag_at, link_of, link_at, or_end, chain_below, chain_at}
 use Rattle.xdr.specs.Writing.{written_flag, written_link, written_chain}
 use Rattle.xdr.specs.laws.Reads.{bind_ok, ok_is, Begins-then, as_value_gives, reads_flag}
 use Rattle.xdr.specs.laws.Spells.{flag_is_encoded}

@@ -5,4 +5,4 @@ use Rattle.xdr.proofs.chain.chain_len.Given as goal
 
 -- the bytes of the values so far, each with its TRUE, and those of the FALSE
 abbrev pub invariant-loop-value : goal.invariant-loop-value
-invariant-loop-value g l = l.len ≡ 4 + length (flat_map (written_link g.T.Measure.form.encoding) (take l.value-index l.values))
+invariant-loop-value g l = l.len ≡ 4 + length (flat_map (written_link g.T.Wire.form.encoding) (take l.value-index l.values))
