@@ -3,7 +3,7 @@
 ghost use Rattle.std.specs.Prelude.{◌<◌, [], IfSome, IsTrue};
 ghost use Rattle.nfs_shared.specs.Ends.{AreFresh, IsKept};
 ghost use Rattle.nfs_shared.specs.Naming.{CanBegin};
-ghost use Rattle.nfs_tree.specs.Profile.{has_entry};
+ghost use Rattle.nfs_tree.specs.Profiles.{has_entry};
 ghost use Rattle.nfs_tree.specs.declared.profile.Profile.{Profile};
 
 use nfs_core::{Core, Moment, Seeds};

@@ -6,7 +6,7 @@ use Rattle.nfs_journal.specs.Journals.{history_of, opening_of, third_of}
 use Rattle.nfs_state.specs.Entries.{is_filehandle}
 use Rattle.nfs_state.specs.State.{History}
 use Rattle.nfs_state.specs.declared.entry.Call.{Call}
-use Rattle.nfs_tree.specs.Profile.{has_entry}
+use Rattle.nfs_tree.specs.Profiles.{has_entry}
 use Rattle.nfs_tree.specs.declared.profile.Profile.{Profile}
 use Rattle.nfs_tree.specs.declared.profile.Profile.TheVariants.{Plain, Clients}
 use Rattle.nfs_xdr.specs.declared.op.Op.{Op}

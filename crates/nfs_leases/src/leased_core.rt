@@ -7,7 +7,7 @@ ghost use Rattle.nfs_leases.specs.BookOf.{IsBookOf, events_entered};
 ghost use Rattle.nfs_leases.specs.PlainBook.{has_open_lease, with_renewal};
 ghost use Rattle.nfs_leases.specs.Sweeps.{Sweeps, leased_server};
 ghost use Rattle.nfs_state.specs.Entries.{IsFilehandle};
-ghost use Rattle.nfs_tree.specs.Profile.{has_entry};
+ghost use Rattle.nfs_tree.specs.Profiles.{has_entry};
 ghost use Rattle.nfs_xdr.specs.Op.{opnum_of};
 ghost use Rattle.nfs_xdr.specs.OpResult.{op_result};
 ghost use Rattle.nfs_xdr.specs.Opnum.{answer_limit};

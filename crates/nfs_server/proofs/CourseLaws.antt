@@ -6,7 +6,7 @@ use Rattle.std.proofs.KnownBytes.{Appends-nil, Appends-kept, Appends-trans, Cons
 use Rattle.std.proofs.lemmas.List.{append-nil, length-append}
 use Rattle.std.proofs.lemmas.List.Concat.{flat_map-cons}
 use Rattle.nfs_rpc.specs.Records.{IsRest, SplitGoesOn, Splits}
-use Rattle.nfs_server.specs.Serves.{Exported}
+use Rattle.nfs_tree.specs.Exports.{Exported}
 use Rattle.nfs_server.specs.declared.serve_error.ServeError.TheVariants as errors
 use Rattle.nfs_server.specs.Connection.{Scene, Turn, Course, AreTurns, EndsWith, IsIdle, IsTurn, all_exchanges, exchanges_of, rest_after, text_of}
 use Rattle.nfs_server.specs.Sides.{device_of}

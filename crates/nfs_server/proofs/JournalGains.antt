@@ -8,7 +8,7 @@ use Rattle.nfs_core.specs.declared.entered.Entered.{Entered}
 use Rattle.nfs_state.specs.State.{History}
 use Rattle.nfs_state.specs.Entries.{entry_of}
 use Rattle.nfs_state.specs.declared.request.Request.{Request}
-use Rattle.nfs_server.specs.Serves.{Exported}
+use Rattle.nfs_tree.specs.Exports.{Exported}
 use Rattle.nfs_server.specs.Asking.{Operation, Question, Renewal}
 use Rattle.nfs_server.specs.CourseLaws.{GainsEntries}
 use Rattle.nfs_server.specs.Device.{Device}

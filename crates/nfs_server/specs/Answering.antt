@@ -10,10 +10,9 @@ use Rattle.nfs_tree.specs.declared.filehandles.Filehandles.{Filehandles}
 use Rattle.nfs_tree.specs.Effect.{Effect, stays}
 use Rattle.nfs_tree.specs.Filehandles.{handles_after, no_filehandles}
 use Rattle.nfs_tree.specs.operations.{effect_of}
-use Rattle.nfs_tree.specs.Profile.{refusal_by}
-use Rattle.nfs_tree.specs.Tree.{Files}
+use Rattle.nfs_tree.specs.Profiles as profiles
 use Rattle.nfs_rpc.specs.Reply.{written_reply}
-use Rattle.nfs_server.specs.Serves.{Exported}
+use Rattle.nfs_tree.specs.Exports.{Exported}
 use Rattle.nfs_state.specs.Entries.{resource}
 use Rattle.nfs_xdr.specs.declared.arg_op.ArgOp.{ArgOp}
 use Rattle.nfs_xdr.specs.declared.arg_op.ArgOp.TheVariants.{Run, BadArgs, Unsupported, Illegal}
@@ -100,16 +99,16 @@ allowed export handles size (Run op) =
 
 -- What the profile refuses whatever the arguments are is refused first, without any room.
 abbrev pub dispatch : Exported → Filehandles → ℕ → ArgOp → Dispatch
-dispatch export handles size entry = elim (refusal_by export.profile (opnum_in entry)) [
+dispatch export handles size entry = elim (profiles.refusal export.profile (opnum_in entry)) [
   | Some refusal ↦ Known (stays handles (refusal_of (opnum_in entry) refusal))
   | None ↦ allowed export handles size entry
 ]
 
 -- The filehandles after the service's answer: with NFS4_OK they follow the operation.
-abbrev pub handles_after_answer : Files → Filehandles → Asked → OpResult → Filehandles
-handles_after_answer tree handles (Operation op filehandle) answer =
-    if is_ok (status_of answer) then handles_after tree handles op else handles
-handles_after_answer tree handles (Renewal client) answer = handles
+abbrev pub handles_after_answer : Exported → Filehandles → Asked → OpResult → Filehandles
+handles_after_answer export handles (Operation op filehandle) answer =
+    if is_ok (status_of answer) then handles_after export.nodes handles op else handles
+handles_after_answer export handles (Renewal client) answer = handles
 
 -- The questions and the results of the operations, whose results follow the first `size` bytes of the reply's record.
 unfoldable pub outcome_of : Exported → Filehandles → ℕ → List ArgOp → List OpResult → Outcome
@@ -123,7 +122,7 @@ outcome_of export handles size (op ∷ ops) answers =
       | Ask question ↦
           asks question answers
           (λ answer others.
-          outcome_of export (handles_after_answer export.tree handles question answer) (size_with answer)
+          outcome_of export (handles_after_answer export handles question answer) (size_with answer)
           ops others)
     ]
 

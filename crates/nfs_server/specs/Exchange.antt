@@ -9,7 +9,7 @@ use Rattle.nfs_rpc.specs.RpcCall.{IsCall}
 use Rattle.nfs_rpc.specs.Reply.{written_record}
 use Rattle.nfs_server.specs.Answering.{asked, reply}
 use Rattle.nfs_server.specs.Asking.{Asks, Question, question_of}
-use Rattle.nfs_server.specs.Serves.{Exported}
+use Rattle.nfs_tree.specs.Exports.{Exported}
 use Rattle.nfs_xdr.specs.declared.op_result.OpResult.{OpResult}
 
 -- A record, the call in it, the moment that was read from the clock for it, and the service's answers.

@@ -3,7 +3,7 @@ use Rattle.std.specs.Prelude.{◌≡◌, ℕ, ◌+◌, List, length, map}
 use Rattle.nfs_tree.specs.Effect.{Effect}
 use Rattle.nfs_tree.specs.declared.filehandles.Filehandles.{Filehandles}
 use Rattle.nfs_tree.specs.Filehandles.{no_filehandles}
-use Rattle.nfs_server.specs.Serves.{Exported, export_of}
+use Rattle.nfs_tree.specs.Exports.{Exported, export_seen}
 use Rattle.nfs_server.specs.Answering.{Asked, Dispatch, Known, Ask, Outcome, allowed, dispatch, handles_after_answer, outcome_of}
 use Rattle.nfs_server.specs.Asking.{Asks, Question, question_of}
 use Rattle.nfs_server.specs.declared.compound.Context.{Context}
@@ -22,7 +22,7 @@ pub record Asker (S : Type 0) : Type 1 where
 abbrev pub asker_of : {S : Type 0} → (S → Question → OpResult → S → Type 0) → Context → Asker S
 asker_of gives context = record {
   gives = gives;
-  export = export_of context.export.now;
+  export = export_seen context.export.now;
   moment = context.moment;
   principal = context.principal;
 }
@@ -51,7 +51,7 @@ abbrev pub HasEffect : {S : Type 0} → Asker S → Place S → Dispatch → Eff
 HasEffect asker old (Known known) effect service = (effect ≡ known) × (service ≡ old.service)
 HasEffect asker old (Ask asked) effect service =
     asker.gives old.service (question_of asker.moment asker.principal asked) effect.answer service
-    × (effect.after ≡ handles_after_answer asker.export.tree old.handles asked effect.answer)
+    × (effect.after ≡ handles_after_answer asker.export old.handles asked effect.answer)
 
 -- At this place the operation has this effect, and leaves the service in this state.
 abbrev pub IsAnswered : {S : Type 0} → Asker S → Place S → ArgOp → Effect → S → Type 0

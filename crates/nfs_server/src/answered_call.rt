@@ -4,7 +4,7 @@ ghost use Rattle.nfs_rpc.specs.Reply.{IsWritable, written_record, written_reply}
 ghost use Rattle.nfs_rpc.specs.declared.records.TheConstants.{RECORD_LIMIT};
 ghost use Rattle.nfs_rpc.specs.declared.reply.TheConstants.{SHORT_REPLY_LEN};
 ghost use Rattle.nfs_server.specs.Exchange.{Exchange, IsExchanged, rules, written_for};
-ghost use Rattle.nfs_server.specs.Serves.{export_of, served_with};
+ghost use Rattle.nfs_tree.specs.Exports.{export_seen};
 ghost use Rattle.nfs_server.specs.declared.answered_call.TheConstants.{REPLY_LIMIT};
 
 use crate::compound::{AnsweredCompound, operation_count};
@@ -58,19 +58,19 @@ pub(crate) fn answer_call<S: Service, C: Clock>(
     answered: &mut VecDeque<AnsweredCall>,
     lists: &mut Vec<Vec<OpResult>>,
 ) -> Result<usize, AllocError>
-    requires serves { S.serves service.old ≡ served_with export.now }
+    requires serves { S.serves service.old ≡ export_seen export.now }
     requires room { deque_len answered.old < deque_capacity answered.old }
     ensures ok { IfOk result (λ len. (e : Exchange) × (e.message ≡ pending.message)
-        × IsExchanged (rules (export_of export.now) S.gives S.alike C.tells) service.old clock.old e
+        × IsExchanged (rules (export_seen export.now) S.gives S.alike C.tells) service.old clock.old e
         service.new clock.new
-        × (answered.new.items ≡ answered.old.items ++ written_for (export_of export.now) e ∷ [])
-        × (len ≡ length (written_for (export_of export.now) e))) }
+        × (answered.new.items ≡ answered.old.items ++ written_for (export_seen export.now) e ∷ [])
+        × (len ≡ length (written_for (export_seen export.now) e))) }
     ensures few { IfOk result (λ len. len ≤ REPLY_LIMIT) }
     ensures count { OnOk result (deque_len answered.new ≡ deque_len answered.old + 1) }
     ensures room { deque_capacity answered.old ≤ deque_capacity answered.new }
     ensures err { OnErr result (S.alike service.old service.new × (clock.new ≡ clock.old)
         × (answered.new.items ≡ answered.old.items)) }
-    ensures serves { S.serves service.new ≡ served_with export.now }
+    ensures serves { S.serves service.new ≡ export_seen export.now }
 {
     let (message, call, results) = pending.into_parts();
     match call {

@@ -1,8 +1,8 @@
 ghost use Rattle.std.specs.Prelude.{◌≡◌, ◌+◌, ◌-◌, ◌^◌, ◌<◌, ◌≤◌, true, false, max, List, [], map, length, vec_capacity, IsOk, None, OnOk};
 ghost use Rattle.std.specs.List.{All, flat_map};
 ghost use Rattle.nfs_server.specs.Answering.{compound_outcome, compound_reply, head_size, is_ok, last_status, operations_of, opnum_in, request_status};
-ghost use Rattle.nfs_server.specs.Serves.{export_of, served_with};
-ghost use Rattle.nfs_tree.specs.Profile.{refusal_by};
+ghost use Rattle.nfs_tree.specs.Exports.{export_seen};
+ghost use Rattle.nfs_tree.specs.Profiles as profiles;
 ghost use Rattle.nfs_server.specs.Asking.{Asks, question_of};
 ghost use Rattle.nfs_rpc.specs.Reply.{written_compound_reply};
 ghost use Rattle.nfs_rpc.specs.RpcCall.{HasFewOperations, IsWithinLimits};
@@ -48,17 +48,17 @@ pub fn run_compound<S: Service>(
 ) -> AnsweredCompound
     requires limits { IsWithinLimits RECORD_LIMIT compound }
     requires ready { length (operations_of compound.request) ≤ S.room service.old }
-    requires serves { S.serves service.old ≡ served_with export.now }
+    requires serves { S.serves service.old ≡ export_seen export.now }
     requires empty { results.items ≡ [] }
     requires room { OPERATION_LIMIT ≤ vec_capacity results }
     // The service was asked what the COMPOUND asks given its answers, and the reply is the one
     // for these answers.
     ensures answers { (answers : List OpResult)
         × Asks S.gives service.old
-        (map (question_of moment principal) (compound_outcome (export_of export.now) compound answers).asked)
+        (map (question_of moment principal) (compound_outcome (export_seen export.now) compound answers).asked)
         answers service.new
-        × (result.reply ≡ compound_reply (export_of export.now) compound answers) }
-    ensures serves { S.serves service.new ≡ served_with export.now }
+        × (result.reply ≡ compound_reply (export_seen export.now) compound answers) }
+    ensures serves { S.serves service.new ≡ export_seen export.now }
     ensures len { result.len ≡ ACCEPTED_LEN + length (written_compound_reply result.reply) }
     // The reply isn't too long for a record.
     ensures fits { ACCEPTED_LEN + length (written_compound_reply result.reply) ≤ RECORD_LIMIT }
@@ -160,13 +160,13 @@ fn answer_request<S: Service>(
     requires few { head < 2 ^ 40 }
     requires limit { HasFewOperations request }
     requires ready { length (operations_of request) ≤ S.room service.old }
-    requires serves { S.serves service.old ≡ served_with context.now.export.now }
+    requires serves { S.serves service.old ≡ export_seen context.now.export.now }
     requires empty { results.old.items ≡ [] }
     requires room { OPERATION_LIMIT ≤ vec_capacity results.old }
     ensures answers { IsDetermined (asker_of S.gives context.now) (start service.old head)
         (operations_of request) results.new.items service.new }
     ensures status { result.status ≡ request_status results.new.items request }
-    ensures serves { S.serves service.new ≡ served_with context.now.export.now }
+    ensures serves { S.serves service.new ≡ export_seen context.now.export.now }
     ensures len { result.len ≡ head + length (flat_map op_result.encoding results.new.items) }
     ensures fits { result.len ≤ max (head + 12) RECORD_LIMIT }
     ensures form { All op_result.Fits results.new.items }
@@ -209,12 +209,12 @@ fn answer_operations<S: Service>(
     requires few { head < 2 ^ 40 }
     requires limit { length ops.old.items ≤ OPERATION_LIMIT }
     requires ready { length ops.old.items ≤ S.room service.old }
-    requires serves { S.serves service.old ≡ served_with context.now.export.now }
+    requires serves { S.serves service.old ≡ export_seen context.now.export.now }
     requires empty { results.old.items ≡ [] }
     requires room { OPERATION_LIMIT ≤ vec_capacity results.old }
     ensures answers { IsDetermined (asker_of S.gives context.now) (start service.old head)
         ops.old.items results.new.items service.new }
-    ensures serves { S.serves service.new ≡ served_with context.now.export.now }
+    ensures serves { S.serves service.new ≡ export_seen context.now.export.now }
     ensures len { result ≡ head + length (flat_map op_result.encoding results.new.items) }
     ensures fits { result ≤ max (head + 12) RECORD_LIMIT }
     ensures form { All op_result.Fits results.new.items }
@@ -261,13 +261,13 @@ fn answer_one<S: Service>(
 ) -> OpResult
     requires few { size < 2 ^ 41 }
     requires ready { 0 < S.room service.old }
-    requires serves { S.serves service.old ≡ served_with context.now.export.now }
+    requires serves { S.serves service.old ≡ export_seen context.now.export.now }
     requires nodes { AreNodes context.now.export.now.tree.now handles.old }
     ensures answer { IsAnswered (asker_of S.gives context.now)
         (record { service = service.old; handles = handles.old; size = size }) op
         (record { answer = result; after = handles.new }) service.new }
     ensures ready { S.room service.old ≤ S.room service.new + 1 }
-    ensures serves { S.serves service.new ≡ served_with context.now.export.now }
+    ensures serves { S.serves service.new ≡ export_seen context.now.export.now }
     ensures nodes { AreNodes context.now.export.now.tree.now handles.new }
     ensures form { op_result.Fits result }
     ensures last { is_ok (status_of result) ≡ false
@@ -309,14 +309,14 @@ fn answer_allowed<S: Service>(
 ) -> OpResult
     requires few { size < 2 ^ 41 }
     requires ready { 0 < S.room service.old }
-    requires serves { S.serves service.old ≡ served_with context.now.export.now }
+    requires serves { S.serves service.old ≡ export_seen context.now.export.now }
     requires nodes { AreNodes context.now.export.now.tree.now handles.old }
-    requires allowed { refusal_by context.now.export.now.profile (opnum_in op) ≡ None }
+    requires allowed { profiles.refusal context.now.export.now.profile (opnum_in op) ≡ None }
     ensures answer { IsAllowed (asker_of S.gives context.now)
         (record { service = service.old; handles = handles.old; size = size }) op
         (record { answer = result; after = handles.new }) service.new }
     ensures ready { S.room service.old ≤ S.room service.new + 1 }
-    ensures serves { S.serves service.new ≡ served_with context.now.export.now }
+    ensures serves { S.serves service.new ≡ export_seen context.now.export.now }
     ensures nodes { AreNodes context.now.export.now.tree.now handles.new }
     ensures form { op_result.Fits result }
     ensures last { is_ok (status_of result) ≡ false

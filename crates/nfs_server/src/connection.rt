@@ -4,7 +4,8 @@ ghost use Rattle.nfs_server.specs.Connection.{HasCourse, scene};
 ghost use Rattle.nfs_server.specs.Device.{IsCut, IsWritten, device_of_sink};
 ghost use Rattle.nfs_server.specs.Sides.{device_of, sides};
 ghost use Rattle.nfs_server.specs.Exchange.{rules};
-ghost use Rattle.nfs_server.specs.Serves.{export_of, exported, served_with};
+ghost use Rattle.nfs_server.specs.Serves.{exported};
+ghost use Rattle.nfs_tree.specs.Exports.{export_seen};
 ghost use Rattle.nfs_server.specs.Serving.{IsServed};
 ghost use Rattle.nfs_rpc.specs.Records.{IsStream, TakesPiece};
 
@@ -103,10 +104,10 @@ pub(crate) fn serve_turns<D: Duplex, S: Service, C: Clock>(
     requires written { replies.old.answered.items ≡ [] }
     requires reads { D.read_failures device.old < 2 ^ 64 - 1 }
     requires writes { D.write_failures device.old < 2 ^ 64 - 1 }
-    requires serves { S.serves service.old ≡ served_with export.now }
+    requires serves { S.serves service.old ≡ export_seen export.now }
     ensures room { length buffer.new ≡ PIECE_LEN }
-    ensures serves { S.serves service.new ≡ served_with export.now }
-    ensures course { HasCourse D.device (rules (export_of export.now) S.gives S.alike C.tells)
+    ensures serves { S.serves service.new ≡ export_seen export.now }
+    ensures course { HasCourse D.device (rules (export_seen export.now) S.gives S.alike C.tells)
         (scene device.old service.old clock.old) result (scene device.new service.new clock.new) }
     ensures read_failed { IsErrOf result ServeError.Read
         ↔ D.read_failures device.old < D.read_failures device.new }
@@ -160,9 +161,9 @@ fn serve_ready<D: Duplex, S: Service, C: Clock>(
     requires none { replies.old.pending.items ≡ [] }
     requires written { replies.old.answered.items ≡ [] }
     requires writes { D.write_failures device.old < 2 ^ 64 - 1 }
-    requires serves { S.serves service.old ≡ served_with export.now }
-    ensures serves { S.serves service.new ≡ served_with export.now }
-    ensures served { IsServed D.device (rules (export_of export.now) S.gives S.alike C.tells)
+    requires serves { S.serves service.old ≡ export_seen export.now }
+    ensures serves { S.serves service.new ≡ export_seen export.now }
+    ensures served { IsServed D.device (rules (export_seen export.now) S.gives S.alike C.tells)
         (scene device.old service.old clock.old) records.old.ready result
         (scene device.new service.new clock.new) }
     ensures taken { OnOk result (records.new ≡ record records.old { ready = [] }) }

@@ -5,7 +5,7 @@ ghost use Rattle.nfs_server.specs.Device.{device_of_sink};
 ghost use Rattle.nfs_server.specs.Entries.{QuestionsAreEntries};
 ghost use Rattle.nfs_server.specs.Sides.{device_of};
 ghost use Rattle.nfs_server.specs.Exchange.{rules};
-ghost use Rattle.nfs_server.specs.Serves.{Exported};
+ghost use Rattle.nfs_tree.specs.Exports.{Exported};
 
 use crate::{Clock, Counted, Duplex, Lent, Service, Sides, Sink, Source};
 use nfs_rpc::split_goes_on;

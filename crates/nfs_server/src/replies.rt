@@ -3,7 +3,7 @@ ghost use Rattle.std.specs.List.{AllByRecursion};
 ghost use Rattle.std.specs.VecDeque.{deque_capacity, deque_len};
 ghost use Rattle.nfs_server.specs.Batch.{AreAnswered, gathering, goes_on, messages_in, waiting_bytes};
 ghost use Rattle.nfs_server.specs.Exchange.{rules};
-ghost use Rattle.nfs_server.specs.Serves.{export_of, served_with};
+ghost use Rattle.nfs_tree.specs.Exports.{export_seen};
 
 use crate::answered_call::{AnsweredCall, REPLY_LIMIT, answer_call};
 use crate::compound::make_result_room;
@@ -117,14 +117,14 @@ impl Replies {
             records.old.ready }
         requires within { length self.old.gathered.items ≤ GATHER_LIMIT }
         requires written { self.old.answered.items ≡ [] }
-        requires serves { S.serves service.old ≡ served_with export.now }
-        ensures ok { OnOk result (AreAnswered (rules (export_of export.now) S.gives S.alike C.tells)
+        requires serves { S.serves service.old ≡ export_seen export.now }
+        ensures ok { OnOk result (AreAnswered (rules (export_seen export.now) S.gives S.alike C.tells)
             (gathering service.old clock.old self.old.gathered.items
             (messages_in self.old.pending.items ++ records.old.ready)) []
             (gathering service.new clock.new self.new.gathered.items
             (messages_in self.new.pending.items ++ records.new.ready))) }
         ensures err { OnErr result ((refused : List (List ℕ)) × (refused ≢ [])
-            × AreAnswered (rules (export_of export.now) S.gives S.alike C.tells)
+            × AreAnswered (rules (export_seen export.now) S.gives S.alike C.tells)
             (gathering service.old clock.old self.old.gathered.items
             (messages_in self.old.pending.items ++ records.old.ready)) refused
             (gathering service.new clock.new self.new.gathered.items [])) }
@@ -137,7 +137,7 @@ impl Replies {
         ensures limits { AllByRecursion (λ message. length message ≤ RECORD_LIMIT)
             records.new.ready }
         ensures records { records.new ≡ record records.old { ready = records.new.ready } }
-        ensures serves { S.serves service.new ≡ served_with export.now }
+        ensures serves { S.serves service.new ≡ export_seen export.now }
     {
         self.take(records)?;
         if self.pending.is_empty() {
@@ -205,15 +205,15 @@ impl Replies {
         requires written { self.old.answered.items ≡ [] }
         requires room { deque_len self.old.answered + deque_len self.old.pending
             ≤ deque_capacity self.old.answered }
-        requires serves { S.serves service.old ≡ served_with export.now }
-        ensures ok { OnOk result (AreAnswered (rules (export_of export.now) S.gives S.alike C.tells)
+        requires serves { S.serves service.old ≡ export_seen export.now }
+        ensures ok { OnOk result (AreAnswered (rules (export_seen export.now) S.gives S.alike C.tells)
             (gathering service.old clock.old self.old.gathered.items
             (messages_in self.old.pending.items)) []
             (gathering service.new clock.new
             (waiting_bytes self.new.gathered.items self.new.answered.items)
             (messages_in self.new.pending.items))) }
         ensures err { OnErr result ((refused : List (List ℕ)) × (refused ≢ [])
-            × AreAnswered (rules (export_of export.now) S.gives S.alike C.tells)
+            × AreAnswered (rules (export_seen export.now) S.gives S.alike C.tells)
             (gathering service.old clock.old self.old.gathered.items
             (messages_in self.old.pending.items)) refused
             (gathering service.new clock.new
@@ -223,7 +223,7 @@ impl Replies {
         ensures few { length (waiting_bytes self.new.gathered.items self.new.answered.items)
             ≤ GATHER_ROOM }
         ensures same { self.new.gathered ≡ self.old.gathered }
-        ensures serves { S.serves service.new ≡ served_with export.now }
+        ensures serves { S.serves service.new ≡ export_seen export.now }
     {
         let mut asked = 0;
         let mut waiting = self.gathered.len();

@@ -1,8 +1,8 @@
 ghost use Rattle.std.specs.Prelude.{◌≡◌, ◌+◌, ◌<◌, ◌≤◌, ℕ, IsTrue, IfSome, OnOk, length};
 ghost use Rattle.nfs_xdr.specs.Op.{opnum_of};
 ghost use Rattle.nfs_server.specs.Asking.{Operation, Question, Renewal};
-ghost use Rattle.nfs_server.specs.Serves.{Served};
-ghost use Rattle.nfs_tree.specs.Profile.{has_entry};
+ghost use Rattle.nfs_tree.specs.Exports.{Exported};
+ghost use Rattle.nfs_tree.specs.Profiles.{has_entry};
 ghost use Rattle.nfs_tree.specs.Tree.{node_count};
 ghost use Rattle.nfs_xdr.specs.declared.op_result.OpResult.{OpResult};
 ghost use Rattle.nfs_xdr.specs.OpResult.{op_result};
@@ -22,7 +22,7 @@ pub trait Service {
     /// States of the service that differ at most in their room: the service answers alike in both.
     ghost alike: { Self → Self → Type 0 };
     /// What the service serves: the nodes of the tree, its profile, and the number of the server's run.
-    ghost serves: { Self → Served };
+    ghost serves: { Self → Exported };
     /// For how many questions the service has room.
     ghost room: { Self → ℕ };
 

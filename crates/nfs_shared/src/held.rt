@@ -15,7 +15,7 @@ ghost use Rattle.nfs_state.specs.Entries.{IsFilehandle, resource};
 ghost use Rattle.nfs_state.specs.declared.entry.Call.{Call};
 ghost use Rattle.nfs_state.specs.declared.entry.Entry.TheVariants as entries;
 ghost use Rattle.nfs_words.specs.Desk.{Happens};
-ghost use Rattle.nfs_tree.specs.Profile.{has_entry};
+ghost use Rattle.nfs_tree.specs.Profiles.{has_entry};
 ghost use Rattle.nfs_xdr.specs.Op.{opnum_of};
 ghost use Rattle.nfs_xdr.specs.OpResult.{op_result};
 ghost use Rattle.nfs_xdr.specs.Opnum.{answer_limit};

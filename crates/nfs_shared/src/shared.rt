@@ -24,7 +24,7 @@ ghost use Rattle.nfs_state.specs.Stored.{meaning};
 ghost use Rattle.nfs_state.specs.declared.entry.Entry.TheVariants as entries;
 ghost use Rattle.nfs_words.specs.Calls.{FitsTable, Renews, worker_at};
 ghost use Rattle.nfs_words.specs.Desk.{Happens};
-ghost use Rattle.nfs_tree.specs.Profile.{has_entry};
+ghost use Rattle.nfs_tree.specs.Profiles.{has_entry};
 ghost use Rattle.nfs_xdr.specs.Op.{opnum_of};
 ghost use Rattle.nfs_xdr.specs.OpResult.{op_result};
 ghost use Rattle.nfs_xdr.specs.Opnum.{answer_limit};

@@ -15,7 +15,7 @@ use Rattle.nfs_threads.specs.Holding.{AreAlikeButRoom, GivenBySeat, Holding, Hol
 use Rattle.nfs_threads.specs.Receipts.{AreOfSeat, GainsReceipts, ReceiptsAreQuestions, entries_of}
 use Rattle.nfs_server.specs.laws.Gaining.{IsGain, course_gains, entries_then}
 use Rattle.nfs_xdr.specs.declared.op_result.OpResult.{OpResult}
-use Rattle.nfs_server.specs.Serves.{Exported}
+use Rattle.nfs_tree.specs.Exports.{Exported}
 
 -- where seat and receipts are as they were, questions without entries gained nothing
 gains_none : (old new : Holding) (questions : List Question) (answers : List OpResult) → HoldsTheSame old new → AreEntries questions answers [] → GainsReceipts old questions answers new

@@ -12,12 +12,13 @@ use Rattle.nfs_server.specs.Connection.{HasCourse, scene}
 use Rattle.nfs_server.specs.Device.{Device}
 use Rattle.nfs_server.specs.Exchange.{rules}
 use Rattle.nfs_threads.specs.Holding.{AreAlikeButRoom, GivenBySeat, Holding}
-use Rattle.nfs_server.specs.Serves.{Served, exported}
+use Rattle.nfs_server.specs.Serves.{exported}
+use Rattle.nfs_tree.specs.Exports.{Exported}
 
 -- What is known of links, and of the run that they are served in: what it serves, what each connection gives, how there
 -- may be no further one, and what the calls of their devices and clocks do.
 pub record Linking (L D C : Type 0) : Type 1 where
-  pub served : Served
+  pub served : Exported
   pub opens : L → D → C → L → Type 0
   pub stops : L → L → Type 0
   pub device : Device D
@@ -25,7 +26,7 @@ pub record Linking (L D C : Type 0) : Type 1 where
   pub write_failures : D → ℕ
   pub tells : C → ℕ → C → Type 0
 
-abbrev pub linking : {L D C : Type 0} → Served → (L → D → C → L → Type 0) → (L → L → Type 0) → Device D
+abbrev pub linking : {L D C : Type 0} → Exported → (L → D → C → L → Type 0) → (L → L → Type 0) → Device D
     → (D → ℕ) → (D → ℕ) → (C → ℕ → C → Type 0) → Linking L D C
 linking served opens stops device read_failures write_failures tells = record {
   served = served;

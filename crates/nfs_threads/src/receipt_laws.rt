@@ -8,7 +8,8 @@ ghost use Rattle.nfs_threads.specs.Worker.{IsEndOf, linking};
 ghost use Rattle.nfs_threads.specs.declared.worker_end.WorkerEnd.{WorkerEnd};
 ghost use Rattle.nfs_server.specs.Sides.{device_of};
 ghost use Rattle.nfs_tree.specs.Tree.{Files};
-ghost use Rattle.nfs_server.specs.Serves.{Exported, served_by};
+ghost use Rattle.nfs_server.specs.Serves.{served_by};
+ghost use Rattle.nfs_tree.specs.Exports.{Exported};
 
 use crate::Links;
 use nfs_server::{Clock, Duplex, Sink, Source};

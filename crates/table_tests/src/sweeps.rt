@@ -1,7 +1,7 @@
 //! A sweep between whose look and closing a worker renews the lease. Its other answers are in rows.
 
 ghost use Rattle.std.specs.Prelude.{IfSome, IsTrue};
-ghost use Rattle.nfs_tree.specs.Profile.{has_entry};
+ghost use Rattle.nfs_tree.specs.Profiles.{has_entry};
 ghost use Rattle.nfs_tree.specs.declared.profile.Profile.{Profile};
 
 use crate::renewing::Renewing;

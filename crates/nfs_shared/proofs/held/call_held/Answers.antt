@@ -21,7 +21,7 @@ use Rattle.nfs_shared.specs.Roll.{list_of}
 use Rattle.nfs_shared.specs.declared.receipt.Receipt.{Receipt}
 use Rattle.nfs_state.specs.Entries.{IsFilehandle, entry_of}
 use Rattle.nfs_state.specs.State.{History}
-use Rattle.nfs_tree.specs.Profile.{has_entry}
+use Rattle.nfs_tree.specs.Profiles.{has_entry}
 use Rattle.nfs_state.specs.declared.entry.Call.{Call}
 use Rattle.nfs_state.specs.declared.entry.Entry.{Entry}
 use Rattle.nfs_state.specs.declared.entry.Entry.TheVariants as entries
