@@ -1,0 +1,1 @@
+use Rattle.nfs_rules.proofs.operations.setattr.decide.Goals as goal
