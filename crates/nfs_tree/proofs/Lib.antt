@@ -1,3 +1,4 @@
+pub mod Attributes
 pub mod Builds
 pub mod DocumentNodes
 pub mod Documents
