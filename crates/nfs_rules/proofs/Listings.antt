@@ -7,7 +7,7 @@ use Rattle.std.proofs.lemmas.Bool.{and_right, cases_Bool, eq-eqb, eqb-true, eqb-
 use Rattle.std.proofs.lemmas.List.{length-append, length-drop, length-map, length-take-le, map-append, take_all, take_more, take-append-drop, take-map, take-take}
 use Rattle.std.proofs.lemmas.List.Elements.{All-filter}
 use Rattle.std.proofs.lemmas.List.Folds.{list_any_at}
-use Rattle.std.proofs.lemmas.List.Sums.{sum_by_push, sum_by-take-le}
+use Rattle.std.proofs.lemmas.List.Sums.{sum_by_push, sum_by-cons, sum_by-take-le}
 use Rattle.nfs_forms.specs.Answer.{PlainAnswer}
 use Rattle.nfs_forms.specs.Verifier.{verifier}
 use Rattle.nfs_forms.specs.declared.answer.Answer.TheVariants.{Done, Refused}
@@ -35,10 +35,13 @@ flag_len : (b : Bool) → length (written_flag b) ≡ 4
 unfolding written_number
 flag_len b = refl
 
-links_len : (entries : List DirectoryEntry) → length (flat_map (written_link entry.encoding) entries) ≡ sum_by linked_len entries
-links_len [] = refl
-links_len (e ∷ entries) =
-    omega (arith, length-append (written_link entry.encoding e) (flat_map (written_link entry.encoding) entries), length-append (written_flag true) (entry.encoding e), flag_len true, links_len entries)
+links_len : (f : DirectoryEntry → List ℕ) (entries : List DirectoryEntry) → length (flat_map (written_link f) entries) ≡ sum_by (λ e. 4 + length (f e)) entries
+links_len f [] = refl
+links_len f (e ∷ entries) =
+    let rest : List ℕ = flat_map (written_link f) entries in
+    let whole : length (flat_map (written_link f) (e ∷ entries)) ≡ length (written_link f e) + length rest = length-append (written_link f e) rest in
+    let link : length (written_link f e) ≡ 4 + length (f e) = length-append (written_flag true) (f e) ∙ ap (λ n. n + length (f e)) (flag_len true) in
+    whole ∙ ap (λ n. n + length rest) link ∙ ap (λ n. 4 + length (f e) + n) (links_len f entries) ∙ sym (sum_by-cons (λ e. 4 + length (f e)) e entries)
 
 pub answer_len : (entries : List DirectoryEntry) (eof : Bool) → length (readdir_ok.encoding (record { verifier = no_verifier; entries = entries; eof = eof })) ≡ 16 + sum_by linked_len entries
 unfolding readdir_ok verifier
@@ -51,7 +54,7 @@ answer_len entries eof =
       length-append links (written_flag false),
       flag_len false,
       flag_len eof,
-      links_len entries,
+      links_len entry.encoding entries,
     )
 
 beginning_len : (entries : List DirectoryEntry) (number : ℕ) → length (readdir_ok.encoding (beginning entries number)) ≡ 16 + sum_by linked_len (take number entries)
