@@ -16,8 +16,8 @@ abbrev pub end_of : FileChange → ℕ
 end_of (Writes offset block) = offset + length block
 end_of (Cuts size) = size
 
--- The change can be made by these pages, in a file whose pages have these bytes: a block is in the pages that come in the
--- place of others, and with a size that is set the file ends in a page in which zeros stand behind it.
+-- The change can be made by these pages, in a file whose pages have these bytes: a block is in the pages that come in
+-- the place of others, and with a size that is set the file ends in a page in which zeros stand behind it.
 abbrev pub ComesWith : List ℕ → FileChange → List ℕ → Type 0
 ComesWith all (Writes offset block) pages =
     (offset + length block ≤ length all)

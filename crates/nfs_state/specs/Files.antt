@@ -1,5 +1,5 @@
--- The files' contents: what a READ gives of them, and what changes by a WRITE or by a size that is set (RFC 7530, sections
--- 5.8.1, 16.23, 16.32 and 16.36).
+-- The files' contents: what a READ gives of them, and what changes by a WRITE or by a size that is set (RFC 7530,
+-- sections 5.8.1, 16.23, 16.32 and 16.36).
 use Rattle.std.specs.Prelude.{ℕ, ◌≡◌, ◌<◌, ◌+◌, ◌-◌, ◌^◌, ◌==◌, Bool, min, nat_le, List, [], ◌++◌, drop, find, length, map, replicate, take, Option, Some, None, if◌then◌else◌}
 use Rattle.std.specs.List.{AllByRecursion}
 use Rattle.nfs_state.specs.declared.file_change.FileChange.{FileChange}

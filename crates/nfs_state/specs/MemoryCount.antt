@@ -73,7 +73,7 @@ op_len (ops.Write args) = length args.bytes
 op_len (ops.ReleaseLockowner args) = length args.owner.name
 op_len op = 0
 
--- what a READ takes for so many bytes from the offset on: a copy of them, unless they are a part of a page that they share
+-- what a READ takes for so many bytes from the offset on: a copy, unless they are a part of a page that they share
 abbrev pub read_len : ℕ → ℕ → ℕ
 read_len offset len = if is_shared offset len then 0 else len
 
@@ -106,7 +106,7 @@ size_asked (Ok asked) values = size_if_set (size_set asked values)
 abbrev pub size_of : Fattr → Option ℕ
 size_of attributes = size_asked (settable_of attributes.mask) attributes.values
 
--- an entry of a directory, as it stands in a listing: its name with padding, its attributes, and what stands before these
+-- an entry of a directory, as it stands in a reply: its name with padding, its attributes, and what is before these
 abbrev pub listed_len : DirectoryEntry → ℕ
 listed_len e = LISTED_LEN + length e.name + padding_of (length e.name) + attributes_len e.attributes
 

@@ -110,8 +110,8 @@ HasOwnerPlace (owner_changes.Drops name) state = ⊤
 
 -- The numbers that the change gives are left: a client number of a newcomer's slot, a confirm value, and state numbers, two
 -- for an OPEN; a client's record that it adds fits those that are there, the runs of a lock state aren't too many after
--- it, and the bytes that it writes, or a size that it sets, end within the limit of a file. (How many states there may be
--- is judged by the rules.)
+-- it, and the bytes that it writes, or a size that it sets, end within the limit of a file. (How many states there may
+-- be is judged by the rules.)
 abbrev pub IsWithinLimits : Change → State → Type 0
 IsWithinLimits (changes.Clients change) state =
     HasNumbersFor change state.clients × FitsRecords change state.clients

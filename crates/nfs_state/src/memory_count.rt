@@ -13,7 +13,7 @@ use xdr::padding_of;
 /// How many bytes an entry counts beside those that its operation and its answer have of their own.
 pub const ENTRY_LEN: u64 = 320;
 
-/// How many bytes an entry of a listing counts beside its name and its attributes: a flag, its cookie and three lengths.
+/// How many bytes an entry of a listing counts beside its name and attributes: a flag, its cookie and three lengths.
 pub const LISTED_LEN: u64 = 24;
 
 /// How much memory the entries of a journal are counted to take, and how much they may.
@@ -284,7 +284,7 @@ fn listed_len(entry: &DirectoryEntry) -> u64
         .saturating_add(attributes_len(&entry.attributes))
 }
 
-// What a READ takes for so many bytes from the offset on: a copy of them, unless they are a part of a page that they share.
+// What a READ takes for so many bytes from the offset on: a copy, unless they are a part of a page that they share.
 fn read_len(offset: u64, len: u64) -> u64
     ensures { result ≡ read_len offset len }
 {

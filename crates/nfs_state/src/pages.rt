@@ -133,8 +133,8 @@ impl Pages {
         Ok(Pages { pages })
     }
 
-    // The page in which the bytes end if there are so many, with zeros behind them: the page that is there if only zeros
-    // stand behind them already, and else another one.
+    // The page in which the bytes end if there are so many, with zeros behind them: the page that is there if only
+    // zeros stand behind them already, and else another one.
     fn end_page(
         &self,
         zeros: &SharedBytes,

@@ -36,8 +36,8 @@ impl Request {
         })
     }
 
-    /// Whether the request can be asked under this profile, where the tree has so many nodes: its operation has an entry
-    /// in the journal, and its filehandle, if there is one, is that of a node.
+    /// Whether the request can be asked under this profile, where the tree has so many nodes: its operation has an
+    /// entry in the journal, and its filehandle, if there is one, is that of a node.
     pub fn can_be_asked(&self, profile: Profile, nodes: u32) -> bool
         ensures { result ≡ can_be_asked profile nodes self.now }
     {

@@ -192,7 +192,7 @@ fn pages_of(alloc: Global, zeros: &SharedBytes, text: &[u8]) -> Result<Pages, Al
     Ok(pages)
 }
 
-// Makes the pages that come with a change of a file that uses so many of its bytes, and adds zeros where it gets longer.
+// Makes the pages that come with a change of a file that uses so many bytes, and adds zeros where it gets longer.
 fn prepare(
     pages: &mut Pages,
     zeros: &SharedBytes,

@@ -101,8 +101,8 @@ impl StoredFiles {
         }
     }
 
-    /// Sets the size of the node's file (RFC 7530, section 16.32), for which there has to be room: the bytes behind it are
-    /// gone, and zeros come where there are fewer. It takes no memory.
+    /// Sets the size of the node's file (RFC 7530, section 16.32), for which there has to be room: the bytes behind it
+    /// are gone, and zeros come where there are fewer. It takes no memory.
     pub(crate) fn cut(&mut self, node: u32, size: u64)
         requires limit { size ≤ TEXT_LIMIT }
         requires room { HasFileRoom node (FileChange.Cuts size) self.old }
