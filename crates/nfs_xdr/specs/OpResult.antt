@@ -53,7 +53,7 @@ without_rule o (Some change) = change_case change
 without_rule o None = case (constant 10004) (λ v. results.Unsupported o)
 
 -- the result of an operation without a rule that is refused with the given status
-abbrev refused_change : Option DirectoryChange → UnsupportedOp → OpResult
+abbrev pub refused_change : Option DirectoryChange → UnsupportedOp → OpResult
 refused_change (Some change) o = results.ReadOnly change
 refused_change None o = results.Unsupported o
 

@@ -226,7 +226,7 @@ impl Bounded for SetattrResult {
 
     ghost IsShort = { SetsFew };
 
-    #[tactic(auto, using(nfs_forms::proofs::Words::words_len, crate::proofs::Refusals::refusal_fits), unfolding(nfs_operations::specs::Setattr::result, nfs_forms::specs::Status::status, xdr::specs::Writing::written_number))]
+    #[tactic(auto, using(nfs_forms::proofs::Words::words_len, crate::proofs::Refusals::status_fits), unfolding(nfs_operations::specs::Setattr::result, nfs_forms::specs::Status::status, xdr::specs::Writing::written_number))]
     fn fits(&self) {}
 }
 
@@ -270,7 +270,7 @@ impl<T: Bounded, D: Bounded, C: Bounded> Bounded for Answer<T, D, C> {
 
 impl OpResult {
     /// The law that the result fits its form and the room of its operation, if what its type doesn't bound is short.
-    #[tactic(auto, using(crate::proofs::Refusals::unsupported_fits, crate::proofs::Refusals::unsupported_len), unfolding(crate::specs::OpResult::op_result, crate::specs::Opnum::opnum, xdr::specs::Writing::written_number))]
+    #[tactic(auto, using(crate::proofs::Refusals::unsupported_fits, crate::proofs::Refusals::unsupported_len, crate::proofs::Refusals::read_only_fits, crate::proofs::Refusals::read_only_len), unfolding(crate::specs::OpResult::op_result, crate::specs::Opnum::opnum, xdr::specs::Writing::written_number))]
     pub fn fits(&self)
         requires short { IsShort self.now }
         ensures form { op_result.Fits self.now }

@@ -197,7 +197,7 @@ impl OpResult {
 impl Opnum {
     /// The result of the operation if it is refused with this status. An operation without a rule is refused with
     /// NFS4ERR_ROFS where it would change a directory and that is the status, and otherwise with NFS4ERR_NOTSUPP.
-    #[tactic(auto, using(crate::proofs::Refusals::unsupported_fits, crate::proofs::Refusals::unsupported_len, crate::proofs::Refusals::refusal_fits), unfolding(crate::specs::OpResult::op_result, crate::specs::Opnum::opnum, nfs_forms::specs::Answer::answer, nfs_forms::specs::Status::status, xdr::specs::Writing::written_number))]
+    #[tactic(auto, using(crate::proofs::Refusals::refused_fits, crate::proofs::Refusals::refused_len, crate::proofs::Refusals::refusal_fits), unfolding(nfs_operations::specs::Setattr::result, crate::specs::OpResult::op_result, crate::specs::Opnum::opnum, nfs_forms::specs::Answer::answer, nfs_forms::specs::Status::status, xdr::specs::Writing::written_number))]
     pub fn refusal(self, refusal: Refusal) -> OpResult
         ensures value { result ≡ refusal_of self refusal }
         ensures form { results.op_result.Fits result }
@@ -241,6 +241,7 @@ fn read_unsupported(op: Unsupported, bytes: &[u8]) -> Result<(OpResult, &[u8]), 
     }
 }
 
+#[tactic(auto, unfolding(xdr::specs::Reading::value_at))]
 fn read_refused_change(
     change: DirectoryChange,
     bytes: &[u8],
@@ -272,6 +273,7 @@ impl Wire for OpResult {
 }
 
 // Writes NFS4ERR_NOTSUPP.
+#[tactic(auto, using(crate::proofs::Refusals::unsupported_encoding, crate::proofs::Refusals::unsupported_fits))]
 fn write_unsupported(out: &mut Vec<u8>, op: Unsupported) -> Result<(), WireError>
     ensures { Writes out.old out.new result
         (results.op_result.encoding (made.Unsupported op))
@@ -281,6 +283,7 @@ fn write_unsupported(out: &mut Vec<u8>, op: Unsupported) -> Result<(), WireError
 }
 
 // Writes NFS4ERR_ROFS.
+#[tactic(auto, using(crate::proofs::Refusals::read_only_encoding, crate::proofs::Refusals::read_only_fits))]
 fn write_read_only(out: &mut Vec<u8>, change: DirectoryChange) -> Result<(), WireError>
     ensures { Writes out.old out.new result
         (results.op_result.encoding (made.ReadOnly change))
@@ -290,7 +293,7 @@ fn write_read_only(out: &mut Vec<u8>, change: DirectoryChange) -> Result<(), Wir
 }
 
 impl Measure for OpResult {
-    #[tactic(auto, unfolding(crate::specs::OpResult::op_result, crate::specs::Opnum::opnum, xdr::specs::Writing::written_number))]
+    #[tactic(auto, using(crate::proofs::Refusals::unsupported_len, crate::proofs::Refusals::read_only_len), unfolding(crate::specs::OpResult::op_result, crate::specs::Opnum::opnum, xdr::specs::Writing::written_number))]
     fn written_len(&self) -> usize {
         each_operation!(
             of_answer self, answer => 4 + answer.written_len();
