@@ -57,6 +57,7 @@ pub struct Listing {
 
 impl Model for Listing {
     ghost use Rattle.std.specs.Prelude.{List};
+    ghost use Rattle.nfs_operations.specs.declared.readdir.DirectoryEntry.{DirectoryEntry};
 
     ghost Value = { List DirectoryEntry };
 
