@@ -42,8 +42,7 @@ timed_other size times.Client = λ e. cc
 
 values_other : (read : Read (Option ℕ × SetTime)) → IsOther (size_of_values read)
 values_other (Err e) = λ e. cc
-values_other (Ok ((size, time), [])) = timed_other size time
-values_other (Ok ((size, time), byte ∷ rest)) = λ e. cc
+values_other (Ok ((size, time), rest)) = else_other _ _ refusals.BadXdr (timed_other size time) (λ e. cc)
 
 wish_other : (filehandle : Option ℕ) (attributes : Fattr) → IsOther (wish_of filehandle attributes)
 wish_other filehandle attributes =

@@ -78,13 +78,14 @@ second_few profiles.Clients = omega arith
 
 all_len : (s : Subject) (words : Words) → length (values_of s words) ≤ 512
 all_len s words =
-    omega
-    (arith,
-     length-append (values_in s words.first (first_attributes s.profile)) (values_in s words.second (second_attributes s.profile)),
-     values_len s words.first (first_attributes s.profile),
-     values_len s words.second (second_attributes s.profile),
-     first_few s.profile,
-     second_few s.profile)
+    omega (
+      arith,
+      length-append (values_in s words.first (first_attributes s.profile)) (values_in s words.second (second_attributes s.profile)),
+      values_len s words.first (first_attributes s.profile),
+      values_len s words.second (second_attributes s.profile),
+      first_few s.profile,
+      second_few s.profile,
+    )
 
 mask_written : (words : List ℕ) → length words ≤ 2 → length (flat_map written_u32 words) ≤ 8
 unfolding written_number
@@ -142,7 +143,12 @@ attributes_fit s words =
     let few : length (attributes_of s words).values ≤ 512 = all_len s (common (words_of words) (readable s.profile)) in
     ((omega (arith, mask.0), omega (arith, mask.0), mask.1), (omega (arith, few), omega (arith, few)))
 
-pub attributes_short : (f : Fattr) (s : Subject) (words : List ℕ) → f ≡ attributes_of s words → AreFewAttributes f
-attributes_short f s words is =
-    subst AreFewAttributes (sym is)
-    (attributes_fit s words, told_len (attributes_of s words) (asked_is_mask s.profile words).0 (all_len s (common (words_of words) (readable s.profile))))
+attributes_short : (s : Subject) (asked : List ℕ) → AreFewAttributes (attributes_of s asked)
+attributes_short s asked =
+    (attributes_fit s asked, told_len (attributes_of s asked) (asked_is_mask s.profile asked).0 (all_len s (common (words_of asked) (readable s.profile))))
+
+pub few_attributes : (mask values : List ℕ) (s : Subject) (asked : List ℕ) (words : Words)
+    → words ≡ common (words_of asked) (readable s.profile) → mask ≡ mask_of words → values ≡ values_of s words
+    → AreFewAttributes (record { mask = mask; values = values })
+few_attributes mask values s asked words words-is mask-is values-is =
+    rw (mask-is, values-is, words-is) (attributes_short s asked)

@@ -31,7 +31,7 @@ found_answers : (old : Filehandles) (found : Result ℕ Refusal) → Answers opn
 found_answers old (Err refusal) = (tt, refl)
 found_answers old (Ok node) = (tt, refl)
 
-lookup_answers : (nodes : List Node) (old : Filehandles) (current : Option ℕ) (name : List ℕ) → Answers opnums.Lookup (lookup_at tree old current name)
+lookup_answers : (nodes : List Node) (old : Filehandles) (current : Option ℕ) (name : List ℕ) → Answers opnums.Lookup (lookup_at nodes old current name)
 lookup_answers nodes old None name = (tt, refl)
 lookup_answers nodes old (Some node) name = found_answers old (resolution nodes node name)
 

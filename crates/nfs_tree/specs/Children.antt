@@ -1,5 +1,5 @@
 -- The children of a directory, in the order of a listing (RFC 7530, section 16.24).
-use Rattle.std.specs.Prelude.{ℕ, suc, ◌+◌, ◌==◌, nat_lt, Bool, ◌||◌, if◌then◌else◌, List, [], ◌∷◌, filter, Option, Some, None}
+use Rattle.std.specs.Prelude.{ℕ, suc, ◌+◌, ◌==◌, nat_lt, Bool, ◌&&◌, ◌||◌, if◌then◌else◌, List, [], ◌∷◌, ◌++◌, filter, Option, Some, None}
 use Rattle.std.specs.List.{list_any}
 use Rattle.nfs_tree.specs.declared.node.Node.{Node}
 use Rattle.nfs_tree.specs.Tree.{node_at}
@@ -26,6 +26,16 @@ is_cookie nodes directory cookie =
 abbrev pub children_after : List Node → ℕ → ℕ → List ℕ
 children_after nodes directory cookie =
     filter (λ child. nat_lt cookie (cookie_of child)) (children_of nodes directory)
+
+-- the same, found in one pass over the nodes, which are numbered from `number` on
+abbrev pub listed : ℕ → Node → ℕ → ℕ → List ℕ
+listed number node directory cookie =
+    if (node.parent == directory) && nat_lt cookie (cookie_of number) then number ∷ [] else []
+
+abbrev pub listed_from : ℕ → List Node → ℕ → ℕ → List ℕ
+listed_from number [] directory cookie = []
+listed_from number (node ∷ nodes) directory cookie =
+    listed number node directory cookie ++ listed_from (number + 1) nodes directory cookie
 
 -- the name of a node; the root has none
 abbrev pub name_of_node : Option Node → List ℕ

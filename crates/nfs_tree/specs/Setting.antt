@@ -83,8 +83,8 @@ size_timed size times.Client = Err refusals.Rofs
 
 abbrev pub size_of_values : Read (Option ℕ × SetTime) → Result (Option ℕ) Refusal
 size_of_values (Err e) = Err refusals.BadXdr
-size_of_values (Ok ((size, time), [])) = size_timed size time
-size_of_values (Ok ((size, time), byte ∷ rest)) = Err refusals.BadXdr
+size_of_values (Ok ((size, time), rest)) =
+    if length rest == 0 then size_timed size time else Err refusals.BadXdr
 
 abbrev pub size_set : Settable → List ℕ → Result (Option ℕ) Refusal
 size_set asked values = size_of_values ((size_at asked.size then time_at asked.time) values)

@@ -1,4 +1,4 @@
-ghost use Rattle.std.specs.Prelude.{◌≡◌, IfOk, get_or};
+ghost use Rattle.std.specs.Prelude.{◌≡◌, IfOk, IsOk, get_or};
 ghost use Rattle.nfs_tree.specs.Attributes.{bit_of, common, first_attributes, is_readable, mask_of, readable, second_attributes, supported, words_of};
 
 use crate::Profile;
@@ -142,9 +142,10 @@ impl Words {
         }
     }
 
-    /// A bitmap of these words, without a word that is 0 at its end.
+    /// A bitmap of these words, without a word that is 0 at its end. It takes no memory.
     pub(crate) fn mask(self, alloc: Global) -> Result<Bitmap, AllocError>
-        ensures { IfOk result (λ b. b ≡ mask_of self) }
+        ensures mask { IfOk result (λ b. b ≡ mask_of self) }
+        ensures made { IsOk result }
     {
         if self.second != 0 {
             return Bitmap::copy_of(alloc, &[self.first, self.second]);

@@ -1,8 +1,9 @@
-ghost use Rattle.std.specs.Prelude.{◌≡◌, ◌≤◌, ◌-◌, IfOk, length};
+ghost use Rattle.std.specs.Prelude.{◌≡◌, ◌≤◌, ◌-◌, ◌++◌, IfOk, OnOk, length};
 ghost use Rattle.std.specs.Option.{option_copied};
-ghost use Rattle.nfs_tree.specs.Children.{children_after, cookie_of, is_cookie, name_of};
+ghost use Rattle.nfs_tree.specs.Children.{children_after, cookie_of, is_cookie, listed, listed_from, name_of};
 ghost use Rattle.nfs_tree.specs.Tree.{node_at};
 
+use crate::tree::node_among;
 use crate::{NAME_LIMIT, Node, Tree};
 use std::alloc::{AllocError, Global};
 
@@ -16,13 +17,7 @@ impl Tree {
     ) -> Result<Vec<u32>, AllocError>
         ensures { IfOk result (λ v. v.items ≡ children_after self.now.nodes directory cookie) }
     {
-        let mut children = Vec::new(alloc);
-        for place in 0..self.nodes.len() {
-            let number = place as u32 + 1;
-            if self.nodes[place].parent == directory && cookie < Tree::cookie_of(number) {
-                children.push(number)?;
-            }
-        }
+        let children = children_among(alloc, self.nodes.as_slice(), directory, cookie)?;
         Ok(children)
     }
 
@@ -37,10 +32,13 @@ impl Tree {
     pub fn is_cookie(&self, directory: u32, cookie: u64) -> bool
         ensures { result ≡ is_cookie self.now.nodes directory cookie }
     {
-        cookie == 0
-            || self
-                .node_of_cookie(cookie)
-                .is_some_and(|node| node.parent == directory)
+        if cookie == 0 {
+            return true;
+        }
+        match self.node_of_cookie(cookie) {
+            Some(node) => node.parent == directory,
+            None => false,
+        }
     }
 
     // The node that has a cookie, if there is one other than the root.
@@ -56,9 +54,46 @@ impl Tree {
         ensures name { result.now ≡ name_of self.now.nodes node }
         ensures short { length result.now ≤ NAME_LIMIT }
     {
-        match self.node(node) {
+        match node_among(self.nodes.as_slice(), node) {
             Some(node) => node.name.as_slice(),
             None => &[],
         }
     }
+}
+
+// The same children among these nodes.
+fn children_among(
+    alloc: Global,
+    nodes: &[Node],
+    directory: u32,
+    cookie: u64,
+) -> Result<Vec<u32>, AllocError>
+    requires { length nodes.now ≤ 128 }
+    ensures { IfOk result (λ v. v.items ≡ listed_from 1 nodes.now directory cookie) }
+{
+    let mut children = Vec::new(alloc);
+    let mut number = 1;
+    for node in nodes {
+        add_child(&mut children, number, node, directory, cookie)?;
+        number += 1;
+    }
+    Ok(children)
+}
+
+// Adds the number of a node that is such a child.
+fn add_child(
+    children: &mut Vec<u32>,
+    number: u32,
+    node: &Node,
+    directory: u32,
+    cookie: u64,
+) -> Result<(), AllocError>
+    ensures { OnOk result (children.new.items
+        ≡ children.old.items ++ listed number node.now directory cookie) }
+{
+    if node.parent != directory || cookie >= Tree::cookie_of(number) {
+        return Ok(());
+    }
+    children.push(number)?;
+    Ok(())
 }

@@ -42,7 +42,7 @@ impl Settable {
         ensures { result ≡ settable_of mask.now }
     {
         let asked = Words::of(mask);
-        if !are_among(asked, Words::supported()) || !are_zeros(mask) {
+        if !are_among(asked, Words::supported()) || !is_over(mask) {
             return Err(Refusal::AttrNotSupp);
         }
         if !are_among(asked, WRITABLE) {
@@ -101,13 +101,20 @@ fn are_among(asked: Words, known: Words) -> bool
 }
 
 // Whether the words of a bitmap behind its first two are 0.
-fn are_zeros(mask: &[u32]) -> bool
+#[tactic(auto, using(crate::proofs::Masks::none_behind))]
+fn is_over(mask: &[u32]) -> bool
     ensures { result ≡ list_all (λ word. word == 0) (drop 2 mask.now) }
 {
-    match mask.get(2..) {
-        Some(rest) => rest.iter().all(|word| *word == 0),
-        None => true,
+    if mask.len() <= 2 {
+        return true;
     }
+    are_zeros(&mask[2..])
+}
+
+fn are_zeros(words: &[u32]) -> bool
+    ensures { result ≡ list_all (λ word. word == 0) words.now }
+{
+    words.iter().all(|word| *word == 0)
 }
 
 // Reads a size, where one is set.

@@ -48,10 +48,9 @@ impl Subject {
         ensures few { IfOk result (λ f. AreFewAttributes f) }
     {
         let words = Words::of(mask).common(self.profile.readable());
-        Ok(Fattr {
-            mask: words.mask(alloc)?,
-            values: values_of(alloc, self, words)?,
-        })
+        let mask = words.mask(alloc)?;
+        let values = values_of(alloc, self, words)?;
+        Ok(Fattr { mask, values })
     }
 
     // A number that belongs to a file, or 0 for a directory.
