@@ -1,14 +1,15 @@
 -- Listings: how long their answers are, which entries fit, and that READDIR by READDIR gives each child once.
-use Rattle.std.proofs.Common.{◌≡◌, ◌∙◌, ℕ, ◌+◌, ◌-◌, ◌<◌, ◌≤◌, zero, suc, Bool, true, false, cond, List, [], ◌∷◌, ◌++◌, length, get_or, take, drop, map, Option, Some, None, Result, Ok, Err, refl, sym, ap, subst, inl, inr, arith}
+use Rattle.std.proofs.Common.{◌≡◌, ◌∙◌, ℕ, ◌+◌, ◌-◌, ◌<◌, ◌≤◌, ◌^◌, zero, suc, Bool, true, false, cond, List, [], ◌∷◌, ◌++◌, length, get_or, take, drop, map, Option, Some, None, Result, Ok, Err, refl, sym, ap, subst, inl, inr, arith}
 use Rattle.std.specs.Prelude.{◌==◌, ◌&&◌, ◌||◌, filter, min, nat_le, nat_lt, not, IsFalse, IsTrue, if◌then◌else◌}
 use Rattle.std.specs.List.{All, AllByRecursion, flat_map, list_any, sum_by}
 use Rattle.std.specs.Str.{bytes_eq}
 use Rattle.std.proofs.lemmas.Bool.{and_right, cases_Bool, eq-eqb, eqb-true, eqb-false, le-leb, leb-false, leb-true, lt-leb, ne_eqb, not-false}
-use Rattle.std.proofs.lemmas.List.{length-append, length-drop, length-map, length-take-le, map-append, take_all, take_more, take-append-drop, take-map, take-take}
+use Rattle.std.proofs.lemmas.List.{length-append, length-drop, length-map, length-take, length-take-le, map-append, take_all, take_more, take-append-drop, take-map, take-take}
 use Rattle.std.proofs.lemmas.List.Elements.{All-filter}
 use Rattle.std.proofs.lemmas.List.Folds.{list_any_at}
 use Rattle.std.proofs.lemmas.List.Sums.{sum_by_push, sum_by-cons, sum_by-take-le}
 use Rattle.nfs_forms.specs.Answer.{PlainAnswer}
+use Rattle.nfs_forms.specs.Fattr.{fattr}
 use Rattle.nfs_forms.specs.Verifier.{verifier}
 use Rattle.nfs_forms.specs.declared.answer.Answer.TheVariants.{Done, Refused}
 use Rattle.nfs_forms.specs.declared.status.Refusal.{Refusal}
@@ -27,8 +28,9 @@ use Rattle.nfs_tree.specs.Attributes.{is_readable}
 use Rattle.nfs_tree.specs.Children.{children_after, children_of, cookie_of, is_cookie, name_of}
 use Rattle.nfs_tree.specs.Tree.{is_directory}
 use Rattle.nfs_tree.specs.declared.node.Node.{Node}
-use Rattle.nfs_xdr.specs.Short.{AreFewEntries}
-use Rattle.xdr.specs.Writing.{written_flag, written_link, written_number}
+use Rattle.nfs_xdr.specs.Short.{AreFewAttributes, AreFewEntries}
+use Rattle.xdr.specs.Layout.{padding_of}
+use Rattle.xdr.specs.Writing.{written_flag, written_link, written_number, written_opaque, written_u64, zeros}
 
 -- An answer has sixteen bytes beside its entries: its verifier, the end of their list, and eof.
 flag_len : (b : Bool) → length (written_flag b) ≡ 4
@@ -125,6 +127,34 @@ pub answer_short : (maxcount room : ℕ) (all given : List DirectoryEntry) (eof 
 unfolding readdir_ok verifier
 answer_short maxcount room all given eof limit longest =
     ((refl, (longest.form, tt)), omega (arith, answer_len given eof, longest.within))
+
+-- A child's entry fits its form, and is short.
+pub entry_fits : (e : DirectoryEntry) → e.cookie < 2 ^ 64 → length e.name ≤ 255 → AreFewAttributes e.attributes → entry.Fits e
+unfolding entry
+entry_fits e cookie name few = (cookie, ((omega (arith, name), omega (arith, name)), few.0))
+
+name_len : (name : List ℕ) → length (written_opaque name) ≤ 8 + length name
+unfolding written_number written_opaque
+name_len name =
+    let pad : length (zeros (padding_of (length name))) ≤ 4 = omega (arith, length-take {A = ℕ} (padding_of (length name)) (0 ∷ 0 ∷ 0 ∷ 0 ∷ [])) in
+    simp length-append (omega (arith, pad))
+
+cookie_len : (cookie : ℕ) → length (written_u64 cookie) ≡ 8
+unfolding written_number
+cookie_len cookie = refl
+
+pub entry_len : (e : DirectoryEntry) → length e.name ≤ 255 → AreFewAttributes e.attributes → length (entry.encoding e) ≤ 2_048
+unfolding entry
+entry_len e name few =
+    omega (
+      arith,
+      length-append (written_u64 e.cookie) (written_opaque e.name ++ fattr.encoding e.attributes),
+      length-append (written_opaque e.name) (fattr.encoding e.attributes),
+      cookie_len e.cookie,
+      name_len e.name,
+      name,
+      few.1,
+    )
 
 -- Of the entries of some children, where the next one doesn't fit.
 pub stopped : (entry_of : ℕ → DirectoryEntry) (children : List ℕ) (i room left : ℕ) (given : List DirectoryEntry) (e : DirectoryEntry) → given ≡ map entry_of (take i children)

@@ -1,23 +1,39 @@
--- What is decided for a SETATTR can be sent.
-use Rattle.std.proofs.Common.{◌≡◌, ◌≢◌, ℕ, zero, suc, ◌<◌, ◌≤◌, ◌^◌, Bool, true, false, List, [], ◌∷◌, length, Option, Some, None, Result, Ok, Err, refl, sym, subst, arith}
-use Rattle.std.specs.Prelude.{if◌then◌else◌}
+-- What is decided for a SETATTR is what its rule says, and can be sent.
+use Rattle.std.proofs.Common.{◌≡◌, ◌≢◌, ◌∙◌, ℕ, zero, suc, ◌<◌, ◌≤◌, ◌^◌, Bool, true, false, List, [], ◌∷◌, length, Option, Some, None, Result, Ok, Err, refl, sym, ap, subst, arith}
+use Rattle.std.specs.Prelude.{◌||◌, nat_lt, if◌then◌else◌}
 use Rattle.std.specs.List.{All}
-use Rattle.std.proofs.lemmas.Bool.{cond_both}
+use Rattle.std.proofs.lemmas.Bool.{le-ltb, lt-ltb}
+use Rattle.std.proofs.lemmas.List.Elements.{All-nil}
 use Rattle.nfs_forms.specs.Bitmap.{bitmap}
 use Rattle.nfs_forms.specs.declared.fattr.Fattr.{Fattr}
 use Rattle.nfs_forms.specs.declared.status.Refusal.{Refusal}
 use Rattle.nfs_forms.specs.declared.status.Refusal.TheVariants as refusals
-use Rattle.nfs_rules.specs.Deciding.{IsOther}
+use Rattle.nfs_forms.specs.declared.status.Status.TheVariants as statuses
+use Rattle.nfs_operations.specs.declared.setattr.Setattr.{Setattr}
+use Rattle.nfs_rules.specs.Deciding.{Decides, IsOther}
+use Rattle.nfs_rules.specs.Transfers.{file_for, refused}
+use Rattle.nfs_rules.specs.declared.decision.Decision.{Decision}
 use Rattle.nfs_rules.specs.declared.operations.setattr.Wish.{Wish}
-use Rattle.nfs_rules.specs.operations.Setattr.{wish_of}
-use Rattle.nfs_rules.proofs.Sendable.{file_place_other, then_other}
+use Rattle.nfs_rules.specs.declared.transfer.Transfer.TheVariants as transfers
 use Rattle.nfs_rules.specs.operations.Lockt.{place_of}
-use Rattle.nfs_tree.specs.Attributes.{words_of}
+use Rattle.nfs_rules.specs.operations.Setattr.{granted, rule, set, setting, size_for, wish_of}
+use Rattle.nfs_rules.proofs.Sendable.{file_place_other, then_other}
+use Rattle.nfs_rules.proofs.Transferring.{file_refusal, refused_is}
+use Rattle.nfs_state.specs.Entries.{IsSendable}
+use Rattle.nfs_state.specs.State.{State, History}
+use Rattle.nfs_state.specs.declared.change.Change.{Change}
+use Rattle.nfs_state.specs.declared.change.Change.TheVariants.{Nothing, Cuts}
+use Rattle.nfs_state.specs.declared.request.Request.{Request}
+use Rattle.nfs_tree.specs.Attributes.{bit_of, mask_of, words_of}
+use Rattle.nfs_tree.specs.declared.attribute.Attribute.TheVariants as attributes
 use Rattle.nfs_tree.specs.Setting.{mask_set, settable_of, settable_words, size_of_values, size_set, size_timed}
 use Rattle.nfs_tree.specs.declared.attribute.Words.{Words}
 use Rattle.nfs_tree.specs.declared.settable.SetTime.{SetTime}
 use Rattle.nfs_tree.specs.declared.settable.SetTime.TheVariants as times
 use Rattle.nfs_tree.specs.declared.settable.Settable.{Settable}
+use Rattle.nfs_tree.specs.declared.tree.TheConstants.{TEXT_LIMIT}
+use Rattle.nfs_xdr.specs.OpResult.{status_of}
+use Rattle.nfs_xdr.specs.declared.op.Op.TheVariants as ops
 use Rattle.xdr.specs.Reading.{Read}
 
 -- no refusal of what is asked for is NFS4ERR_RESOURCE
@@ -44,11 +60,103 @@ values_other : (read : Read (Option ℕ × SetTime)) → IsOther (size_of_values
 values_other (Err e) = λ e. cc
 values_other (Ok ((size, time), rest)) = else_other _ _ refusals.BadXdr (timed_other size time) (λ e. cc)
 
-wish_other : (filehandle : Option ℕ) (attributes : Fattr) → IsOther (wish_of filehandle attributes)
-wish_other filehandle attributes =
+wish_other : (filehandle : Option ℕ) (given : Fattr) → IsOther (wish_of filehandle given)
+wish_other filehandle given =
     then_other (place_of filehandle) _ (file_place_other filehandle) λ node.
-    then_other (settable_of attributes.mask) _ (settable_other attributes.mask) λ asked.
-    then_other (size_set asked attributes.values) _ (values_other _) (λ size. tt)
+    then_other (settable_of given.mask) _ (settable_other given.mask) λ asked.
+    then_other (size_set asked given.values) _ (values_other _) (λ size. tt)
 
-pub wish_refusal : (filehandle : Option ℕ) (attributes : Fattr) (refusal : Refusal) → Err refusal ≡ wish_of filehandle attributes → refusal ≢ refusals.Resource
-wish_refusal filehandle attributes refusal same = subst IsOther (sym same) (wish_other filehandle attributes)
+wish_refusal : (filehandle : Option ℕ) (given : Fattr) (refusal : Refusal) → Err refusal ≡ wish_of filehandle given → refusal ≢ refusals.Resource
+wish_refusal filehandle given refusal same = subst IsOther (sym same) (wish_other filehandle given)
+
+-- The bitmap of what is set has at most two words.
+one_word : (word : ℕ) → word < 2 ^ 32 → All (λ w. w < 2 ^ 32) (word ∷ [])
+one_word word small zero d lt = small
+one_word word small (suc k) d lt = absurd (omega (arith, lt))
+
+two_words : (first second : ℕ) → first < 2 ^ 32 → second < 2 ^ 32 → All (λ w. w < 2 ^ 32) (first ∷ second ∷ [])
+two_words first second small other zero d lt = small
+two_words first second small other (suc zero) d lt = other
+two_words first second small other (suc (suc k)) d lt = absurd (omega (arith, lt))
+
+abbrev mask_bits : Bool → Bool → List ℕ
+mask_bits size time = mask_of
+    (record {
+      first = if size then bit_of attributes.Size else 0;
+      second = if time then bit_of attributes.TimeModifySet else 0;
+    })
+
+few_bits : (size time : Bool) → bitmap.Fits (mask_bits size time) × (length (mask_bits size time) ≤ 2)
+unfolding bitmap
+few_bits false false = ((omega arith, omega arith, All-nil (λ w. w < 2 ^ 32)), omega arith)
+few_bits true false = ((omega arith, omega arith, one_word (bit_of attributes.Size) (omega arith)), omega arith)
+few_bits false true = ((omega arith, omega arith, two_words 0 (bit_of attributes.TimeModifySet) (omega arith) (omega arith)), omega arith)
+few_bits true true = ((omega arith, omega arith, two_words (bit_of attributes.Size) (bit_of attributes.TimeModifySet) (omega arith) (omega arith)), omega arith)
+
+set_sendable : (args : Setattr) (asked : Settable) (change : Change) → IsSendable (ops.Setattr args) (set asked change).answer
+set_sendable args asked change = record {
+  not_resource = λ same. (let apart : statuses.Ok ≡ statuses.Refused refusals.Resource = ap status_of same in absurd cc);
+  opnum = refl;
+  short = few_bits asked.size asked.time;
+}
+
+-- what is decided of a SETATTR
+abbrev IsDecided : History → State → Request → Setattr → Decision → Type 0
+IsDecided journal state request args decision =
+    Decides (λ d. d ≡ rule journal state request args) state (ops.Setattr args) (Ok decision)
+
+-- that nothing of what is asked for can be set
+pub wish_refused : (journal : History) (state : State) (request : Request) (args : Setattr) (refusal : Refusal) (decision : Decision) → Err refusal ≡ wish_of request.filehandle args.attributes
+    → decision ≡ refused transfers.Resize refusal → IsDecided journal state request args decision
+wish_refused journal state request args refusal decision found is =
+    let other = wish_refusal request.filehandle args.attributes refusal found in
+    let sent = refused_is transfers.Resize (ops.Setattr args) state refusal refl other in
+    subst (IsDecided journal state request args) (sym is)
+    (ap (λ (w : Result Wish Refusal). Some (granted journal state request args w)) found, sent.sendable, sent.within, sent.place)
+
+-- that nothing is asked for
+pub nothing_set : (journal : History) (state : State) (request : Request) (args : Setattr) (wish : Wish) (decision : Decision) → Ok wish ≡ wish_of request.filehandle args.attributes
+    → (wish.asked.size || wish.asked.time) ≡ false → decision ≡ set wish.asked Nothing → IsDecided journal state request args decision
+nothing_set journal state request args wish decision found none is =
+    let by_wish : granted journal state request args (Ok wish) ≡ set wish.asked Nothing = rw none refl in
+    subst (IsDecided journal state request args) (sym is)
+    (sym (ap Some by_wish) ∙ ap (λ (w : Result Wish Refusal). Some (granted journal state request args w)) found, set_sendable args wish.asked Nothing, tt, tt)
+
+-- where something is asked for, it goes by the file
+by_file : (journal : History) (state : State) (request : Request) (args : Setattr) (wish : Wish) (file : Result ℕ Decision) → Ok wish ≡ wish_of request.filehandle args.attributes
+    → (wish.asked.size || wish.asked.time) ≡ true → file ≡ file_for transfers.Resize journal state request args.stateid → Some (setting state wish file) ≡ rule journal state request args
+by_file journal state request args wish file found some is =
+    let by_wish : granted journal state request args (Ok wish) ≡ setting state wish (file_for transfers.Resize journal state request args.stateid) = rw some refl in
+    ap (λ (f : Result ℕ Decision). Some (setting state wish f)) is ∙ sym (ap Some by_wish) ∙ ap (λ (w : Result Wish Refusal). Some (granted journal state request args w)) found
+
+-- that the file can't be changed
+pub file_refused : (journal : History) (state : State) (request : Request) (args : Setattr) (wish : Wish) (decision : Decision) → Ok wish ≡ wish_of request.filehandle args.attributes
+    → (wish.asked.size || wish.asked.time) ≡ true → Err decision ≡ file_for transfers.Resize journal state request args.stateid → IsDecided journal state request args decision
+file_refused journal state request args wish decision found some is =
+    let sent = file_refusal transfers.Resize (ops.Setattr args) journal state request args.stateid decision refl is in
+    (by_file journal state request args wish (Err decision) found some is, sent.sendable, sent.within, sent.place)
+
+-- that the size is beyond the limit of a file
+pub size_refused : (journal : History) (state : State) (request : Request) (args : Setattr) (wish : Wish) (node size : ℕ) (decision : Decision) → Ok wish ≡ wish_of request.filehandle args.attributes
+    → (wish.asked.size || wish.asked.time) ≡ true → Ok node ≡ file_for transfers.Resize journal state request args.stateid → size ≡ size_for state node wish.size → TEXT_LIMIT < size
+    → decision ≡ refused transfers.Resize refusals.FBig → IsDecided journal state request args decision
+size_refused journal state request args wish node size decision found some file same long is =
+    let sent = refused_is transfers.Resize (ops.Setattr args) state refusals.FBig refl (λ e. cc) in
+    let over : nat_lt TEXT_LIMIT (size_for state node wish.size) ≡ true = lt-ltb TEXT_LIMIT (size_for state node wish.size) (omega (arith, same, long)) in
+    let by_size : setting state wish (Ok node) ≡ refused transfers.Resize refusals.FBig = rw over refl in
+    subst (IsDecided journal state request args) (sym is)
+    (sym (ap Some by_size) ∙ by_file journal state request args wish (Ok node) found some file, sent.sendable, sent.within, sent.place)
+
+-- that it is set
+pub size_is_set : (journal : History) (state : State) (request : Request) (args : Setattr) (wish : Wish) (node size : ℕ) (decision : Decision) → Ok wish ≡ wish_of request.filehandle args.attributes
+    → (wish.asked.size || wish.asked.time) ≡ true → Ok node ≡ file_for transfers.Resize journal state request args.stateid → size ≡ size_for state node wish.size → size ≤ TEXT_LIMIT
+    → decision ≡ set wish.asked (Cuts node size) → IsDecided journal state request args decision
+size_is_set journal state request args wish node size decision found some file same short is =
+    let within : nat_lt TEXT_LIMIT (size_for state node wish.size) ≡ false = le-ltb TEXT_LIMIT (size_for state node wish.size) (omega (arith, same, short)) in
+    let by_size : setting state wish (Ok node) ≡ set wish.asked (Cuts node (size_for state node wish.size)) = rw within refl in
+    subst (IsDecided journal state request args) (sym is) (
+      ap (λ (n : ℕ). Some (set wish.asked (Cuts node n))) same ∙ sym (ap Some by_size) ∙ by_file journal state request args wish (Ok node) found some file,
+      set_sendable args wish.asked (Cuts node size),
+      short,
+      tt,
+    )

@@ -5,7 +5,7 @@ use Rattle.nfs_rules.specs.declared.decision.Decision.{Decision}
 use Rattle.nfs_state.specs.Changes.{change_alone}
 use Rattle.nfs_state.specs.Files.{change_of, file_of, size_of}
 use Rattle.nfs_state.specs.State.{State, History}
-use Rattle.nfs_tree.specs.declared.attribute.Subject.{Subject}
+use Rattle.nfs_tree.specs.declared.subject.Subject.{Subject}
 use Rattle.nfs_tree.specs.Attributes.{attributes_of, is_readable}
 use Rattle.nfs_tree.specs.Tree.{is_directory, node_count}
 use Rattle.nfs_forms.specs.declared.answer.Answer.TheVariants.{Done, Refused}

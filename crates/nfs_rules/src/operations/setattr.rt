@@ -19,6 +19,17 @@ pub struct Wish {
     pub size: Option<u64>,
 }
 
+impl Wish {
+    ghost use Rattle.std.specs.Prelude.{◌||◌};
+
+    // Whether anything is asked for.
+    fn asks(self) -> bool
+        ensures { result ≡ (self.asked.size || self.asked.time) }
+    {
+        self.asked.size || self.asked.time
+    }
+}
+
 /// Decides a SETATTR: its answer, and its change or what it calls back.
 pub(super) fn decide(
     alloc: Global,
@@ -33,7 +44,7 @@ pub(super) fn decide(
         Err(refusal) => return Ok(Transfer::Resize.refusal(refusal)),
         Ok(wish) => wish,
     };
-    if !wish.asked.size && !wish.asked.time {
+    if !wish.asks() {
         return Ok(set(alloc, wish.asked, Change::Nothing));
     }
     let node = match file_for(store, Transfer::Resize, request, args.stateid) {
