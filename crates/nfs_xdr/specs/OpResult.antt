@@ -177,12 +177,15 @@ result_agrees (opnums.Unsupported without.Create) = change_agrees changes.Create
 result_agrees (opnums.Unsupported without.Link) = change_agrees changes.Link
 result_agrees (opnums.Unsupported without.Remove) = change_agrees changes.Remove
 result_agrees (opnums.Unsupported without.Rename) = change_agrees changes.Rename
+result_agrees (opnums.Unsupported o) = λ a. (refl, refl)
 result_agrees o = λ a. (refl, refl)
 
 pub result_is_read : (r : OpResult) → IsRead result_case opnum_of result_arm r
 result_is_read (results.Illegal a) = record { is = refl; reads = λ bytes. refl }
 result_is_read (results.Unsupported without.Create) = record { is = refl; reads = λ bytes. refl }
+result_is_read (results.Unsupported o) = record { is = refl; reads = λ bytes. refl }
 result_is_read (results.ReadOnly changes.Create) = record { is = refl; reads = λ bytes. refl }
+result_is_read (results.ReadOnly change) = record { is = refl; reads = λ bytes. refl }
 result_is_read r = record { is = refl; reads = λ bytes. refl }
 
 unfoldable pub op_result : Form OpResult

@@ -226,7 +226,7 @@ impl Bounded for SetattrResult {
 
     ghost IsShort = { SetsFew };
 
-    #[tactic(auto, using(nfs_forms::proofs::Words::words_len, crate::proofs::Refusals::status_fits), unfolding(nfs_operations::specs::Setattr::result, nfs_forms::specs::Status::status, xdr::specs::Writing::written_number))]
+    #[tactic(auto, using(crate::proofs::Refusals::set_len, crate::proofs::Refusals::status_fits), unfolding(nfs_operations::specs::Setattr::result, nfs_forms::specs::Status::status))]
     fn fits(&self) {}
 }
 
