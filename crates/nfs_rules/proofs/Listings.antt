@@ -16,6 +16,7 @@ use Rattle.nfs_forms.specs.declared.status.Refusal.{Refusal}
 use Rattle.nfs_forms.specs.declared.status.Refusal.TheVariants as refusals
 use Rattle.nfs_operations.specs.Readdir.{entry, readdir_ok}
 use Rattle.nfs_operations.specs.declared.readdir.DirectoryEntry.{DirectoryEntry}
+use Rattle.nfs_operations.specs.declared.readdir.Readdir.{Readdir}
 use Rattle.nfs_operations.specs.declared.readdir.ReaddirOk.{ReaddirOk}
 use Rattle.nfs_rules.specs.Listings.{AreLongest, Ask, EachChildIsListedOnce, IsRoomy, Told, args_of, child_seen, going_on, last_cookie, linked_len, seen, told_by}
 use Rattle.nfs_rules.specs.Refusing.{first_refusal}
@@ -127,6 +128,31 @@ pub answer_short : (maxcount room : ℕ) (all given : List DirectoryEntry) (eof 
 unfolding readdir_ok verifier
 answer_short maxcount room all given eof limit longest =
     ((refl, (longest.form, tt)), omega (arith, answer_len given eof, longest.within))
+
+-- The same of the children of a directory behind a cookie.
+longest_for : (journal : History) (state : State) (args : Readdir) (directory room : ℕ) (children : List ℕ) (given : List DirectoryEntry) → children ≡ children_after journal.nodes directory args.cookie
+    → AreLongest room (map (entry_of journal state args.mask) children) given → AreLongest room (entries_for journal state args directory) given
+longest_for journal state args directory room children given is longest =
+    subst (λ (es : List DirectoryEntry). AreLongest room es given) (ap (map (entry_of journal state args.mask)) is) longest
+
+count_for : (journal : History) (state : State) (args : Readdir) (directory : ℕ) (children : List ℕ) → children ≡ children_after journal.nodes directory args.cookie
+    → length children ≡ length (entries_for journal state args directory)
+count_for journal state args directory children is =
+    ap length is ∙ sym (length-map (children_after journal.nodes directory args.cookie) (entry_of journal state args.mask))
+
+pub given_small : (journal : History) (state : State) (args : Readdir) (directory room : ℕ) (children : List ℕ) (given : List DirectoryEntry) → children ≡ children_after journal.nodes directory args.cookie
+    → 16 + room ≡ min args.maxcount LISTING_LIMIT → AreLongest room (map (entry_of journal state args.mask) children) given → length given ≡ 0 → (length given == length children) ≡ false
+    → Refused refusals.TooSmall ≡ listing args.maxcount (entries_for journal state args directory)
+given_small journal state args directory room children given is limit longest none left =
+    answers_small args.maxcount room (entries_for journal state args directory) given limit (longest_for journal state args directory room children given is longest) none
+    (ap (λ n. length given == n) (sym (count_for journal state args directory children is)) ∙ left)
+
+pub given_done : (journal : History) (state : State) (args : Readdir) (directory room : ℕ) (children : List ℕ) (given : List DirectoryEntry) (eof : Bool) → children ≡ children_after journal.nodes directory args.cookie
+    → 16 + room ≡ min args.maxcount LISTING_LIMIT → AreLongest room (map (entry_of journal state args.mask) children) given → eof ≡ (length given == length children) → ((length given == 0) && not eof) ≡ false
+    → Done (record { verifier = no_verifier; entries = given; eof = eof }) ≡ listing args.maxcount (entries_for journal state args directory)
+given_done journal state args directory room children given eof is limit longest last some =
+    answers_given args.maxcount room (entries_for journal state args directory) given eof limit (longest_for journal state args directory room children given is longest)
+    (last ∙ ap (λ n. length given == n) (count_for journal state args directory children is)) some
 
 -- A child's entry fits its form, and is short.
 pub entry_fits : (e : DirectoryEntry) → e.cookie < 2 ^ 64 → length e.name ≤ 255 → AreFewAttributes e.attributes → entry.Fits e
