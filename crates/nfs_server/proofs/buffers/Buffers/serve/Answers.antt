@@ -1,33 +1,21 @@
 -- What is exported is the tree, as the service serves it.
-use Rattle.std.proofs.Common.{◌≡◌, ◌∙◌, subst, sym}
+use Rattle.std.proofs.Common.{◌≡◌, subst}
 use Rattle.nfs_server.specs.Connection.{HasCourse, scene}
 use Rattle.nfs_server.specs.Exchange.{rules}
 use Rattle.nfs_server.specs.Serves.{exported}
-use Rattle.nfs_tree.specs.Exports.{Exported, export_seen}
+use Rattle.nfs_tree.specs.Exports.{Exported}
 use Rattle.nfs_server.proofs.buffers.Buffers.serve.Goals as goal
-
-pub serve_turns-result-requires-clause-serves : goal.serve_turns-result-requires-clause-serves
-serve_turns-result-requires-clause-serves g c =
-    λ i. record {
-      nodes = c.requires.serves i;
-      profile = sym c.profile.ensures i;
-      epoch = sym c.epoch.ensures i;
-    }
-
-pub returns-clause-serves : goal.returns-clause-serves
-returns-clause-serves g c =
-    c.serve_turns-result.ensures.serves
-    ∙ (λ i. record {
-      nodes = sym c.requires.serves i;
-      profile = c.profile.ensures i;
-      epoch = c.epoch.ensures i;
-    })
 
 pub returns-clause-course : goal.returns-clause-course
 returns-clause-course g c =
     let made = c.serve_turns-result in
     let served = g.S.Service.serves c.args.service.now in
-    let same : export_seen made.args.export.now ≡ exported c.args.tree.now served =
+    let export : Exported = record {
+      nodes = c.args.tree.now.nodes;
+      profile = c.profile.result;
+      epoch = c.epoch.result;
+    } in
+    let same : export ≡ exported c.args.tree.now served =
     λ i. record {
       nodes = c.args.tree.now.nodes;
       profile = c.profile.ensures i;
