@@ -1,12 +1,12 @@
 -- The page in which a file's bytes end, and zeros behind them.
-use Rattle.std.proofs.Common.{◌≡◌, ℕ, ◌+◌, ◌*◌, ◌-◌, ◌/◌, ◌%◌, ◌<◌, ◌≤◌, List, [], ◌∷◌, ◌++◌, drop, get_or, length, take, sym, ◌∙◌, ap, arith, append_assoc, length-append, length-drop}
+use Rattle.std.proofs.Common.{◌≡◌, ℕ, ◌+◌, ◌*◌, ◌-◌, ◌%◌, ◌≤◌, List, [], ◌++◌, drop, length, take, sym, ◌∙◌, ap, arith, append_assoc, length-append, length-drop}
 use Rattle.std.specs.Prelude.{replicate}
 use Rattle.std.specs.List.{concat}
 use Rattle.std.proofs.Math.Seq.{take-add}
-use Rattle.std.proofs.lemmas.List.{append-nil, drop-append-le, drop-replicate, drop-take, drop_all, length-replicate, length-take-le, take-append-drop, take-replicate, take-take, take_at}
+use Rattle.std.proofs.lemmas.List.{drop-append-le, drop-replicate, drop-take, drop_all, length-replicate, length-take-le, take-append-drop, take-replicate, take-take, take_at}
 use Rattle.nfs_state.specs.Pages.{AreFilledUp, AreWhole, page_start, replaced, zero_page}
 use Rattle.nfs_state.specs.declared.pages.TheConstants.{PAGE_LEN}
-use Rattle.nfs_state.proofs.PageLists.{drop-append, length-concat, length-zero_page, page_at, take-concat}
+use Rattle.nfs_state.proofs.PageLists.{drop-append, length-concat, length-zero_page, take-concat}
 
 -- so many zeros behind the bytes
 pub filled_by : (n : ℕ) (bytes all : List ℕ) → all ≡ bytes ++ replicate n 0 → AreFilledUp bytes all
@@ -94,13 +94,6 @@ new_end size all within =
     take-take n PAGE_LEN (drop start all) (omega arith) ∙ sym (drop-take start n all) ∙ ap (λ k. drop start (take k all)) sum in
     let many : 0 + length first ≡ n = omega (arith, ap length first_is, length-drop start (take size all), length-take-le size all (omega (arith, within))) in
     λ i. first_is i ++ drop (many i) zero_page
-
--- bytes that end with a page
-pub ended_with_page : (size : ℕ) (all : List ℕ) → size % PAGE_LEN ≡ 0 → AreFilledUp (take size all) (take (page_start size) all ++ [])
-ended_with_page size all whole =
-    let at : page_start size ≡ size = omega (arith, whole) in
-    filled_by 0 (take size all) (take (page_start size) all ++ [])
-    (ap (λ k. take k all ++ []) at)
 
 -- the bytes up to the end of the pages that came into them
 pub ended_pages : (first : ℕ) (pages now : List (List ℕ)) (bytes all : List ℕ) → AreWhole pages → AreWhole now → first * PAGE_LEN + length bytes ≤ length all → concat pages ≡ bytes

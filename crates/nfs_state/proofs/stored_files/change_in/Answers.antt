@@ -3,7 +3,7 @@ use Rattle.std.specs.Prelude.{◌==◌, ◌-◌, ◌^◌, if◌then◌else◌}
 use Rattle.std.proofs.lemmas.List.{length-map}
 use Rattle.nfs_state.specs.FileChange.{change_seen}
 use Rattle.nfs_state.specs.Files.{FileState, HasRoomIn, RoomyFile, after_change, files_in}
-use Rattle.nfs_state.proofs.FileChanges.{all_changed, all_here, all_left, one_more, roomy_change, some_written}
+use Rattle.nfs_state.proofs.FileChanges.{all_changed, all_here, all_left, one_more, roomy_change}
 use Rattle.nfs_state.proofs.stored_files.change_in.Goals as goal
 
 pub loop-file-init : goal.loop-file-init

@@ -1,10 +1,9 @@
-use Rattle.std.proofs.Common.{◌≡◌, ◌∷◌, ◌+◌, ◌-◌, ◌*◌, ◌/◌, ◌%◌, ◌<◌, ◌≤◌, ◌++◌, ◌∙◌, List, [], ℕ, ap, arith, drop, length, rules, subst, sym, take}
+use Rattle.std.proofs.Common.{◌≡◌, ◌∷◌, ◌+◌, ◌-◌, ◌++◌, ◌∙◌, List, [], ℕ, ap, arith, length, rules, subst, sym, take}
 use Rattle.std.specs.List.{concat}
-use Rattle.std.proofs.lemmas.List.{append-nil, length-drop, length-take-le}
-use Rattle.nfs_state.specs.Pages.{AreFilledUp, AreWhole, page_start, zero_page}
+use Rattle.nfs_state.specs.Pages.{AreFilledUp, AreWhole, page_start}
 use Rattle.nfs_state.specs.declared.pages.TheConstants.{PAGE_LEN}
-use Rattle.nfs_state.proofs.PageEnds.{ended, ended_with_page, length-end}
-use Rattle.nfs_state.proofs.PageLists.{concat_push, length-concat, length-zero_page, whole_push}
+use Rattle.nfs_state.proofs.PageEnds.{ended, length-end}
+use Rattle.nfs_state.proofs.PageLists.{concat_push, length-concat, whole_push}
 use Rattle.nfs_state.proofs.pages.Pages.end_at.Goals as goal
 
 pub invariant_of-result-2 : goal.invariant_of-result-2

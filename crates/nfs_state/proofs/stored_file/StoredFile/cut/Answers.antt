@@ -1,10 +1,6 @@
-use Rattle.std.proofs.Common.{◌≡◌, ◌+◌, ◌∙◌, ◌≤◌, ◌++◌, List, Option, Some, ℕ, ap, arith, length, subst, sym, take}
-use Rattle.std.specs.Prelude.{IfSome}
-use Rattle.nfs_state.specs.FileChange.{ComesWith}
-use Rattle.nfs_state.specs.Files.{FileState, RoomyFile, after_cut, cut_to}
-use Rattle.nfs_state.specs.Pages.{page_start}
+use Rattle.std.proofs.Common.{◌+◌, ◌∙◌, ap, sym, take}
+use Rattle.nfs_state.specs.Files.{FileState, RoomyFile, after_cut}
 use Rattle.nfs_state.specs.declared.file_change.FileChange.TheVariants.{Cuts}
-use Rattle.nfs_state.specs.declared.stored_file.ReadyChange.{ReadyChange}
 use Rattle.nfs_state.proofs.ReadyChanges.{cut_file, room_known}
 use Rattle.nfs_state.proofs.stored_file.StoredFile.cut.Goals as goal
 

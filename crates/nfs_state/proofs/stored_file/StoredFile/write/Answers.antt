@@ -1,4 +1,4 @@
-use Rattle.std.proofs.Common.{◌≡◌, ◌+◌, ◌∙◌, ◌≤◌, List, Option, Some, ℕ, ap, arith, length, subst, sym, take}
+use Rattle.std.proofs.Common.{◌≡◌, ◌+◌, ◌∙◌, ◌≤◌, Option, ap, arith, length, subst, sym, take}
 use Rattle.std.specs.Prelude.{IfSome, max}
 use Rattle.nfs_state.specs.FileChange.{ComesWith}
 use Rattle.nfs_state.specs.Files.{FileState, RoomyFile, after_write, written}
