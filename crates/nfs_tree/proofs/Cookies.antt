@@ -1,11 +1,11 @@
 -- The children of a directory: found one after the other, and by their cookies.
-use Rattle.std.proofs.Common.{◌≡◌, ℕ, zero, suc, ◌+◌, ◌-◌, ◌<◌, ◌==◌, ◌⊎◌, Bool, true, false, List, [], ◌∷◌, ◌++◌, filter, slice_get, Option, Some, None, refl, sym, ap, ◌∙◌, arith, inl, inr}
+use Rattle.std.proofs.Common.{◌≡◌, ℕ, zero, suc, ◌+◌, ◌-◌, ◌<◌, ◌==◌, Bool, true, false, List, [], ◌∷◌, ◌++◌, filter, slice_get, Option, Some, None, refl, sym, ap, ◌∙◌, arith, inl, inr}
 use Rattle.std.specs.Prelude.{◌&&◌, ◌||◌, nat_lt, if◌then◌else◌}
 use Rattle.std.specs.List.{list_any}
 use Rattle.std.proofs.lemmas.Bool.{eqb-true}
 use Rattle.std.proofs.lemmas.Bool.Decides.{nat_tests}
 use Rattle.nfs_tree.specs.declared.node.Node.{Node}
-use Rattle.nfs_tree.specs.Children.{children_after, children_from, children_of, cookie_of, is_cookie, listed, listed_from}
+use Rattle.nfs_tree.specs.Children.{children_after, children_from, cookie_of, is_cookie, listed, listed_from}
 use Rattle.nfs_tree.specs.Tree.{node_at}
 use Rattle.nfs_tree.proofs.Nodes.{decided}
 

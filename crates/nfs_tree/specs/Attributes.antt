@@ -1,5 +1,5 @@
 -- The attributes of a node (RFC 7530, section 5).
-use Rattle.std.specs.Prelude.{codes, ℕ, ◌+◌, ◌*◌, ◌%◌, ◌^◌, ◌==◌, Bool, true, false, not, ◌&&◌, if◌then◌else◌, List, [], ◌∷◌, ◌++◌, get_or, bit_and}
+use Rattle.std.specs.Prelude.{codes, ℕ, ◌+◌, ◌*◌, ◌%◌, ◌^◌, ◌==◌, Bool, true, false, not, if◌then◌else◌, List, [], ◌∷◌, ◌++◌, get_or, bit_and}
 use Rattle.nfs_forms.specs.declared.fattr.Fattr.{Fattr}
 use Rattle.xdr.specs.Writing.{written_u32, written_u64, written_flag, written_opaque}
 use Rattle.nfs_tree.specs.declared.attribute.Attribute.{Attribute}

@@ -1,8 +1,7 @@
 use Rattle.std.proofs.Common.{◌≤◌, length, subst}
-use Rattle.nfs_tree.proofs.Short.{Answers, effect_answers}
+use Rattle.nfs_tree.proofs.Short.{effect_answers}
 use Rattle.nfs_tree.specs.Exports.{export_seen}
 use Rattle.nfs_tree.proofs.filehandles.Filehandles.run.Goals as goal
-use Rattle.nfs_xdr.specs.Op.{opnum_of}
 use Rattle.nfs_xdr.specs.OpResult.{op_result}
 use Rattle.nfs_xdr.specs.Opnum.{answer_limit}
 use Rattle.nfs_xdr.specs.declared.op_result.OpResult.{OpResult}

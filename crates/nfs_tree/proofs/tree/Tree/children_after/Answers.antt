@@ -1,4 +1,4 @@
-use Rattle.std.proofs.Common.{ap, ◌∙◌, arith}
+use Rattle.std.proofs.Common.{ap, ◌∙◌}
 use Rattle.nfs_tree.specs.Children.{listed_from}
 use Rattle.nfs_tree.proofs.Cookies.{listed_are_after}
 use Rattle.nfs_tree.proofs.Nodes.{few_nodes}
