@@ -45,9 +45,8 @@ pub fn run_once<D: Duplex, E: Write, J: Sink>(
         × (((lent : LentCore) × (clock : Stopped) × (lent' : LentCore) × (clock' : Stopped)
         × (lent.core ≡ core) × IsLent core lent.book × (clock.moment ≡ now)
         × HasCourse D.device
-        (rules (exported tree.now (served_by core.journal)) ⟦<Lent as Service>⟧.gives
-        ⟦<Lent as Service>⟧.alike
-        ⟦<Stopped as Clock>⟧.tells)
+        (rules (exported tree.now (served_by lent.core.journal)) ⟦<Lent as Service>⟧.gives
+        ⟦<Lent as Service>⟧.alike ⟦<Stopped as Clock>⟧.tells)
         (scene device.old lent clock) outcome (scene device.new lent' clock')
         × IsFiled (device_of_sink J.takes J.fails) J.failures journal.old journal.new
         lent'.core.journal filed)
