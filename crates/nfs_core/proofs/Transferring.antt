@@ -13,7 +13,7 @@ use Rattle.nfs_rules.specs.Transfers.{delayed, file_for, is_lent_out, permitted,
 use Rattle.nfs_rules.specs.declared.decision.Decision.{Decision}
 use Rattle.nfs_rules.specs.declared.transfer.Transfer.{Transfer}
 use Rattle.nfs_rules.specs.declared.transfer.Transfer.TheVariants as transfers
-use Rattle.nfs_rules.specs.declared.operations.setattr.Wish.{Wish}
+use Rattle.nfs_rules.specs.declared.wish.Wish.{Wish}
 use Rattle.nfs_rules.specs.operations.Read as reads
 use Rattle.nfs_rules.specs.operations.Setattr as setattrs
 use Rattle.nfs_rules.specs.operations.Write as writes

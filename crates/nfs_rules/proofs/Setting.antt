@@ -13,7 +13,7 @@ use Rattle.nfs_operations.specs.declared.setattr.Setattr.{Setattr}
 use Rattle.nfs_rules.specs.Deciding.{Decides, IsOther}
 use Rattle.nfs_rules.specs.Transfers.{file_for, refused}
 use Rattle.nfs_rules.specs.declared.decision.Decision.{Decision}
-use Rattle.nfs_rules.specs.declared.operations.setattr.Wish.{Wish}
+use Rattle.nfs_rules.specs.declared.wish.Wish.{Wish}
 use Rattle.nfs_rules.specs.declared.transfer.Transfer.TheVariants as transfers
 use Rattle.nfs_rules.specs.operations.Lockt.{place_of}
 use Rattle.nfs_rules.specs.operations.Setattr.{granted, rule, set, setting, size_for, wish_of}

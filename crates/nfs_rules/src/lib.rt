@@ -16,6 +16,7 @@ mod sequence;
 mod stateids;
 mod transfer;
 mod turn;
+mod wish;
 
 pub use decision::Decision;
 pub use demand::{Demand, Kinds};
@@ -29,3 +30,4 @@ pub use operations::decide;
 pub use passage::Passage;
 pub use ruling::Ruling;
 pub use transfer::Transfer;
+pub use wish::Wish;

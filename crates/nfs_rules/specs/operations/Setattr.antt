@@ -9,7 +9,7 @@ use Rattle.nfs_rules.specs.Refusing.{◌>>=◌}
 use Rattle.nfs_rules.specs.Transfers.{file_for, refused}
 use Rattle.nfs_rules.specs.declared.decision.Decision.{Decision}
 use Rattle.nfs_rules.specs.declared.transfer.Transfer.TheVariants as transfers
-use Rattle.nfs_rules.specs.declared.operations.setattr.Wish.{Wish}
+use Rattle.nfs_rules.specs.declared.wish.Wish.{Wish}
 use Rattle.nfs_rules.specs.operations.Lockt.{place_of}
 use Rattle.nfs_state.specs.Changes.{change_alone}
 use Rattle.nfs_state.specs.Files.{file_of, size_of}

@@ -5,30 +5,13 @@ ghost use Rattle.nfs_state.specs.Room.{state_of};
 
 use crate::decision::Decision;
 use crate::transfer::{Transfer, file_for};
+use crate::wish::Wish;
 use nfs_forms::Status;
 use nfs_operations::setattr::{AttributesSet, Setattr, SetattrResult};
 use nfs_state::{Change, Effect, Request, Shortage, Store, Tables};
 use nfs_tree::{Settable, TEXT_LIMIT};
 use nfs_xdr::{Fattr, Op, OpResult, Refusal};
 use std::alloc::Global;
-
-/// Which attributes are to be set, and to which size, if to one.
-#[derive(Clone, Copy)]
-pub struct Wish {
-    pub asked: Settable,
-    pub size: Option<u64>,
-}
-
-impl Wish {
-    ghost use Rattle.std.specs.Prelude.{◌||◌};
-
-    // Whether anything is asked for.
-    fn asks(self) -> bool
-        ensures { result ≡ (self.asked.size || self.asked.time) }
-    {
-        self.asked.size || self.asked.time
-    }
-}
 
 /// Decides a SETATTR: its answer, and its change or what it calls back.
 pub(super) fn decide(
