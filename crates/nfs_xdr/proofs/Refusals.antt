@@ -1,6 +1,8 @@
 -- The numbers of statuses and operations fit their forms, and the results of operations without a rule are short.
-use Rattle.std.proofs.Common.{◌≡◌, ℕ, ◌<◌, ◌≤◌, ◌^◌, Option, Some, None, ◌++◌, length, refl, arith}
+use Rattle.std.proofs.Common.{◌≡◌, ℕ, ◌<◌, ◌≤◌, ◌^◌, Option, Some, None, List, ◌++◌, length, refl, sym, subst, arith}
+use Rattle.std.specs.Global.{Vec}
 use Rattle.std.specs.List.{flat_map}
+use Rattle.std.specs.Prelude.{Result, Ok, Err, OnOk}
 use Rattle.std.proofs.lemmas.List.{length-append}
 use Rattle.byteorder.specs.Numbers.{length-bytes_high_first}
 use Rattle.nfs_forms.proofs.Words.{words_len}
@@ -15,20 +17,21 @@ use Rattle.nfs_xdr.specs.declared.opnum.Unsupported.TheVariants as without
 use Rattle.nfs_forms.specs.declared.status.Refusal.{Refusal}
 use Rattle.nfs_forms.specs.declared.status.Refusal.TheVariants as refusals
 use Rattle.nfs_forms.specs.declared.status.Status.{Status}
-use Rattle.nfs_forms.specs.declared.status.Status.TheVariants.{Ok, Refused}
+use Rattle.nfs_forms.specs.declared.status.Status.TheVariants as statuses
 use Rattle.nfs_xdr.specs.Opnum.{change_of, operation_of, opnum}
 use Rattle.nfs_xdr.specs.OpResult.{op_result, refused_change, refused_without_rule}
 use Rattle.nfs_forms.specs.Status.{number_of, number_of_refusal, status}
-use Rattle.xdr.specs.Form.{◌and◌, constant}
-use Rattle.xdr.specs.Writing.{written_number, written_u32}
+use Rattle.xdr.specs.Form.{◌and◌, constant, u32}
+use Rattle.xdr.specs.Writing.{Writes, written_number, written_u32}
+use Rattle.xdr.specs.declared.wire_error.WireError.{WireError}
 
 pub refusal_fits : (r : Refusal) → number_of_refusal r < 2 ^ 32
 refusal_fits refusals.NoEnt = omega arith
 refusal_fits r = omega arith
 
 pub status_fits : (s : Status) → number_of s < 2 ^ 32
-status_fits (Refused r) = refusal_fits r
-status_fits Ok = omega arith
+status_fits (statuses.Refused r) = refusal_fits r
+status_fits statuses.Ok = omega arith
 status_fits s = omega arith
 
 -- SETATTR's result with at most two words of attributes.
@@ -72,6 +75,25 @@ pub read_only_fits : (change : DirectoryChange) → op_result.Fits (results.Read
 unfolding op_result opnum
 read_only_fits changes.Create = (omega arith, omega arith)
 read_only_fits change = (omega arith, omega arith)
+
+refit : {T E : Type 0} (r : Result T E) (P Fitted Fits : Type 0) → Fits → OnOk r (P × Fitted) → OnOk r (P × Fits)
+refit (Ok v) P Fitted Fits fits is = (is.0, fits)
+refit (Err e) P Fitted Fits fits is = tt
+
+-- What was written of a value that fits was written of another one, which fits, too, and has the same encoding.
+pub written_as : {T : Type 0} (old new : Vec ℕ) (r : Result T WireError) (bytes encoding : List ℕ) (Fitted Fits : Type 0) → encoding ≡ bytes → Fitted → Fits → Writes old new r bytes Fitted → Writes old new r encoding Fits
+written_as old new r bytes encoding Fitted Fits same fitted fits is =
+    subst (λ (b : List ℕ). Writes old new r b Fits) (sym same) (refit r _ Fitted Fits fits is.0, is.1, (λ long. absurd (is.2 long fitted)), is.3, is.4, is.5)
+
+pub unsupported_numbers : (o : Unsupported) → (opnum and u32).Fits (opnums.Unsupported o, 10004)
+unfolding opnum
+unsupported_numbers without.Create = (omega arith, omega arith)
+unsupported_numbers o = (omega arith, omega arith)
+
+pub read_only_numbers : (o : Unsupported) → (opnum and u32).Fits (opnums.Unsupported o, 30)
+unfolding opnum
+read_only_numbers without.Create = (omega arith, omega arith)
+read_only_numbers o = (omega arith, omega arith)
 
 pub unsupported_len : (o : Unsupported) → length (op_result.encoding (results.Unsupported o)) ≡ 8
 unfolding op_result opnum written_number

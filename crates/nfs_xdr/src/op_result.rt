@@ -273,7 +273,6 @@ impl Wire for OpResult {
 }
 
 // Writes NFS4ERR_NOTSUPP.
-#[tactic(auto, using(crate::proofs::Refusals::unsupported_encoding, crate::proofs::Refusals::unsupported_fits))]
 fn write_unsupported(out: &mut Vec<u8>, op: Unsupported) -> Result<(), WireError>
     ensures { Writes out.old out.new result
         (results.op_result.encoding (made.Unsupported op))
@@ -283,7 +282,6 @@ fn write_unsupported(out: &mut Vec<u8>, op: Unsupported) -> Result<(), WireError
 }
 
 // Writes NFS4ERR_ROFS.
-#[tactic(auto, using(crate::proofs::Refusals::read_only_encoding, crate::proofs::Refusals::read_only_fits))]
 fn write_read_only(out: &mut Vec<u8>, change: DirectoryChange) -> Result<(), WireError>
     ensures { Writes out.old out.new result
         (results.op_result.encoding (made.ReadOnly change))
