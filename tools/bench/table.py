@@ -87,7 +87,7 @@ class Cell:
         return MOST_OF_ECHO.get(self.workload, {}).get(self.pair())
 
     def row(self, servers, what):
-        title = [NAMES[self.workload], str(self.connections), str(self.under_way)]
+        title = [NAMES.get(self.workload, self.workload), str(self.connections), str(self.under_way)]
         return title + [what(self, server) if self.rounds[server] else "" for server in servers]
 
 
