@@ -2,10 +2,8 @@
 from collections import deque
 from itertools import cycle, islice
 
+from nfs4.wire import READ_LT
 from parties import NAME, OTHERS, TO_READ, Party
-
-# Made known by `messages`.
-from wire import READ_LT
 
 # Runs of a byte each, that don't touch, begin at 0, so far from each other; and where the locks of others begin.
 STEP, BEYOND = 4, 1 << 20

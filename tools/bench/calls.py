@@ -2,13 +2,10 @@
 from collections import namedtuple
 
 from beside import STEP, be_known, lock_runs
-from client import BOTH, done, under
-from messages import CLOSE, NFS4_OK, RELEASE_LOCKOWNER, words
+from nfs4.client import BOTH, done, under, Wrong
+from nfs4.messages import CLOSE, NFS4_OK, RELEASE_LOCKOWNER, words
+from nfs4.wire import Status, u64
 from parties import ALL, FILE, NAME, OTHERS, TO_READ
-from told import Wrong
-
-# Made known by `messages`.
-from wire import Status, u64
 
 # A state's number that is never given; and a byte in the middle of 1,000 runs, that touches none.
 NO_STATE, MIDDLE = 0xFFFFFFF0, STEP * 500 + STEP // 2

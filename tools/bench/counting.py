@@ -7,9 +7,9 @@ import time
 
 from beside import Scene, read_besides
 from calls import KINDS
-from messages import split
+from nfs4.client import Wrong
+from nfs4.messages import split
 from parties import TREE
-from told import Wrong
 
 # The seconds that what is sent may take under valgrind.
 PATIENCE = 3600

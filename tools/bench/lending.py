@@ -1,20 +1,13 @@
 """A server that lends files, and what a client does about those that are lent to others."""
-import os
-import sys
 from contextlib import contextmanager
 from tempfile import NamedTemporaryFile
 
-HERE = os.path.dirname(os.path.abspath(__file__))
-sys.path.insert(0, os.path.join(HERE, ".."))
 from beside import Scene
-from client import BOTH
-from messages import NFS4_OK
+from nfs4.client import BOTH, Wrong
+from nfs4.messages import NFS4_OK
+from nfs4.served import Peer, Served
+from nfs4.wire import Status
 from parties import TREE
-from served import Peer, Served
-from told import Wrong
-
-# Made known by `messages`.
-from wire import Status
 
 
 @contextmanager

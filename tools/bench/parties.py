@@ -1,20 +1,13 @@
 """Clients whose owners are many, for what is measured beside what there is: in a tree of the file `a`, with a block of
 bytes, and of as many others as there may be. Each client is one that callbacks reach, and what is lent is lent to
 read."""
-import os
-import sys
 from copy import copy
 
-HERE = os.path.dirname(os.path.abspath(__file__))
-sys.path.insert(0, os.path.join(HERE, ".."))
-from callback_client import Borrower
-from callback_peers import callback_at
-from client import BOTH, done, under
-from messages import CLOSE, LOCK, LOCKT, LOCKU, NFS4_OK, READ, opaque, words
-from told import Wrong
-
-# Made known by `messages`.
-from wire import WRITE_LT, u64
+from gate.callback_client import Borrower
+from gate.callback_peers import callback_at
+from nfs4.client import BOTH, done, under, Wrong
+from nfs4.messages import CLOSE, LOCK, LOCKT, LOCKU, NFS4_OK, READ, words
+from nfs4.wire import WRITE_LT, u64, opaque
 
 # The file that is measured, by its node, its name and its bytes; and the others.
 FILE, NAME, BLOCK = 1, b"a", b"x" * 4096

@@ -3,13 +3,12 @@ import os
 import shutil
 import socket
 import subprocess
-import sys
 import time
 from contextlib import contextmanager
 
+from nfs4.served import SERVING
+
 HERE = os.path.dirname(os.path.abspath(__file__))
-sys.path.insert(0, os.path.join(HERE, ".."))
-from served import SERVING
 # The seconds that a server has to listen, or to end.
 PATIENCE = 30
 

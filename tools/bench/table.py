@@ -31,6 +31,10 @@ MANY, ALONE = (4, 16), (1, 64)
 LEAST_OF_MANY = {"getattr": 1.8, "open": 1, "lock": 1}
 # How many times the processor time that NULL takes the echo a call may take, by connections and calls under way.
 MOST_OF_ECHO = {"getattr": {(1, 1): 1.15}}
+# Of these the page has the rates alone.
+OF_RATES = {"read", "write"}
+# The percent of the processors that others may have on a machine that counts as quiet.
+QUIET = 5
 
 
 def number(value):
@@ -40,7 +44,7 @@ def number(value):
 
 
 def spread(values):
-    return f"{number(median(values))} [{number(min(values))} .. {number(max(values))}]"
+    return f"{number(median(values))} [{number(min(values))}..{number(max(values))}]"
 
 
 def quotients(values, others):
@@ -62,14 +66,13 @@ class Cell:
         """Ours by theirs."""
         return quotients(self.values(OURS, field), self.values(THEIRS, field))
 
-    def rate(self, server):
-        return spread([value / 1000 for value in self.values(server, "rate")])
+    def both(self, field, scale=1):
+        """The medians of what is compared, one behind the other."""
+        return "/".join(number(median(self.values(server, field)) / scale)
+                        for server in (OURS, THEIRS) if self.rounds[server])
 
     def latency(self, server):
-        return " / ".join(number(median(self.values(server, field))) for field in ("p50", "p99"))
-
-    def processor(self, server):
-        return spread(self.values(server, "processor"))
+        return "/".join(number(median(self.values(server, field))) for field in ("p50", "p99"))
 
     def pair(self):
         return self.connections, self.under_way
@@ -86,10 +89,6 @@ class Cell:
     def most_of_echo(self):
         return MOST_OF_ECHO.get(self.workload, {}).get(self.pair())
 
-    def row(self, servers, what):
-        title = [NAMES.get(self.workload, self.workload), str(self.connections), str(self.under_way)]
-        return title + [what(self, server) if self.rounds[server] else "" for server in servers]
-
 
 class Cells:
     """All that was measured, by workload, connections and calls under way."""
@@ -100,8 +99,11 @@ class Cells:
             key = line["workload"], line["connections"], line["under_way"]
             self.found.setdefault(key, Cell(*key)).rounds[line["server"]].append(line)
 
-    def has(self, pair):
-        return any(cell.pair() == pair for cell in self.found.values())
+    def shapes(self):
+        return sorted({cell.pair() for cell in self.found.values()})
+
+    def workloads(self):
+        return list(dict.fromkeys(cell.workload for cell in self.found.values()))
 
     def values(self, server, field, workload, pair):
         cell = self.found.get((workload, *pair))
@@ -117,14 +119,17 @@ class Cells:
         return quotients(cell.values(OURS, "processor"), self.values(ECHO, "processor", "null", cell.pair()))
 
 
-def beside(ratios, least=None, most=None):
-    """A ratio, and the bound that it is read beside, if there is one."""
+def beside(ratios, least=None, most=None, say=spread):
+    """A ratio, and if it misses its bound, that, both in bold."""
     if not ratios:
-        return ["", ""]
+        return ""
     ratio, bound = median(ratios), most if least is None else least
     is_missed = least is not None and ratio < least or most is not None and ratio > most
-    said = "" if bound is None else f"{bound:g}"
-    return [spread(ratios), f"**{said}: missed**" if is_missed else said]
+    return f"**{say(ratios)}, wanted {bound:g}**" if is_missed else say(ratios)
+
+
+def of_median(values):
+    return number(median(values))
 
 
 def markdown(head, rows):
@@ -132,42 +137,65 @@ def markdown(head, rows):
     return "".join(f"| {' | '.join(line)} |\n" for line in lines)
 
 
-def table(cells, servers, what, *besides):
-    """What there is of each cell, a column for each server; and beside it what is asked for: two titles, and what
-    stands below them for a cell."""
-    head = ["Calls", "C", "P", *servers] + [title for titles, _ in besides for title in titles]
-    return markdown(head, [cell.row(servers, what) + [word for _, words_of in besides for word in words_of(cell)]
-                           for cell in cells.found.values()])
+def table(cells, say, of_echo, without=()):
+    """A line for each kind of call, and one for the echo, with a column for each shape: what these say of a cell."""
+    rows = []
+    for workload in (it for it in cells.workloads() if it not in without):
+        of_workload = [cells.found.get((workload, *pair)) for pair in cells.shapes()]
+        name = NAMES.get(workload, workload)
+        if any(cell and (cell.rounds[OURS] or cell.rounds[THEIRS]) for cell in of_workload):
+            rows.append([name] + [say(cell) if cell else "" for cell in of_workload])
+        if any(cell and cell.rounds[ECHO] for cell in of_workload):
+            rows.append([f"{name} of the echo"] + [of_echo(cell) if cell else "" for cell in of_workload])
+    return markdown(["Calls", *(f"{connections}×{under_way}" for connections, under_way in cells.shapes())], rows)
+
+
+def rate(cell):
+    ratios = beside(cell.ratios("rate"), least=cell.least_rate())
+    return f"{cell.both('rate', 1000)} {ratios}".strip()
+
+
+def latency(cell):
+    return " ".join(cell.latency(server) for server in (OURS, THEIRS) if cell.rounds[server])
+
+
+def processor(cell):
+    ratios = beside(cell.ratios("processor"), most=cell.most_processor(), say=of_median)
+    return f"{cell.both('processor')} {ratios}".strip()
+
+
+def of_many(cells):
+    """Many connections by one alone, where as many calls are under way."""
+    found = {NAMES[cell.workload]: beside(cells.of_many(cell), least=cell.least_of_many(), say=of_median)
+             for cell in cells.found.values() if cell.least_of_many()}
+    said = ", ".join(f"{name} {ratio}" for name, ratio in found.items() if ratio)
+    many, alone = ("×".join(map(str, pair)) for pair in (MANY, ALONE))
+    return [filled(f"The rate of {OURS} with {many} by its own with {alone}: {said}.")] if said else []
+
+
+def of_echo(cells):
+    """Processor time by the echo's."""
+    found = {f"{NAMES[cell.workload]} with {cell.connections}×{cell.under_way}": beside(
+        cells.of_echo(cell), most=cell.most_of_echo(), say=of_median)
+             for cell in cells.found.values() if cell.most_of_echo()}
+    said = ", ".join(f"{name} {ratio}" for name, ratio in found.items() if ratio)
+    return [filled(f"Of {OURS} by what NULL takes the echo: {said}.")] if said else []
 
 
 def tables(lines, servers, how):
-    """The text for docs/SPEED.md."""
-    cells, measured = Cells(lines), set(servers)
-    rates, processors, many, echoed = [], [], "", ""
-    if {OURS, THEIRS} <= measured:
-        rates.append((("ratio", "at least"), lambda cell: beside(cell.ratios("rate"), least=cell.least_rate())))
-        processors.append((("ratio", "at most"), lambda cell: beside(
-            cell.ratios("processor"), most=cell.most_processor())))
-    if OURS in measured and cells.has(MANY) and cells.has(ALONE):
-        rates.append((("by one's", "at least"), lambda cell: beside(cells.of_many(cell), least=cell.least_of_many())))
-        many = (f"; and beside C = {MANY[0]} and P = {MANY[1]} those of {OURS} by its own with C = {ALONE[0]} and "
-                f"P = {ALONE[1]}, where as many calls are under way")
-    if {OURS, ECHO} <= measured:
-        processors.append((("by echo's", "at most"), lambda cell: beside(
-            cells.of_echo(cell), most=cell.most_of_echo())))
-        echoed = f"; and that of {OURS} by that of the echo for NULL"
-    return f"""{filled(f"{how} {machine()} {others(lines)}")}
-
-{filled(f"Thousands of calls a second, median of the rounds [least .. greatest]{many}:")}
-
-{table(cells, servers, Cell.rate, *rates)}
-Latency in microseconds, medians of the rounds: half of the calls had their reply within the first, 99 in 100 within
-the second:
-
-{table(cells, servers, Cell.latency)}
-{filled(f"The server's processor time for a call in microseconds, median of the rounds [least .. greatest]{echoed}:")}
-
-{table(cells, servers, Cell.processor, *processors)}"""
+    """The text for docs/MEASURED.md. A cell has the figures of nfs4state and of nfs-ganesha, and their ratio; a bold
+    one misses the bound behind it."""
+    cells, compared = Cells(lines), [server for server in (OURS, THEIRS) if server in servers]
+    pair = "/".join(compared or servers) + (", and the ratio" if len(compared) == 2 else "")
+    parts = [filled(f"{how} {machine()} {others(lines)}"),
+             filled(f"Thousands of calls a second, {pair}, medians of the rounds [least..greatest]:"),
+             table(cells, rate, lambda cell: number(median(cell.values(ECHO, "rate")) / 1000)).rstrip(), *of_many(cells),
+             filled("Latency in microseconds, of half of the calls at most/of 99 in 100 at most:"),
+             table(cells, latency, lambda cell: cell.latency(ECHO), OF_RATES).rstrip(),
+             filled(f"The server's processor time for a call in microseconds, {pair}:"),
+             table(cells, processor, lambda cell: of_median(cell.values(ECHO, "processor")), OF_RATES).rstrip(),
+             *of_echo(cells)]
+    return "\n\n".join(parts) + "\n"
 
 
 def filled(text):
@@ -176,7 +204,8 @@ def filled(text):
 
 def others(lines):
     shares = [line["others"] for line in lines]
-    return (f"Other processes had {median(shares):.0f} % of the processors in the median of the loads, and"
+    quiet = "was quiet" if max(shares) <= QUIET else "wasn't quiet"
+    return (f"The machine {quiet}: other processes had {median(shares):.0f} % of it in the median of the loads, and"
             f" {max(shares):.0f} % at most.")
 
 

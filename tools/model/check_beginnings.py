@@ -9,14 +9,14 @@ import tempfile
 import threading
 import time
 
-from entries import Expire, Forget, NotJournal, entry_bytes
-from journal import EARLIER, Growing, Recorder, head_bytes, journal_bytes
-from journal_cases import (LAST, NOBODY, ask_for_number, confirm, earlier, idle, lent, open_by, sample, small,
-                           with_words)
-from reason_cases import kept_answers
-from tree import DEFAULT, Tree
-from wire import Delegreturn, OpenConfirm, OpenOwner, Opnum, READ, Read, Stateid, Write, u32
-from words import client_words, line_of
+from model.entries import Expire, Forget, NotJournal, entry_bytes
+from model.journal import EARLIER, Growing, HEAD, HEAD_OF_CLIENTS, Recorder, head_bytes, journal_bytes
+from model.journal_cases import (LAST, NOBODY, ask_for_number, confirm, earlier, idle, lent, listed_and_set, open_by,
+                                 sample, sample_for_clients, small, with_words)
+from model.reason_cases import kept_answers
+from model.tree import DEFAULT, Tree
+from model.words import client_words, line_of
+from nfs4.wire import Delegreturn, OpenConfirm, OpenOwner, Opnum, READ, Read, Stateid, Write, u32
 
 TOOLS = os.path.join(os.path.dirname(os.path.abspath(__file__)), "..")
 # The seconds that a tool has, on however busy a machine.
@@ -36,6 +36,7 @@ def beginnings():
     yield "a beginning that is cut", data[:-4]
     yield "a beginning with one entry", data[:places_of(small())[1]]
     yield "a beginning of the earlier version", beginning_of(earlier(small()))
+    yield 'a beginning under "clients"', beginning_of(listed_and_set())
 
 
 def places_of(journal):
@@ -91,13 +92,15 @@ def check_faults():
              ("more than its number", journal_bytes(small()) + u32(1), "entry 3: bytes after the last one"),
              ("padding", with_words(data, first + 44, 0x63310001), "entry 0: padding that isn't zero"),
              ("a Forget in the earlier version", beginning_of(earlier(small())) + FORGOTTEN,
-              "entry 3: no kind of entry")]
+              "entry 3: no kind of entry"),
+             ('a listing behind a beginning that isn\'t of "clients"', HEAD + beginning_of(listed_and_set())[8:],
+              "entry 0: an operation that makes no entry")]
     for name, file, fault in cases:
         growing = Growing()
         growing.take(file)
         if (growing.fault, growing.is_whole()) != (fault, False):
             wrong.append(f"a beginning with {name}: {growing.fault}, not {fault}")
-    for version in (b"NFSJRN01", b"NFSJRN04"):
+    for version in (b"NFSJRN01", b"NFSJRN04", b"NFSJRC01", b"NFSJRC02", b"NFSJRC04"):
         try:
             Growing().take(version)
             wrong.append(f"a beginning of another version is read, {version}")
@@ -221,6 +224,7 @@ def try_shown(room):
         if file.read() != journal_bytes(journal._replace(entries=journal.entries[:-1])):
             room.wrong.append("tools/show_journal saves another journal")
     try_earlier(room, saved)
+    try_for_clients(room, saved)
     room.expect("show_journal", [room.put("head.part", whole[:20])], [HEAD_ENDS])
     room.expect("show_journal", [room.put("other", whole + b"\0")], lines, 1,
                 f"fault: not a journal: entry {count}: bytes after the last one\n")
@@ -245,6 +249,35 @@ def try_earlier(room, saved):
     refused = small()._replace(entries=[small().entries[1]])
     room.expect("explain", [room.put("refused.earlier", journal_bytes(earlier(refused)))], [], 1,
                 "fault: wrong answer at entry 0\n")
+
+
+LISTED = [
+    '0: moment 0, AUTH_NONE, directory "/d": READDIR u64:0 hex:0000000000000000 0 56 1 16 -> READDIR NFS4_OK '
+    'hex:0000000000000000 1 u64:6 "c" 1 16 8 0x00000000 0x00000000 0 1',
+    '1: moment 0, AUTH_NONE, file "/a": GETATTR 2 0 0x00400000 -> GETATTR NFS4ERR_INVAL',
+    '2: moment 0, AUTH_NONE, file "/a": SETATTR 0 0 0 0 1 16 8 0x00000000 0x00000000 -> SETATTR NFS4_OK 1 16',
+    '3: moment 0, AUTH_NONE, file "/a": SETATTR 0 0 0 0 2 0 2 4 0x00000180 -> SETATTR NFS4ERR_ROFS 0']
+NOT_LISTED = {1: "    attribute 54 (time_modify_set) can only be set (RULES: GETATTR)",
+              3: "    attribute 33 (mode) stays what it is for good (RULES: SETATTR)"}
+
+
+def try_for_clients(room, saved):
+    """A journal under "clients", and a beginning of one, which is saved as what it is."""
+    journal, whole = listed_and_set(), journal_bytes(listed_and_set())
+    room.expect("show_journal", [room.put("listed", whole)], LISTED)
+    explained = [line for number, reason in NOT_LISTED.items() for line in (LISTED[number], reason)]
+    room.expect("explain", [room.path("listed")], explained)
+    cut = room.put("listed.part", beginning_of(journal)[:places_of(journal)[3] + 8])
+    inside = "the file ends inside entry 3, of which it has 8 bytes"
+    room.expect("show_journal", [cut], LISTED[:3] + [inside])
+    room.expect("show_journal", ["--lawful", cut], ["lawful: 3 entries", inside])
+    room.expect("show_journal", ["--save", saved, cut], ["saved: 3 entries", inside])
+    with open(saved, "rb") as file:
+        data = file.read()
+    if data != journal_bytes(journal._replace(entries=journal.entries[:3])) or not data.startswith(HEAD_OF_CLIENTS):
+        room.wrong.append(f"tools/show_journal saves another journal of \"clients\": {data[:8]}")
+    plain = room.put("plain.part", HEAD + beginning_of(journal)[8:])
+    room.expect("show_journal", [plain], [], 1, "fault: not a journal: entry 0: an operation that makes no entry\n")
 
 
 def try_data(room):
@@ -318,9 +351,8 @@ def hear_interrupts():
     signal.signal(signal.SIGINT, signal.SIG_DFL)
 
 
-def try_followed(room, name, end, wanted, errors):
+def try_followed(room, name, end, wanted, errors, journal=sample()):
     """A file is followed from before it is there; it comes in pieces that cut entries, and then `end` is done."""
-    journal = sample()
     data, path = beginning_of(journal)[:places_of(journal)[-2] + 8], room.path(f"{name}.part")
     with following(path) as follower:
         limit = threading.Timer(PATIENCE, follower.kill)
@@ -368,6 +400,9 @@ def try_follow(room):
     try_followed(room, "a shorter one", replace_by(journal_bytes(small())), [inside], gone)
     try_followed(room, "of another epoch", replace_by(journal_bytes(journal._replace(epoch=2))), [inside], gone)
     try_followed(room, "of the earlier version", replace_by(journal_bytes(earlier(journal))), [inside], gone)
+    for_clients = sample_for_clients()
+    try_followed(room, 'ended, under "clients"', replace_by(journal_bytes(for_clients)), shown(for_clients)[-1:], "",
+                 for_clients)
     try_followed(room, "removed", lambda path, *_: os.remove(path), [inside], gone)
     try_followed(room, "renamed", rename, [inside], gone)
     try_followed(room, "interrupted", lambda *all: all[-1].send_signal(signal.SIGINT), [inside], "")
@@ -381,6 +416,7 @@ def check_beginnings():
     server = idle()
     server.sweep(192)
     wrong += check_cuts("forgettings", server.journal(), 1) + check_cuts("the earlier version", earlier(small()), 1)
+    wrong += check_cuts("listings and sizes", listed_and_set(), 1)
     wrong += check_clients() + check_forgettings()
     with tempfile.TemporaryDirectory() as folder:
         room = Room(folder)

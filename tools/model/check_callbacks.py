@@ -2,14 +2,17 @@
 """check_callbacks.py: the records of callbacks, written out; what replies to them are; and where a client can be
 called. They were worked out from RFC 5531 and RFC 7531."""
 import sys
+from collections.abc import Iterator
 
 sys.dont_write_bytecode = True
+from packages import make_known
+make_known()
 
-from callbacks import CallbackReply, address_of, null_call, read_reply, recall_call
-from states import Recall
-from wire import Callback, Stateid, opaque, u32
+from model.states import Recall
+from nfs4.callbacks import CallbackReply, address_of, null_call, read_reply, recall_call
+from nfs4.wire import Callback, Stateid, opaque, u32
 
-ACCEPTED, REFUSED, UNREADABLE = CallbackReply
+ACCEPTED, REFUSED, UNREADABLE = CallbackReply.ACCEPTED, CallbackReply.REFUSED, CallbackReply.UNREADABLE
 LENT = Recall(Stateid(1, 1, 1, 2), 1, (0, 0), Callback(0x40000000, b"tcp", b"127.0.0.1.8.1", 1))
 # Each a record, with the words that it has to be.
 RECORDS = [
@@ -28,7 +31,7 @@ HEAD = u32(XID, 1, 0, 0, 0)
 RECALLED = u32(0) + opaque(b"") + u32(1, 4, 0)
 
 
-def results(status, *each):
+def results(status: int, *each: bytes) -> bytes:
     return HEAD + u32(0, status) + opaque(b"") + u32(len(each)) + b"".join(each)
 
 
@@ -67,7 +70,7 @@ ADDRESSES = [
 ]
 
 
-def differences():
+def differences() -> Iterator[str]:
     for record, words in RECORDS:
         if record != bytes.fromhex(words):
             yield f"a record is {record.hex(' ', 4)}, not {words}"
@@ -80,13 +83,13 @@ def differences():
             yield f"{name}, to CB_NULL: {read_reply(reply, XID, False)}"
         if not has_success and wanted != ACCEPTED and read_reply(reply, XID, False) != wanted:
             yield f"{name}, to CB_NULL: {read_reply(reply, XID, False)}, not {wanted}"
-    for netid, address, wanted in ADDRESSES:
-        got = address_of(Callback(1, netid, address, 1))
-        if got != wanted:
-            yield f"the address {address} over {netid}: {got}, not {wanted}"
+    for netid, address, place in ADDRESSES:
+        found = address_of(Callback(1, netid, address, 1))
+        if found != place:
+            yield f"the address {address!r} over {netid!r}: {found}, not {place}"
 
 
-def main():
+def main() -> int:
     found = list(differences())
     for line in found:
         print(f"check_callbacks: {line}")

@@ -16,25 +16,31 @@ import random
 import sys
 
 sys.dont_write_bytecode = True
+from packages import make_known
+make_known()
 
-import rows
-from check_beginnings import beginnings, check_beginnings
-from check_reasons import Explained, check_stories
-from check_rows import converse
-from entries import ARGUMENT_BYTES, Call, Expire, NotJournal, RESTS, answer_bytes, entry_bytes
-from journal import Recorder, audit, head_bytes, journal_bytes, read_journal, verdict
-from journal_cases import (NOT_JOURNAL, all_answers, broken_answers, broken_entries, broken_heads, broken_lengths,
-                           broken_nodes, broken_operations, broken_padding, file_of, other_lengths, sample, small,
-                           whole_files, written_out)
-from model import STATEFUL
-from program import Program, can_run_once
-from tree import DEFAULT, Node, Refused, Tree, tree_of
-from verdict_cases import verdicts
-from wire import u32
-from words import answer_words, line_of, operation_words
+from model.check_beginnings import beginnings, check_beginnings
+from model.check_reasons import Explained, check_stories
+from model.check_rows import converse
+from model.entries import ARGUMENT_BYTES, Call, Expire, NotJournal, RESTS, answer_bytes, entry_bytes
+from model.journal import Recorder, audit, head_bytes, journal_bytes, read_journal, verdict
+from model.journal_cases import (NOT_JOURNAL, all_answers, broken_answers, broken_entries, broken_heads, broken_lengths,
+                                 broken_nodes, broken_operations, broken_padding, file_of, other_lengths, sample,
+                                 sample_for_clients, small, whole_files, written_out)
+from model.program import Program, can_run_once
+from model.server import STATEFUL_BY_PROFILE
+from model.tree import DEFAULT, Node, Refused, Tree, tree_of
+from model.verdict_cases import verdicts
+from model.words import answer_words, line_of, operation_words
+from nfs4 import rows
+from nfs4.wire import Opnum, Status, u32
 
 # Of a journal whose answers have at most so many words, each is changed; of any other, so many.
 SHORT, DRAWN = 30, 3
+# The statuses of SETATTR that it has in the samples; each other one, which has the same form, it never has.
+OF_SETATTR = {Status.OK, Status.NOFILEHANDLE, Status.ISDIR, Status.INVAL, Status.FBIG, Status.ROFS, Status.BAD_STATEID,
+              Status.ATTRNOTSUPP, Status.BADXDR}
+NEVER = {(Opnum.SETATTR, status) for status in set(Status) - OF_SETATTR}
 
 
 # The journals of rows.
@@ -212,16 +218,16 @@ def check_verdicts():
     return wrong + [name for name, other in other_lengths() if verdict(other)[0]]
 
 
-def check_sample():
-    """That it has all that there is, and is lawful."""
-    journal = sample()
-    wrong = list(wrong_with(journal))
-    if audit(journal).journal().entries != journal.entries:
-        wrong.append("an audit makes another journal")
-    missing = {key for key in RESTS if key[0] in STATEFUL}
-    missing -= {(call.answer.number, call.answer.status) for call in calls_of(journal)}
-    if missing or set(ARGUMENT_BYTES) != STATEFUL:
-        wrong.append(f"the sample misses {missing}, or an operation with an entry has no bytes")
+def check_samples():
+    """That they have all that there is, and are lawful."""
+    wrong, missing = [], {key for key in RESTS if key[0] in ARGUMENT_BYTES} - NEVER
+    for journal in (sample(), sample_for_clients()):
+        wrong += wrong_with(journal)
+        if audit(journal).journal() != journal:
+            wrong.append("an audit makes another journal")
+        missing -= {(call.answer.number, call.answer.status) for call in calls_of(journal)}
+    if missing or set(ARGUMENT_BYTES) != set.union(*STATEFUL_BY_PROFILE.values()):
+        wrong.append(f"the samples miss {missing}, or an operation with an entry has no bytes")
     return wrong
 
 
@@ -237,8 +243,10 @@ def files_of_cases():
     yield from other_lengths()
     yield from all_answers()
     yield from beginnings()
-    data, draw = journal_bytes(sample()), random.Random(2)
-    yield from ((f"another word at {place}", with_other_word(data, place, draw)) for place in range(0, len(data), 4))
+    draw = random.Random(2)
+    for data in (journal_bytes(sample()), journal_bytes(sample_for_clients())):
+        places = range(0, len(data), 4)
+        yield from ((f"another word at {place}", with_other_word(data, place, draw)) for place in places)
 
 
 def check_program(program, judged, written):
@@ -260,7 +268,7 @@ def main():
     parser.add_argument("--program", help="a built nfs4state")
     parser.add_argument("files", nargs="+", metavar="FOLDER|FILE.rows")
     given = parser.parse_args()
-    wrong = check_broken_files() + check_whole_files() + check_node_lists() + check_verdicts() + check_sample()
+    wrong = check_broken_files() + check_whole_files() + check_node_lists() + check_verdicts() + check_samples()
     wrong += check_stories() + check_beginnings()
     for what in wrong:
         print(f"check_journals: {what}")

@@ -6,10 +6,13 @@ random change every question is asked of both. It judges ranges.py alone, no pro
 import argparse
 import random
 import sys
+from typing import Any
 
 sys.dont_write_bytecode = True
+from packages import make_known
+make_known()
 
-from ranges import ALL_ONES, LAST_BYTE, READ_MODE, Ranges, WRITE_MODE, denial, length_of, meets, range_of
+from model.ranges import ALL_ONES, LAST_BYTE, READ_MODE, Ranges, WRITE_MODE, denial, length_of, meets, range_of
 
 SIDE = 12
 # The byte at each place of a list; the place in the middle has all bytes between its neighbours.
@@ -18,14 +21,14 @@ ENDS = [*range(SIDE), LAST_BYTE - SIDE, *range(LAST_BYTE - SIDE + 1, LAST_BYTE +
 PLACES = range(len(BYTES))
 
 
-def bytes_of(offset, length):
+def bytes_of(offset: int, length: int) -> Any:
     """The places of a range's bytes, or None where there is no such range: each byte asked alone."""
     if length == 0 or (length != ALL_ONES and offset + length > 2**64 - 1):
         return None
     return [place for place in PLACES if offset <= BYTES[place] and (length == ALL_ONES or ENDS[place] < offset + length)]
 
 
-def run_round(modes, place):
+def run_round(modes: Any, place: Any) -> Any:
     """The longest stretch of one mode round this place."""
     first = last = place
     while first > 0 and modes[first - 1] == modes[place]:
@@ -35,12 +38,12 @@ def run_round(modes, place):
     return BYTES[first], ENDS[last], modes[place]
 
 
-def runs(modes):
+def runs(modes: Any) -> Any:
     """Places that are held and begin a stretch."""
     return sum(modes[place] is not None and (place == 0 or modes[place - 1] != modes[place]) for place in PLACES)
 
 
-def report(lists, places, mode):
+def report(lists: Any, places: Any, mode: Any) -> Any:
     """The least byte with a conflict, the least owner in conflict there, and its stretch."""
     for place in places:
         owners = [owner for owner in sorted(lists) if meets(lists[owner][place], mode)]
@@ -49,7 +52,7 @@ def report(lists, places, mode):
     return None
 
 
-def random_range(chance):
+def random_range(chance: random.Random) -> Any:
     """An offset and a length whose ends are no byte of the middle."""
     first, last = sorted((chance.choice(PLACES), chance.choice(PLACES)))
     length = length_of(BYTES[first], ENDS[last])
@@ -58,31 +61,31 @@ def random_range(chance):
     return BYTES[first], chance.choice([length] * 12 + [0, ALL_ONES, ALL_ONES - 1])
 
 
-def compare(held, lists, owner, asked, mode):
+def compare(held: dict[str, Ranges], lists: Any, owner: str, asked: tuple[int, int], mode: Any) -> bool:
     """Each question about the owner's ranges and the range asked has one answer in both forms."""
     first, last = asked[0], asked[1]
     places = bytes_of(first, length_of(first, last))
     ranges, modes = held[owner], lists[owner]
-    pairs = [(ranges.runs(), runs(modes)), (ranges.is_empty(), not any(modes))]
+    pairs: list[Any] = [(ranges.runs(), runs(modes)), (ranges.is_empty(), not any(modes))]
     pairs += [(ranges.mode(BYTES[place]), modes[place]) for place in PLACES]
     pairs += [(tuple(ranges.run_at(BYTES[place])), run_round(modes, place)) for place in PLACES]
     conflict = [BYTES[place] for place in places if meets(modes[place], mode)]
     pairs.append((ranges.first_conflict(first, last, mode), conflict[0] if conflict else None))
     others = {other: held[other] for other in held if other != owner}
-    found = denial(others.items(), first, last, mode)
+    found = denial(list(others.items()), first, last, mode)
     reported = None if found is None else (found.owner, tuple(found.run))
     pairs.append((reported, report({other: lists[other] for other in others}, places, mode)))
     return all(one == other for one, other in pairs)
 
 
-def main():
+def main() -> None:
     parser = argparse.ArgumentParser()
     parser.add_argument("--seed", type=int, default=0)
     parser.add_argument("--changes", type=int, default=20000)
     words = parser.parse_args()
     chance = random.Random(words.seed)
     held = {owner: Ranges() for owner in "xyz"}
-    lists = {owner: [None] * len(BYTES) for owner in held}
+    lists: dict[str, list[int | None]] = {owner: [None] * len(BYTES) for owner in held}
     for change in range(words.changes):
         offset, length = random_range(chance)
         asked, places = range_of(offset, length), bytes_of(offset, length)

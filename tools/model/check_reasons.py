@@ -4,10 +4,10 @@ docs/RULES.md has, no other call has one but for a kept answer, and that is the 
 import os
 from collections import Counter
 
-from entries import Call
-from reason_cases import stories
-from reasons import again_words, is_refusal, reasons
-from wire import Status
+from model.entries import Call
+from model.reason_cases import stories
+from model.reasons import again_words, is_refusal, reasons
+from nfs4.wire import Status
 
 RULES = os.path.join(os.path.dirname(os.path.abspath(__file__)), "../../docs/RULES.md")
 

@@ -4,21 +4,24 @@
 The status is 1 where a row differs, or a file can't be read; and where a row without orders would get something else
 from a server that finds nobody at the callback addresses: over TCP it calls there at any time."""
 import sys
+from collections.abc import Set
+from typing import Any
 
 sys.dont_write_bytecode = True
+from packages import make_known
+make_known()
 
-import rows
-import wire
-from callbacks import recall_call
-from model import Server
-from states import DOWN, NOT_LIVE, UNKNOWN, Unchanged
-from tree import DEFAULT, Refused, Tree
+from model.server import Server
+from model.states import DOWN, NOT_LIVE, UNKNOWN, Unchanged
+from model.tree import DEFAULT, Refused, Tree
+from nfs4 import rows, wire
+from nfs4.callbacks import recall_call
 
 
 class Unreached(Server):
     """A server whose clients can't be called back, which it finds out at once."""
 
-    def reply(self, record, refused=frozenset()):
+    def reply(self, record: bytes, refused: Set[int] = frozenset()) -> bytes | None:
         found = super().reply(record, refused)
         called = {recall.stateid.client for recall in self.recalls}
         for it in self.records:
@@ -27,7 +30,7 @@ class Unreached(Server):
         return found
 
 
-def run(row, kind=Server):
+def run(row: rows.Row, kind: type[Any] = Server) -> list[tuple[bytes, str | None, list[Any]]]:
     """For each connection what it gets: bytes, the fault that ends it, and what came of the orders meanwhile."""
     try:
         tree = Tree(DEFAULT if row.document is None else row.document)
@@ -37,7 +40,7 @@ def run(row, kind=Server):
     return [converse(server, connection) for connection in row.connections]
 
 
-def converse(server, connection):
+def converse(server: Server, connection: rows.Connection) -> tuple[bytes, str | None, list[Any]]:
     """Sends a connection's bytes to the server, and does in between what the row says."""
     records, fault = wire.split_records(connection.sent)
     replies, done, ordered = [], 0, []
@@ -53,7 +56,7 @@ def converse(server, connection):
     return b"".join(wire.record(reply) for reply in replies if reply is not None), fault, ordered
 
 
-def outcome_of(server, order):
+def outcome_of(server: Server, order: Any) -> Any:
     """The order, with what came of it in the place of what is wanted."""
     match order:
         case rows.Sweep(moment):
@@ -62,7 +65,7 @@ def outcome_of(server, order):
         case rows.Mark(client, is_up):
             return rows.Mark(client, is_up, is_marked(server, client, is_up))
         case rows.Revoke(moment):
-            found = server.due(moment)
+            found: Any = server.due(moment)
             return rows.Revoke(moment, None if server.revoke(moment) is None else found.number)
         case rows.Forget(moment):
             found = [(owner.name.client, owner.name.name) for owner in server.idle(moment)[:1]]
@@ -76,7 +79,7 @@ def outcome_of(server, order):
             return rows.Probe(after, server.probe(after))
 
 
-def is_marked(server, client, is_up):
+def is_marked(server: Server, client: int, is_up: bool) -> bool:
     """Whether the client is live; then its path is marked."""
     try:
         server.mark_path(client, is_up)
@@ -87,12 +90,12 @@ def is_marked(server, client, is_up):
     return True
 
 
-def wanted_of(connection):
+def wanted_of(connection: rows.Connection) -> tuple[bytes, str | None, list[Any]]:
     ordered = [stop for _, stop in connection.stops if isinstance(stop, rows.ORDERS)]
     return connection.wanted, connection.fault, ordered
 
 
-def report(row, connection, got):
+def report(row: rows.Row, connection: rows.Connection, got: Any) -> None:
     print(f"{row.file}:{row.line}: {row.name}")
     replies, fault, ordered = got
     if fault != connection.fault:
@@ -103,7 +106,7 @@ def report(row, connection, got):
     rows.show_difference(connection.wanted, replies, "model")
 
 
-def main(paths):
+def main(paths: list[str]) -> int:
     agreed = differ = unread = 0
     try:
         files = [file for path in paths for file in rows.files_of(path)]

@@ -1,19 +1,24 @@
-"""The entries of a journal as bytes: docs/JOURNAL.md has the layout. Arguments of operations are read by `wire.py`, and
-written here; answers are read here.
+"""The entries of a journal as bytes: docs/JOURNAL.md has the layout. Arguments of operations are read by `nfs4.wire`,
+and written here; answers are read here.
 
 There is one spelling: what is read here is written again by the same bytes, so padding has to be zero.
 """
 from collections import namedtuple
+from collections.abc import Callable
+from typing import Any
 
-import wire
-from wire import (CLAIM_DELEGATE_CUR, CLAIM_PREVIOUS, EXCLUSIVE4, NewLocker, OPEN4_NOCREATE, OPEN_DELEGATE_NONE,
-                  OPEN_DELEGATE_WRITE, Opnum, READ_LT, Status, Unreadable, bitmap, opaque, read_lock_owner,
-                  read_open_owner, read_stateid, u32, u64)
+from model.server import CHANGING_DIRECTORIES, STATEFUL_BY_PROFILE
+from nfs4 import wire
+from nfs4.wire import (CLAIM_DELEGATE_CUR, CLAIM_PREVIOUS, Claim, EXCLUSIVE4, KnownLocker, Lock, LockOwner, Lockt,
+                       Locku, NewLocker, OPEN4_NOCREATE, OPEN_DELEGATE_NONE, OPEN_DELEGATE_WRITE, Open, OpenOwner,
+                       Openhow, Opnum, READ_LT, Setclientid, Stateid, Status, Unreadable, bitmap, opaque,
+                       read_attributes, read_directory, read_lock_owner, read_open_owner, read_stateid, u32, u64)
 
 MOMENT_LIMIT = 2**40 - 2
 
-# The statuses that an answer may have.
+# The statuses that an answer may have; and those of an operation without a rule that changes directories.
 STATUSES = set(Status)
+WITHOUT_RULE = dict.fromkeys(CHANGING_DIRECTORIES, {Status.NOTSUPP, Status.ROFS})
 
 # A request with its answer: when it came, who sent it, and the current filehandle's node, or None.
 Call = namedtuple("Call", "moment principal filehandle opnum arguments answer")
@@ -40,12 +45,12 @@ class EndsEarly(NotJournal):
 class StrictReader(wire.Reader):
     """Takes values that have one spelling, and says what is wrong with them."""
 
-    def fixed(self, count):
+    def fixed(self, count: int) -> bytes:
         if len(self.data) - self.at < count:
             raise EndsEarly("it ends too early")
         return super().fixed(count)
 
-    def opaque(self, limit=2**32 - 1):
+    def opaque(self, limit: int = 2**32 - 1) -> bytes:
         if int.from_bytes(self.data[self.at:self.at + 4], "big") > limit:
             raise NotJournal(f"more than {limit} bytes")
         value = super().opaque(limit)
@@ -54,16 +59,16 @@ class StrictReader(wire.Reader):
             raise NotJournal("padding that isn't zero")
         return value
 
-    def bitmap(self):
+    def bitmap(self) -> tuple[int, ...]:
         return tuple(self.u32() for _ in range(self.u32()))
 
-    def one_of(self, count, first=0):
+    def one_of(self, count: int, first: int = 0) -> int:
         number = self.u32()
         if not first <= number < first + count:
             raise NotJournal(f"a number that isn't {first} to {first + count - 1}")
         return number
 
-    def fixed_words(self, *words):
+    def fixed_words(self, *words: int) -> None:
         """Words that the layout leaves no choice of."""
         if self.fixed(4 * len(words)) != u32(*words):
             raise NotJournal("other words than the layout has")
@@ -71,48 +76,52 @@ class StrictReader(wire.Reader):
 
 # The arguments of each operation that makes an entry.
 
-def owner_bytes(owner):
+def owner_bytes(owner: LockOwner | OpenOwner) -> bytes:
     return u32(owner.epoch, owner.client) + opaque(owner.name)
 
 
-def range_bytes(arguments):
+def range_bytes(arguments: Lock | Lockt | Locku) -> bytes:
     return u64(arguments.offset) + u64(arguments.length)
 
 
-def locker_bytes(locker):
+def locker_bytes(locker: KnownLocker | NewLocker) -> bytes:
     if isinstance(locker, NewLocker):
         return u32(1, locker.open_seqid, *locker.open_stateid, locker.lock_seqid) + owner_bytes(locker.owner)
     return u32(0, *locker.lock_stateid, locker.lock_seqid)
 
 
-def openhow_bytes(how):
+def fattr_bytes(attributes: tuple[tuple[int, ...], bytes]) -> bytes:
+    mask, values = attributes
+    return bitmap(mask) + opaque(values)
+
+
+def openhow_bytes(how: Openhow) -> bytes:
     if how.create == OPEN4_NOCREATE:
         return u32(how.create)
     if how.mode == EXCLUSIVE4:
         return u32(how.create, how.mode) + how.value
-    mask, values = how.value
-    return u32(how.create, how.mode) + bitmap(mask) + opaque(values)
+    return u32(how.create, how.mode) + fattr_bytes(how.value)
 
 
-def claim_bytes(claim):
+def claim_bytes(claim: Claim) -> bytes:
     if claim.kind == CLAIM_PREVIOUS:
         return u32(claim.kind, claim.delegation)
     stateid = claim.delegation if claim.kind == CLAIM_DELEGATE_CUR else ()
     return u32(claim.kind, *stateid) + opaque(claim.name)
 
 
-def open_bytes(arguments):
+def open_bytes(arguments: Open) -> bytes:
     head = u32(arguments.seqid, arguments.access, arguments.deny) + owner_bytes(arguments.owner)
     return head + openhow_bytes(arguments.how) + claim_bytes(arguments.claim)
 
 
-def setclientid_bytes(arguments):
+def setclientid_bytes(arguments: Setclientid) -> bytes:
     callback = arguments.callback
     address = opaque(callback.netid) + opaque(callback.address)
     return arguments.verifier + opaque(arguments.id) + u32(callback.program) + address + u32(callback.ident)
 
 
-ARGUMENT_BYTES = {
+ARGUMENT_BYTES: dict[int, Callable[[Any], bytes]] = {
     Opnum.CLOSE: lambda a: u32(a.seqid, *a.stateid),
     Opnum.DELEGRETURN: lambda a: u32(*a.stateid),
     Opnum.GETATTR: lambda a: bitmap(a.mask),
@@ -123,7 +132,9 @@ ARGUMENT_BYTES = {
     Opnum.OPEN_CONFIRM: lambda a: u32(*a.stateid, a.seqid),
     Opnum.OPEN_DOWNGRADE: lambda a: u32(*a.stateid, a.seqid, a.access, a.deny),
     Opnum.READ: lambda a: u32(*a.stateid) + u64(a.offset) + u32(a.count),
+    Opnum.READDIR: lambda a: u64(a.cookie) + a.verifier + u32(a.dircount, a.maxcount) + bitmap(a.mask),
     Opnum.RELEASE_LOCKOWNER: lambda a: owner_bytes(a.owner),
+    Opnum.SETATTR: lambda a: u32(*a.stateid) + fattr_bytes(a.attributes),
     Opnum.SETCLIENTID: setclientid_bytes,
     Opnum.SETCLIENTID_CONFIRM: lambda a: u32(a.epoch, a.client) + u64(a.confirm),
     Opnum.WRITE: lambda a: u32(*a.stateid) + u64(a.offset) + u32(a.stable) + opaque(a.data),
@@ -132,15 +143,11 @@ ARGUMENT_BYTES = {
 
 # What follows the status of an answer, by the operation and the status; for all others nothing does.
 
-def read_fattr(reader):
-    return reader.bitmap(), reader.opaque()
-
-
-def read_denied(reader):
+def read_denied(reader: StrictReader) -> tuple[int, int, int, LockOwner]:
     return reader.u64(), reader.u64(), reader.one_of(4, first=READ_LT), read_lock_owner(reader)
 
 
-def read_delegation(reader):
+def read_delegation(reader: Any) -> tuple[int, Stateid | None]:
     """Its kind, and its stateid if there is one. What the server can't choose of a delegation is fixed: it isn't called
     back, its space is 65,536 bytes, and its access list entry permits nobody anything."""
     kind, stateid = reader.one_of(3), None
@@ -154,14 +161,14 @@ def read_delegation(reader):
     return kind, stateid
 
 
-def read_open_answer(reader):
+def read_open_answer(reader: Any) -> tuple[int, Stateid | None]:
     """The delegation that it brings."""
     read_stateid(reader), reader.one_of(2), reader.u64(), reader.u64()
     reader.u32(), reader.bitmap()
     return read_delegation(reader)
 
 
-def delegation_given(entry):
+def delegation_given(entry: Call | Expire) -> tuple[int, Stateid] | None:
     """The kind and the stateid of the delegation that an entry gives, or None."""
     if not isinstance(entry, Call) or (entry.answer.number, entry.answer.status) != (Opnum.OPEN, Status.OK):
         return None
@@ -169,10 +176,11 @@ def delegation_given(entry):
     return None if stateid is None else (kind, stateid)
 
 
-RESTS = {
+RESTS: dict[tuple[int, int], Callable[[Any], Any]] = {
     (Opnum.ACCESS, Status.OK): lambda r: (r.u32(), r.u32()),
     (Opnum.CLOSE, Status.OK): read_stateid,
-    (Opnum.GETATTR, Status.OK): read_fattr,
+    (Opnum.COMMIT, Status.OK): lambda r: r.fixed(8),
+    (Opnum.GETATTR, Status.OK): read_attributes,
     (Opnum.GETFH, Status.OK): lambda r: r.opaque(wire.FILEHANDLE_LIMIT),
     (Opnum.LOCK, Status.OK): read_stateid,
     (Opnum.LOCK, Status.DENIED): read_denied,
@@ -185,47 +193,49 @@ RESTS = {
     # stable_how4, and the verifier.
     (Opnum.READ, Status.OK): lambda r: (r.one_of(2), r.file_bytes()),
     (Opnum.WRITE, Status.OK): lambda r: (r.u32(), r.one_of(3), r.u32(), r.u32()),
-    (Opnum.SETATTR, Status.NOTSUPP): lambda r: r.fixed_words(0),
+    (Opnum.READDIR, Status.OK): read_directory,
+    **{(Opnum.SETATTR, status): lambda r: r.bitmap() for status in Status},
     (Opnum.SETCLIENTID, Status.OK): lambda r: (r.u32(), r.u32(), r.u64()),
     (Opnum.SETCLIENTID, Status.CLID_INUSE): lambda r: (r.opaque(), r.opaque()),
 }
 
 
-def read_answer(reader):
+def read_answer(reader: StrictReader) -> Answer:
     number, status = reader.u32(), reader.u32()
     if not 3 <= number <= 39 and number != Opnum.ILLEGAL:
         raise NotJournal("an answer to no operation")
     if status not in STATUSES:
         raise NotJournal("no status")
     has_rule = number in wire.ARGUMENTS or number == Opnum.ILLEGAL
-    if not has_rule and status != Status.NOTSUPP:
+    if not has_rule and status not in WITHOUT_RULE.get(number, {Status.NOTSUPP}):
         raise NotJournal("an operation without a rule has another answer than NOTSUPP")
     begin = reader.at
     RESTS.get((number, status), lambda r: None)(reader)
     return Answer(number, status, reader.data[begin:reader.at])
 
 
-def answer_bytes(answer):
+def answer_bytes(answer: Answer) -> bytes:
     return u32(answer.number, answer.status) + answer.rest
 
 
-# The entries by their kinds. `nodes` is how many there are, with the root.
+# The entries by their kinds. `nodes` is how many there are, with the root; which operations make an entry hangs on the
+# profile.
 
-def read_moment(reader):
+def read_moment(reader: StrictReader) -> int:
     moment = reader.u64()
     if moment >= MOMENT_LIMIT:
         raise NotJournal("a moment of 2^40 - 2 or more")
     return moment
 
 
-def read_principal(reader):
+def read_principal(reader: StrictReader) -> tuple[int, int]:
     flavor, uid = reader.one_of(2), reader.u32()
     if flavor == wire.AUTH_NONE and uid != 0:
         raise NotJournal("a uid behind AUTH_NONE")
     return flavor, uid
 
 
-def read_filehandle(reader, nodes):
+def read_filehandle(reader: StrictReader, nodes: int) -> int | None:
     is_present, node = reader.one_of(2), reader.u32()
     if not is_present and node != 0:
         raise NotJournal("a node without a filehandle")
@@ -234,19 +244,20 @@ def read_filehandle(reader, nodes):
     return node if is_present else None
 
 
-def read_operation(reader):
+def read_operation(reader: StrictReader, profile: str) -> tuple[Opnum, Any]:
     number = reader.u32()
-    if number not in ARGUMENT_BYTES:
+    if number not in STATEFUL_BY_PROFILE[profile]:
         raise NotJournal("an operation that makes no entry")
     return Opnum(number), wire.ARGUMENTS[number](reader)
 
 
-def read_call(reader, nodes):
-    moment, principal, filehandle = read_moment(reader), read_principal(reader), read_filehandle(reader, nodes)
-    return Call(moment, principal, filehandle, *read_operation(reader), read_answer(reader))
+def read_call(reader: StrictReader, tree: Any) -> Call:
+    moment, principal = read_moment(reader), read_principal(reader)
+    filehandle, operation = read_filehandle(reader, len(tree.nodes)), read_operation(reader, tree.policy.profile)
+    return Call(moment, principal, filehandle, *operation, read_answer(reader))
 
 
-def request_bytes(call):
+def request_bytes(call: Call) -> bytes:
     """A call up to its answer."""
     filehandle = u32(0, 0) if call.filehandle is None else u32(1, call.filehandle)
     head = u64(call.moment) + u32(*call.principal) + filehandle
@@ -256,11 +267,11 @@ def request_bytes(call):
 CALL, EXPIRE, REVOKE, PATH, FORGET = 1, 2, 3, 4, 5
 
 
-def read_entry(reader, nodes, has_forgets=True):
-    """The next entry. Journals of an earlier version have no Forget."""
+def read_entry(reader: StrictReader, tree: Any, has_forgets: bool = True) -> Any:
+    """The next entry of a journal over this tree. Journals of an earlier version have no Forget."""
     kind = reader.u32()
     if kind == CALL:
-        return read_call(reader, nodes)
+        return read_call(reader, tree)
     if kind == EXPIRE:
         return Expire(reader.u32(), read_moment(reader), read_moment(reader))
     if kind == REVOKE:
@@ -272,7 +283,7 @@ def read_entry(reader, nodes, has_forgets=True):
     raise NotJournal("no kind of entry")
 
 
-def entry_bytes(entry):
+def entry_bytes(entry: Any) -> bytes:
     if isinstance(entry, Call):
         return u32(CALL) + request_bytes(entry) + answer_bytes(entry.answer)
     if isinstance(entry, Expire):

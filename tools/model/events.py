@@ -1,24 +1,28 @@
 """What entries of a journal do about delegations: which they give, and which of them end; and the marks of clients'
 paths, by which clients get any. What stands in the way of an operation is told as its reason, by `reasons.py`."""
-from entries import Call, Path, Revoke, delegation_given
-from words import client_words, place_words, purpose_of
+from collections.abc import Iterator
+from typing import Any
+
+from model.entries import Path, Revoke, delegation_given
+from model.words import client_words, place_words, purpose_of
 
 
 class Events:
     """What an entry does to the state of a server that follows a journal. `begin` is called before it does, and `texts`
     afterwards."""
 
-    def __init__(self, server):
+    def __init__(self, server: Any) -> None:
         self.server = server
-        self.held, self.path = [], None
+        self.held: list[Any] = []
+        self.path: Any = None
 
-    def begin(self, entry):
+    def begin(self, entry: Any) -> None:
         self.held = list(self.server.delegations)
         if isinstance(entry, Path):
             self.path = self.server.record_where(True, lambda it: it.number == entry.client)
             self.path = self.path and (self.path.path, self.server.path_marks[entry.client])
 
-    def texts(self, number, entry):
+    def texts(self, number: int, entry: Any) -> Iterator[str]:
         """Of the entry of this number."""
         given = delegation_given(entry)
         if given is not None:
@@ -30,18 +34,18 @@ class Events:
             was, since = self.path
             yield f"the path of {client_words(entry.client)} was {was} since {self.server.entry_words(since)}"
 
-    def delegation_words(self, found):
+    def delegation_words(self, found: Any) -> str:
         place = place_words(found.file, self.server.tree)
         return f"state {found.number}, a delegation of {place} for {purpose_of(found.kind)}"
 
-    def gift_words(self, number, state):
+    def gift_words(self, number: int, state: int) -> str:
         found, begun = self.server.given[state], self.server.begun[state]
         client, delegation = client_words(found.client), self.delegation_words(found)
         if begun == number:
             return f"{client} gets {delegation}"
         return f"{client} is told again of {delegation}, which entry {begun} gave it"
 
-    def end_words(self, found, entry):
+    def end_words(self, found: Any, entry: Any) -> str:
         """How a delegation ends by the entry."""
         client, delegation = client_words(found.client), self.delegation_words(found)
         ended = f"{client} gives back {delegation}"

@@ -1,44 +1,43 @@
 #!/usr/bin/env python3
-"""fuzz.py [PROGRAM] [--seed N] [--changes N] [--calls N] [--jobs N] [--ids N]: random calls to a built `rows`, and
-between them orders: sweeps, marks of paths, revocations, owners that are forgotten, and recalls that are taken.
-Replies, outcomes and the journal are compared with the model's, until so many LOCKs and LOCKUs were OK.
+"""fuzz.py [PROGRAM] [--seed N] [--changes N] [--calls N] [--jobs N] [--ids N] [--profile WORD]: random calls to a built
+`rows`, and between them orders: sweeps, marks of paths, revocations, owners that are forgotten, and recalls that are
+taken. Replies, outcomes and the journal are compared with the model's, until so many LOCKs and LOCKUs were OK.
 
 Each run is one server and one connection. In a third of the runs most operations are LOCK, LOCKU and LOCKT, of a few
 lock owners of two clients, at the first and the last bytes; in another third most are OPEN, CLOSE and DELEGRETURN of
 three clients, which get delegations and are called back; and in the last READ and WRITE, by special stateids and by
 those of what these clients have, at the first bytes, round the size, where pages of 4,096 bytes begin and end, and at
-the most that a file has. In half of the runs a CLOSE is refused where bytes are locked. The other operations with a
-rule come too. Each operation is made when the model comes to it, so that most of them name what is there by then; some
-are a little off, and some are an earlier one again. At a difference the steps that lead to it are printed as a row,
-without those that it needs not, and the status is 1; and so it is where many runs have no READ or WRITE of a case that
-pages have (`pages.py`).
+the most that a file has. In half of the runs a CLOSE is refused where bytes are locked; and half of them are under the
+profile "clients", unless --profile says which one all are: then there are listings too, and sizes that are set, near
+what READ and WRITE are near. The other operations with a rule come too. Each operation is made when the model comes to
+it, so that most of them name what is there by then; some are a little off, and some are an earlier one again. At a
+difference the steps that lead to it are printed as a row, without those that it needs not, and the status is 1; and so
+it is where many runs have no READ or WRITE of a case that pages have (`pages.py`).
 
 With --ids clients of so many ids come, of which many aren't confirmed: with 300 all slots of clients are taken, again
 and again."""
 import argparse
 import multiprocessing
-import os
 import random
 import sys
 from collections import Counter
 
 sys.dont_write_bytecode = True
-sys.path.append(os.path.join(os.path.dirname(os.path.abspath(__file__)), ".."))
-
-import rows
-import wire
-from check_rows import outcome_of
-from driver import ALONE, PROGRAM, SHARED
-from entries import Expire, Forget as Forgetting, Path, Revoke as Revocation
-from journal import Recorder, journal_bytes
-from model import CLIENTS_LIMIT
-from pages import CASES, LENGTHS, PAGE, Pages
-from ranges import ALL_ONES, LAST_BYTE
-from rows import Forget, Mark, Part, Pending, Probe, Revoke, Row, Sweep, Take
-from running import WHOLE, run as run_row
-from states import Delegation, LockState, Refusal, SLOTS, handle_of, next_sequence_id
-from tree import CLOSE_LOCKS, DEFAULT, TEXT_LIMIT, Tree
-from wire import Opnum, Status, opaque, u32, u64
+from packages import make_known
+make_known()
+from model.check_rows import outcome_of
+from model.entries import Expire, Forget as Forgetting, Path, Revoke as Revocation
+from model.journal import Recorder, journal_bytes
+from model.pages import CASES, CUTS, LENGTHS, PAGE, Pages
+from model.ranges import ALL_ONES, LAST_BYTE
+from model.server import CLIENTS_LIMIT, FIRST_COOKIE, LISTING_ENDS
+from model.states import Delegation, LockState, Refusal, SLOTS, handle_of, next_sequence_id
+from model.tree import CLIENTS, CLOSE_LOCKS, DEFAULT, PROFILES, TEXT_LIMIT, Tree
+from nfs4 import rows, wire
+from nfs4.rows import Forget, Mark, Part, Pending, Probe, Revoke, Row, Sweep, Take
+from nfs4.wire import Opnum, Status, opaque, u32, u64
+from sending.driver import ALONE, PROGRAM, SHARED
+from sending.running import WHOLE, run as run_row
 
 NAMES = [b"a", b"b", b"d", b"c", b"e", b"", b"x" * 256]
 FILES = [1, 1, 1, 2]
@@ -64,8 +63,10 @@ WHAT = {Expire: "clients removed", Revocation: "delegations revoked", Path: "pat
         Forgetting: "owners forgotten"}
 AGAIN, YIELDED, NONE_LEFT = "slots given again", "records that gave way", "newcomers without a slot"
 BACK = "forgotten owners that came again"
-# In so many operations of a few clients each case of pages comes.
-ENOUGH = 50_000
+# In so many operations of a few clients each case of pages comes, and in so many under either profile of sizes too.
+ENOUGH, ENOUGH_OF_BOTH = 50_000, 100_000
+# Files that a listing has beside the others, by names of several lengths.
+LISTED = "".join(f'[[file]]\npath = "{"n" * length}{length}"\n' for length in (1, 2, 3, 4, 5, 30, 100, 250))
 
 
 class Counting(Recorder):
@@ -121,6 +122,11 @@ class Counting(Recorder):
         self.pages.write(file, size, begin, begin + len(arguments.data))
         return rest
 
+    def resize(self, file, size):
+        before = len(self.text_of(file))
+        super().resize(file, size)
+        self.pages.resize(file, before, size)
+
     def apply(self, opnum, arguments, filehandle, principal, is_refused=False):
         result = super().apply(opnum, arguments, filehandle, principal, is_refused)
         self.counts[opnum, result.status] += 1
@@ -143,19 +149,23 @@ class Drawn(wire.Reader):
         return super().u32()
 
 
-def document_of(chance):
-    """Mostly delegations of both kinds, to clients that can be called at once."""
+def document_of(chance, profile):
+    """Mostly delegations of both kinds, to clients that can be called at once; and under "clients" more to list."""
     delegations, callbacks = chance.choice(["all"] * 6 + ["read", "none"]), chance.choice(["assume"] * 3 + ["probe"])
     words = f'delegations = "{delegations}", callbacks = "{callbacks}", close_locks = "{chance.choice(CLOSE_LOCKS)}"'
+    if profile == CLIENTS:
+        return f'policy = {{ {words}, profile = "{CLIENTS}" }}\n{DEFAULT}{LISTED}'
     return f"policy = {{ {words} }}\n{DEFAULT}"
 
 
 class Caller:
     """Makes calls and orders from what the server beside it has."""
 
-    def __init__(self, seed, ids=IDS):
+    def __init__(self, seed, ids=IDS, profile=None):
         self.chance, self.kind = random.Random(seed), seed % 3
-        self.document, self.lease = document_of(self.chance), self.chance.choice([90, 90, 90, 20, 2])
+        self.profile = profile or PROFILES[seed // 3 % 2]
+        self.document = document_of(self.chance, self.profile)
+        self.lease = self.chance.choice([90, 90, 90, 20, 2])
         # A state that threads share isn't told all orders.
         self.way = SHARED if seed % 8 > 5 else ALONE
         self.server, self.steps, self.again, self.moment = self.new_server(), [], [], 0
@@ -182,7 +192,10 @@ class Caller:
         seldom = 6 if self.is_crowded else 0.3
         often = {self.on_tree: 1, self.getattr: 1, self.setclientid: seldom, self.setclientid_confirm: seldom,
                  self.renew: 0.3}
-        self.makers = often | self.makers
+        if self.profile == CLIENTS:
+            share = {LOCKING: 0.5, LENDING: 2, WRITING: 8}[self.kind]
+            often |= {self.setattr: 3 * share, self.readdir: share, self.getattr: 1 + share, self.commit: 0.3}
+        self.makers = self.makers | often
 
     def new_server(self):
         return Counting(Tree(self.document), self.lease)
@@ -298,13 +311,40 @@ class Caller:
 
     def on_tree(self):
         name, node = self.chance.choice(NAMES), self.chance.randint(0, 5)
+        # Operations whose arguments aren't read.
+        unread = [2, 6, 11, 28, 29, 40, 10044] + [5, 26, 34] * (self.profile != CLIENTS)
         return self.chance.choice([
             [u32(Opnum.PUTROOTFH), u32(Opnum.LOOKUP) + opaque(name), u32(Opnum.GETFH)],
             [u32(Opnum.PUTFH) + opaque(handle_of(node)), u32(Opnum.SAVEFH)],
-            [u32(Opnum.RESTOREFH), u32(Opnum.ACCESS, 63)], [u32(self.chance.choice([2, 5, 34, 40, 10044]))]])
+            [u32(Opnum.RESTOREFH), u32(Opnum.ACCESS, 63)], [u32(self.chance.choice(unread))]])
 
     def getattr(self):
-        return self.handle(self.chance.randint(0, 4)) + [u32(Opnum.GETATTR, 1, self.chance.getrandbits(32))]
+        return self.handle(self.chance.randint(0, 4)) + [u32(Opnum.GETATTR) + self.mask()]
+
+    def mask(self):
+        """Of attributes that are asked for: seldom of those that can only be set, and of a third word."""
+        words = [self.chance.getrandbits(32), self.chance.getrandbits(32) & ~(1 << 16 | 1 << 22)]
+        if self.is_rare(0.03):
+            words[1] |= self.chance.choice([1 << 16, 1 << 22])
+        return wire.bitmap((words + [self.chance.getrandbits(32)])[:self.chance.choice([0, 1, 1, 1, 2, 2, 2, 3])])
+
+    def commit(self):
+        place = u64(self.chance.getrandbits(64)) + u32(self.chance.getrandbits(32))
+        return self.handle(self.chance.randint(0, 4)) + [u32(Opnum.COMMIT) + place]
+
+    def readdir(self):
+        """Mostly from the beginning or a child on, and often with just the room that some entries need."""
+        directory = self.chance.choice([0, 0, 0, 3, 1] if self.is_rare(0.1) else [0, 0, 0, 3])
+        children, mask = self.server.tree.children(directory), self.mask()
+        cookie = self.chance.choice([0] * 4 + [self.near(child + FIRST_COOKIE) for child in children])
+        cookie += 2**32 * self.is_rare(0.01)
+        asked = wire.Reader(mask).bitmap()
+        left = [child for child in children if child + FIRST_COOKIE > cookie][:self.chance.randint(0, 9)]
+        fitting = LISTING_ENDS + sum(len(self.server.listing_entry(child, asked)) for child in left)
+        rooms = [fitting] * 6 + [fitting - 1, fitting - 4, fitting + 4, 0, 15, 16, 4096, LAST]
+        verifier = b"verifier" if self.is_rare(0.05) else bytes(8)
+        counts = u32(self.chance.choice([0, 1, LAST]), max(0, self.chance.choice(rooms)))
+        return self.handle(directory) + [u32(Opnum.READDIR) + u64(cookie) + verifier + counts + mask]
 
     def handle(self, node):
         """Seldom another filehandle, and seldom none."""
@@ -400,6 +440,19 @@ class Caller:
         file, stateid = self.io_state()
         head = u32(Opnum.WRITE) + stateid + u64(self.offset(file, self.chance.choice([0, 0, 0, 1, 2, 5])))
         return self.handle(file) + [head + u32(self.chance.choice([0, 1, 2] * 30 + [3])) + opaque(self.file_bytes())]
+
+    def setattr(self):
+        """Mostly the size, and often the server's time with it; seldom what can't be set, or other values."""
+        file, stateid = self.io_state()
+        size = u64(self.offset(file, self.chance.choice([0, 0, 1, 3])))
+        time = u32(self.chance.choice([0] * 20 + [1, 2]))
+        chosen = [((16,), size)] * 12 + [((16, 1 << 22), size + time)] * 6 + [((0, 1 << 22), time), ((), b"")]
+        mask, values = self.chance.choice(chosen)
+        if self.is_rare(0.05):
+            mask = self.chance.choice([(16, 2), (24,), (16, 1 << 16), (16, 0, 1), (16, 0), (0, 0x30), (0, 1 << 22)])
+        if self.is_rare(0.03):
+            values = self.chance.choice([values + u32(0), values[:-1], u32(1) + bytes(12), size + u32(1) + bytes(12)])
+        return self.handle(file) + [u32(Opnum.SETATTR) + stateid + wire.bitmap(mask) + opaque(values)]
 
     def file_bytes(self):
         """Mostly a few, or by pages; seldom as many as a file may have, or one more."""
@@ -498,8 +551,8 @@ def first_difference(program, row, way, journal):
 
 def run(words):
     """A run: the row up to the first difference, or None; and what the model answered how often."""
-    program, seed, count, ids = words
-    caller = Caller(seed, ids)
+    program, seed, count, ids, profile = words
+    caller = Caller(seed, ids, profile)
     for _ in range(count):
         caller.next_step()
     caller.server.counts.update(WHAT[type(entry)] for entry in caller.server.recorded if type(entry) in WHAT)
@@ -553,10 +606,14 @@ def operations_in(counts):
     return sum(number for what, number in counts.items() if isinstance(what, tuple))
 
 
-def missing_cases(counts, ids):
-    """The cases of pages that should have come."""
-    is_enough = ids <= IDS and operations_in(counts) >= ENOUGH
-    return [case for case in CASES if is_enough and not counts[case]]
+def missing_cases(counts, ids, profile=None):
+    """The cases of pages that should have come, and those of sizes that are set."""
+    wanted, count = [], operations_in(counts)
+    if ids <= IDS and count >= ENOUGH:
+        wanted += CASES
+        is_for_clients = profile == CLIENTS or profile is None and count >= ENOUGH_OF_BOTH
+        wanted += CUTS if is_for_clients else []
+    return [case for case in wanted if not counts[case]]
 
 
 def tell(counts, runs, calls):
@@ -565,7 +622,7 @@ def tell(counts, runs, calls):
     asked = counts[Opnum.LOCKT, Status.OK] + counts[Opnum.LOCKT, Status.DENIED] + counts[Opnum.LOCK, Status.DENIED]
     print(f"fuzz: {runs} runs of {calls} steps agree with the model: {total} operations on the state, of them "
           f"{changes} changes of ranges and {asked} questions or refusals of them")
-    for what in [*LENT.values(), *WHAT.values(), BACK, AGAIN, YIELDED, NONE_LEFT, *CASES]:
+    for what in [*LENT.values(), *WHAT.values(), BACK, AGAIN, YIELDED, NONE_LEFT, *CASES, *CUTS]:
         print(f"    {what}: {counts.pop(what, 0)}")
     for (opnum, status), number in sorted(counts.items()):
         print(f"    {opnum.name} {status.name}: {number}")
@@ -579,19 +636,20 @@ def main():
     parser.add_argument("--calls", type=int, default=200)
     parser.add_argument("--jobs", type=int, default=1)
     parser.add_argument("--ids", type=int, default=IDS, help="ids of clients")
+    parser.add_argument("--profile", choices=PROFILES, help="the one of all runs (either)")
     words = parser.parse_args()
     counts, runs, seed = Counter(), 0, words.seed
     with multiprocessing.Pool(words.jobs) as pool:
         while counts[Opnum.LOCK, Status.OK] + counts[Opnum.LOCKU, Status.OK] < words.changes:
             seeds = range(seed, seed + 4 * words.jobs)
-            runs_of_seeds = [(words.program, it, words.calls, words.ids) for it in seeds]
+            runs_of_seeds = [(words.program, it, words.calls, words.ids, words.profile) for it in seeds]
             for found, wrong, answered in pool.imap(run, runs_of_seeds):
                 if wrong is not None:
                     report(words.program, found, *wrong)
                     return 1
                 counts, runs = counts + answered, runs + 1
             seed = seeds.stop
-    missing = missing_cases(counts, words.ids)
+    missing = missing_cases(counts, words.ids, words.profile)
     if missing:
         print(f"fuzz: no {', '.join(missing)}, so that the runs show too little")
     tell(counts, runs, words.calls)

@@ -2,11 +2,12 @@
 back and ended it. `reasons.py` and `events.py` ask it."""
 from collections import namedtuple
 from dataclasses import dataclass, field
+from typing import Any
 
-from entries import Call
-from journal import Recorder
-from states import OpenState
-from wire import Opnum, READ, Status, WRITE
+from model.entries import Call
+from model.journal import Recorder
+from model.states import ClientRecord, Delegation, LockState, OpenState, Result
+from nfs4.wire import OpenConfirm, Opnum, READ, Setclientid, Status, WRITE
 
 # The operations by which a state may end, beside the end of its client.
 ENDING = {Opnum.OPEN, Opnum.CLOSE, Opnum.RELEASE_LOCKOWNER, Opnum.DELEGRETURN}
@@ -19,84 +20,85 @@ Introduction = namedtuple("Introduction", "entry record")
 class History(Recorder):
     """A server with the numbers of entries: all of these are kept to the end, also of what is gone."""
     # By the confirm value; and of those whose records gave way, to which entry's client.
-    introductions: dict = field(default_factory=dict)
-    yielded: dict = field(default_factory=dict)
+    introductions: dict[Any, Any] = field(default_factory=dict)
+    yielded: dict[Any, Any] = field(default_factory=dict)
     # Of clients, by their numbers: which entry removed them, and which marked their paths last.
-    removals: dict = field(default_factory=dict)
-    path_marks: dict = field(default_factory=dict)
+    removals: dict[Any, Any] = field(default_factory=dict)
+    path_marks: dict[Any, Any] = field(default_factory=dict)
     # Of open owners: which entry confirmed them.
-    owner_confirmations: dict = field(default_factory=dict)
+    owner_confirmations: dict[Any, Any] = field(default_factory=dict)
     # The opens, lock states and delegations, by their numbers; and which entries gave them, gave their seqid, called
     # them back, and ended them.
-    given: dict = field(default_factory=dict)
-    begun: dict = field(default_factory=dict)
-    moved: dict = field(default_factory=dict)
-    recalled: dict = field(default_factory=dict)
-    ended: dict = field(default_factory=dict)
+    given: dict[Any, Any] = field(default_factory=dict)
+    begun: dict[Any, Any] = field(default_factory=dict)
+    moved: dict[Any, Any] = field(default_factory=dict)
+    recalled: dict[Any, Any] = field(default_factory=dict)
+    ended: dict[Any, Any] = field(default_factory=dict)
     # Of opens, by their numbers: of each pair of access and deny, which entry brought it.
-    pairs: dict = field(default_factory=dict)
+    pairs: dict[Any, Any] = field(default_factory=dict)
     # Of opens, by their stateids without the seqid: which entry forgot the owner whose kept request closed it.
-    forgotten: dict = field(default_factory=dict)
+    forgotten: dict[Any, Any] = field(default_factory=dict)
     # The numbers of the states that there are.
-    present: set = field(default_factory=set)
+    present: set[int] = field(default_factory=set)
 
-    def apply(self, opnum, arguments, filehandle, principal, is_refused=False):
+    def apply(self, opnum: Opnum, arguments: Any, filehandle: int | None, principal: tuple[int, int],
+              is_refused: bool = False) -> Result:
         entry = self.entries
         result = super().apply(opnum, arguments, filehandle, principal, is_refused)
         if opnum in ENDING:
             self.note_ends(entry)
         return result
 
-    def note_ends(self, entry):
+    def note_ends(self, entry: int) -> None:
         present = {it.number for it in self.states()}
         self.ended.update((number, entry) for number in self.present - present)
         self.present = present
 
-    def setclientid(self, arguments, principal):
+    def setclientid(self, arguments: Setclientid, principal: tuple[int, int]) -> bytes:
         rest = super().setclientid(arguments, principal)
         self.introductions[self.last_confirm] = Introduction(self.entries, self.records[-1])
         return rest
 
-    def give_way(self, record):
+    def give_way(self, record: ClientRecord) -> None:
         super().give_way(record)
         self.yielded[record.confirm] = self.entries
 
-    def confirm_record(self, record, principal):
+    def confirm_record(self, record: ClientRecord, principal: tuple[int, int]) -> None:
         super().confirm_record(record, principal)
         self.path_marks[record.number] = self.entries
 
-    def mark_path(self, number, is_up):
+    def mark_path(self, number: int, is_up: Any) -> Any:
         entry = super().mark_path(number, is_up)
         self.path_marks[number] = entry
         return entry
 
-    def remove_client(self, number):
+    def remove_client(self, number: int) -> None:
         super().remove_client(number)
         self.removals[number] = self.entries
         self.note_ends(self.entries)
 
-    def recall(self, held):
+    def recall(self, held: list[Delegation]) -> None:
         self.recalled.update((it.number, self.entries) for it in held if it.recalled is None)
         super().recall(held)
 
-    def revoke(self, now):
+    def revoke(self, now: Any) -> Any:
         entry = super().revoke(now)
         if entry is not None:
             self.note_ends(entry)
         return entry
 
-    def forget_owner(self, owner, now):
+    def forget_owner(self, owner: Any, now: Any) -> Any:
         entry, request = super().forget_owner(owner, now), owner.kept.request
         if request.opnum == Opnum.CLOSE and owner.kept.answer.status == Status.OK:
             self.forgotten[request.arguments.stateid[1:]] = entry
         return entry
 
-    def open_confirm(self, arguments, file):
+    def open_confirm(self, arguments: OpenConfirm, file: int) -> bytes:
         rest = super().open_confirm(arguments, file)
         self.owner_confirmations[self.given[arguments.stateid.number].owner] = self.entries
         return rest
 
-    def spelled(self, found):
+    def spelled(self, found: Delegation | LockState | OpenState) -> bytes:
         """This entry gives the state's stateid."""
         self.given[found.number] = found
         self.begun.setdefault(found.number, self.entries)
@@ -107,12 +109,12 @@ class History(Recorder):
             self.pairs[found.number] = {pair: before.get(pair, self.entries) for pair in found.pairs}
         return super().spelled(found)
 
-    def entry_words(self, number):
+    def entry_words(self, number: int) -> str:
         """An entry by its number, and the operation that it is of."""
         entry = self.recorded[number]
         return f"entry {number} ({entry.opnum.name})" if isinstance(entry, Call) else f"entry {number}"
 
-    def since(self, opened, side, modes):
+    def since(self, opened: OpenState, side: int, modes: int) -> int:
         """Which entry brought the last of these modes to what the open has on this side of its pairs: 0 is its
         access, 1 its deny."""
         pairs = self.pairs[opened.number].items()

@@ -2,13 +2,15 @@
 the reason. Some are of the version of the file before this one."""
 import itertools
 
-import wire
-from entries import Answer, Call, Expire, Forget, MOMENT_LIMIT, Path, Revoke, STATUSES, StrictReader
-from journal import EARLIER, HEAD, Journal, Recorder, head_bytes, journal_bytes, read_whole
-from tree import CALLBACKS, CLOSE_LOCKS, DEFAULT, DELEGATIONS, Node, Policy, ROOT, Tree
-from wire import (Callback, Claim, KnownLocker, LockOwner, NewLocker, OpenOwner, Openhow, Opnum, Stateid, Status,
-                  opaque, u32, u64)
+from model.entries import Answer, Call, Expire, Forget, MOMENT_LIMIT, Path, Revoke, STATUSES, StrictReader
+from model.journal import (EARLIER, HEAD, HEAD_OF, HEAD_OF_CLIENTS, Journal, Recorder, head_bytes, journal_bytes,
+                           read_whole)
+from model.tree import CALLBACKS, CLIENTS, CLOSE_LOCKS, DEFAULT, DELEGATIONS, Node, PROFILES, Policy, ROOT, Tree
+from nfs4 import wire
+from nfs4.wire import (Callback, Claim, KnownLocker, LockOwner, NewLocker, OpenOwner, Openhow, Opnum, Stateid, Status,
+                       opaque, u32, u64)
 
+CLIENTS_POLICY = Tree().policy._replace(profile=CLIENTS)
 NOT_JOURNAL = "fault: not a journal"
 OTHER_WORDS = "other words than the layout has"
 
@@ -183,6 +185,55 @@ def sample():
     return server.journal()
 
 
+# What is asked and answered under the profile "clients".
+
+FOR_CLIENTS = 'policy.profile = "clients"\n' + DEFAULT
+NO_VERIFIER = bytes(8)
+
+
+def calls_for_clients():
+    """Listings, and attributes that are asked for and set, each with the refusals that it has of its own."""
+    everything = 0xFFFFFFFF, 0xFFBEFFFF
+    listing = wire.Readdir(0, NO_VERIFIER, 0, LAST, everything)
+    yield Opnum.READDIR, listing, 0
+    for other in (listing._replace(mask=()), listing._replace(cookie=4), listing._replace(maxcount=500),
+                  listing._replace(cookie=5), listing._replace(cookie=2), listing._replace(mask=(0, 1 << 22)),
+                  listing._replace(cookie=3, verifier=b"\xff" * 8), listing._replace(maxcount=15)):
+        yield Opnum.READDIR, other, 0
+    yield Opnum.READDIR, listing, 3
+    yield Opnum.READDIR, listing, FILE
+    yield Opnum.READDIR, listing, None
+    yield Opnum.GETATTR, wire.Getattr(everything), FILE
+    yield Opnum.GETATTR, wire.Getattr((0, 1 << 16)), FILE
+    size, time = u64(2), u32(0)
+    for mask, values in (((16,), size), ((16, 1 << 22), size + time), ((0, 1 << 22, 0), time), ((0, 0), b""),
+                         ((16,), size + time), ((16,), u64(65537)), ((0, 2), u32(0o600)), ((24,), size + size),
+                         ((0, 1 << 22), u32(1, 0, 9, 0)), ((0, 1 << 16), time), ((0, 0, 1), b""), ((16,), b"8 letter")):
+        yield Opnum.SETATTR, wire.Setattr(NOTHING, (mask, values)), FILE
+    yield Opnum.SETATTR, wire.Setattr(NOTHING, ((16,), size)), 0
+    yield Opnum.SETATTR, wire.Setattr(NOTHING, ((16,), size)), None
+    yield Opnum.SETATTR, wire.Setattr(OPENED, ((16,), size)), FILE
+    yield Opnum.READ, wire.Read(NOTHING, 0, 9), FILE
+
+
+def sample_for_clients():
+    server = Recorder(Tree(FOR_CLIENTS))
+    introduce(server)
+    for call in calls_for_clients():
+        server.apply(*call, NOBODY)
+    return server.journal()
+
+
+def listed_and_set():
+    """Four entries: a listing of `d`, an attribute that can only be set, and of file a its size and its mode."""
+    server = Recorder(Tree(FOR_CLIENTS))
+    server.apply(Opnum.READDIR, wire.Readdir(0, NO_VERIFIER, 0, 56, (16,)), 3, NOBODY)
+    server.apply(Opnum.GETATTR, wire.Getattr((0, 1 << 22)), FILE, NOBODY)
+    server.apply(Opnum.SETATTR, wire.Setattr(NOTHING, ((16,), u64(0))), FILE, NOBODY)
+    server.apply(Opnum.SETATTR, wire.Setattr(NOTHING, ((0, 2), u32(0o600))), FILE, NOBODY)
+    return server.journal()
+
+
 def earlier(journal):
     """The journal as one of the version before: it has no Forget, and frees."""
     entries = [entry for entry in journal.entries if not isinstance(entry, Forget)]
@@ -211,6 +262,25 @@ OF_BYTES = """4e46534a 524e3033 00000007 0000005a 00000002 00000000 00000000
     00000001 00000000 00000005 00000000 00000000 00000001 00000001
     00000019 ffffffff ffffffff ffffffff ffffffff 00000000 00000000 00000014
     00000019 00000000 00000001 00000009 00000000 00000000 78000000"""
+LISTED_AND_SET = """4e46534a 52433033 00000001 0000005a 00000002 00000000 00000000
+    00000004
+    00000000 00000001 00000001 61000000 00000005 68656c6c 6f000000
+    00000000 00000001 00000001 62000000 00000000
+    00000000 00000000 00000001 64000000
+    00000003 00000001 00000001 63000000 00000000
+    00000004
+    00000001 00000000 00000000 00000000 00000000 00000001 00000003
+    0000001a 00000000 00000000 00000000 00000000 00000000 00000038 00000001 00000010
+    0000001a 00000000 00000000 00000000
+    00000001 00000000 00000006 00000001 63000000 00000001 00000010 00000008 00000000 00000000 00000000 00000001
+    00000001 00000000 00000000 00000000 00000000 00000001 00000001
+    00000009 00000002 00000000 00400000 00000009 00000016
+    00000001 00000000 00000000 00000000 00000000 00000001 00000001
+    00000022 00000000 00000000 00000000 00000000 00000001 00000010 00000008 00000000 00000000
+    00000022 00000000 00000001 00000010
+    00000001 00000000 00000000 00000000 00000000 00000001 00000001
+    00000022 00000000 00000000 00000000 00000000 00000002 00000000 00000002 00000004 00000180
+    00000022 0000001e 00000000"""
 EARLIER_HEAD = "4e46534a 524e3032 00000001 0000005a 00000002 00000000"
 THREE_ENTRIES = """4e46534a 524e3033 00000001 0000005a 00000002 00000000 00000000
     00000004
@@ -246,6 +316,7 @@ def written_out():
     yield journal_bytes(of_bytes()), OF_BYTES
     yield journal_bytes(small()), THREE_ENTRIES
     yield journal_bytes(earlier(small())), EARLIER_HEAD + THREE_ENTRIES[62:]
+    yield journal_bytes(listed_and_set()), LISTED_AND_SET
     ends = [Expire(1, 100, 191), Revoke(2, 2**32), Path(3, 1), Path(4, 0)]
     words = """00000002 00000001 00000000 00000064 00000000 000000bf 00000003 00000002 00000001 00000000
         00000004 00000003 00000001 00000004 00000004 00000000"""
@@ -277,14 +348,18 @@ class PaddingReader(StrictReader):
 
 
 def broken_padding():
-    data = journal_bytes(sample())
-    reader = PaddingReader(data)
-    read_whole(reader)
-    for place in reader.padding:
-        yield f"padding at {place}", data[:place] + b"\1" + data[place + 1:], "padding that isn't zero"
+    for journal, which in ((sample(), ""), (sample_for_clients(), ' under "clients"')):
+        data = journal_bytes(journal)
+        reader = PaddingReader(data)
+        read_whole(reader)
+        for place in reader.padding:
+            yield f"padding at {place}{which}", data[:place] + b"\1" + data[place + 1:], "padding that isn't zero"
 
 
 def broken_lengths():
+    data = journal_bytes(listed_and_set())
+    for length in range(len(data)):
+        yield f'the first {length} bytes under "clients"', data[:length], "it ends too early"
     data = journal_bytes(small())
     for length in range(len(data)):
         yield f"the first {length} bytes", data[:length], "it ends too early"
@@ -303,9 +378,13 @@ def other_lengths():
 def broken_heads():
     data = journal_bytes(small())
     begins, lease, early = "it begins with other bytes", "a lease outside its limits", "it ends too early"
-    for version in (b"NFSJRN01", b"NFSJRN04"):
+    for version in (b"NFSJRN01", b"NFSJRN04", b"NFSJRC01", b"NFSJRC02", b"NFSJRC04", b"NFSJRP03"):
         yield f"another version, {version.decode()}", version + data[8:], begins
-    for journal, which in ((small(), "this"), (earlier(small()), "the earlier")):
+        other = version + journal_bytes(listed_and_set())[8:]
+        yield f'another version, {version.decode()}, with entries of "clients"', other, begins
+    other = EARLIER + journal_bytes(journal_of([], [file(0)], CLIENTS_POLICY))[8:]
+    yield 'the earlier version with the words of "clients"', other, "no kind of entry"
+    for journal, which in ((small(), "this"), (listed_and_set(), 'the "clients"'), (earlier(small()), "the earlier")):
         data = journal_bytes(journal)
         for seconds in (0, 86401, LAST):
             yield f"lease {seconds}, in {which} version", with_words(data, 12, seconds), lease
@@ -374,10 +453,22 @@ def broken_forgets():
 def broken_operations():
     """The number of an operation, and arguments that can't be read."""
     data, begin = journal_bytes(small()), len(head_bytes(small())) + 4 + 28
-    without = {Opnum.ACCESS, Opnum.GETFH, Opnum.LOOKUP, Opnum.PUTFH, Opnum.PUTROOTFH, Opnum.RESTOREFH, Opnum.SAVEFH,
-               Opnum.SETATTR, Opnum.ILLEGAL, 0, 2, 7, 26, 30, 37, 40}
-    for number in sorted(without):
-        yield f"operation {number}", with_words(data, begin, number), "an operation that makes no entry"
+    no_entry = "an operation that makes no entry"
+    without = {Opnum.ACCESS, Opnum.COMMIT, Opnum.GETFH, Opnum.LOOKUP, Opnum.PUTFH, Opnum.PUTROOTFH, Opnum.RESTOREFH,
+               Opnum.SAVEFH, Opnum.ILLEGAL, 0, 2, 7, 30, 37, 40}
+    for number in sorted(without | {Opnum.READDIR, Opnum.SETATTR}):
+        yield f"operation {number}", with_words(data, begin, number), no_entry
+    for number in sorted(without | {6, 11, 28, 29}):
+        other = with_words(HEAD_OF_CLIENTS + data[8:], begin, number)
+        yield f'operation {number} under "clients"', other, no_entry
+    for head in (HEAD, EARLIER):
+        data = journal_bytes(listed_and_set()._replace(head=head))
+        yield f"a listing behind {head.decode()}", data, no_entry
+        alone = listed_and_set()._replace(head=head, entries=listed_and_set().entries[2:3])
+        yield f"a size that is set behind {head.decode()}", journal_bytes(alone), no_entry
+    for cut in (b"", u32(0, 1), u64(0) + NO_VERIFIER + u32(0, 56)):
+        words = file_of([], Tree().nodes[1:], CLIENTS_POLICY)[:-4] + u32(1, 1, 0, 0, 0, 0, 0, 0, Opnum.READDIR) + cut
+        yield f"a READDIR that ends behind {len(cut)} bytes", words, "it ends too early"
     lock, lockt = wire.Lock(2, 0, 0, 9, NewLocker(8, OPENED, 1, LOCKER)), wire.Lockt(2, 0, 9, LOCKER)
     for number in (0, 5):
         for opnum, arguments in ((Opnum.LOCK, lock), (Opnum.LOCKT, lockt)):
@@ -406,8 +497,20 @@ def broken_answers():
         yield f"an answer to {number}", answered(Answer(number, Status.OK, b"")), "an answer to no operation"
     for status in (1, 5, 10006, 10045, 2**32 - 1):
         yield f"status {status}", answered(Answer(Opnum.LOCKT, status, b"")), "no status"
-    yield "READDIR with OK", answered(Answer(26, Status.OK, b"")), none
+    for number, status in ((16, Status.OK), (16, Status.ROFS), (6, Status.OK), (29, Status.INVAL), (7, Status.ROFS)):
+        yield f"{number} with {status.name}", answered(Answer(number, status, b"")), none
     early = "it ends too early"
+    for rest in (b"", NO_VERIFIER, NO_VERIFIER + u32(0), NO_VERIFIER + u32(1)):
+        yield f"READDIR with OK and {len(rest)} bytes", answered(Answer(Opnum.READDIR, Status.OK, rest)), early
+    for rest in (NO_VERIFIER + u32(2), NO_VERIFIER + u32(0, 2)):
+        answer = answered(Answer(Opnum.READDIR, Status.OK, rest))
+        yield f"READDIR with a bool of 2 behind {len(rest) - 4} bytes", answer, "a number that isn't 0 to 1"
+    name = NO_VERIFIER + u32(1) + u64(3) + b"\0\0\0\1a\0\0\1" + u32(0, 0, 0, 1)
+    name = answered(Answer(Opnum.READDIR, Status.OK, name))
+    yield "padding of a name that is listed", name, "padding that isn't zero"
+    yield "COMMIT with OK and 4 bytes", answered(Answer(Opnum.COMMIT, Status.OK, u32(1))), early
+    for status in (Status.OK, Status.NOTSUPP, Status.INVAL):
+        yield f"SETATTR with {status.name} alone", answered(Answer(Opnum.SETATTR, status, b"")), early
     for rest in (b"", u32(0), u32(0, 1), u32(0, 2**31)):
         yield f"READ with OK and {len(rest)} bytes", answered(Answer(Opnum.READ, Status.OK, rest)), early
     for rest in (b"", u32(1, 2, 1)):
@@ -418,7 +521,6 @@ def broken_answers():
     for committed in (3, LAST):
         rest = u32(1, committed, 1, 0)
         yield f"committed {committed}", answered(Answer(Opnum.WRITE, Status.OK, rest)), "a number that isn't 0 to 2"
-    yield "SETATTR with a bitmap", answered(Answer(Opnum.SETATTR, Status.NOTSUPP, u32(1, 0))), OTHER_WORDS
     for number in (0, 5):
         yield f"a report of type {number}", answered(report(Opnum.LOCK, number)), "a number that isn't 1 to 4"
     yield "a delegation of type 3", answered(open_answer(u32(3))), "a number that isn't 0 to 2"
@@ -450,7 +552,7 @@ def journal_of(entries, nodes=Tree().nodes[1:], policy=Tree().policy):
     """A journal of these entries, lawful or not, over these nodes."""
     tree = Tree("")
     tree.nodes, tree.policy = [ROOT, *nodes], policy
-    return Journal(1, 90, tree, entries)
+    return Journal(1, 90, tree, entries, HEAD_OF[policy.profile])
 
 
 def file_of(*given):
@@ -519,6 +621,7 @@ def whole_files():
     """Files that are journals, at the edges of what isn't."""
     journal = sample()
     yield "all operations", journal_bytes(journal)
+    yield 'all operations that "clients" has beside them', journal_bytes(sample_for_clients())
     kinds = journal.entries + [Expire(1, 2, 3), Revoke(4, 5), Path(6, 1), Path(7, 0)]
     yield "all kinds", file_of([*kinds, Forget(OpenOwner(8, 9, b"B"), 10)])
     yield "all kinds of the earlier version", journal_bytes(earlier(journal_of(kinds)))
@@ -529,7 +632,7 @@ def whole_files():
     for which in (journal_of([]), earlier(journal_of([]))):
         for lease in (1, 86400):
             yield f"lease {lease}", with_words(journal_bytes(which), 12, lease)
-    for words in itertools.product(DELEGATIONS, CALLBACKS, CLOSE_LOCKS):
+    for words in itertools.product(DELEGATIONS, CALLBACKS, CLOSE_LOCKS, PROFILES):
         yield f"the policy {words}", file_of([], [file(0)], Policy(*words))
     for words in itertools.product(DELEGATIONS, CALLBACKS, ["free"]):
         journal = earlier(journal_of([], [file(0)], Policy(*words)))
@@ -554,6 +657,14 @@ def whole_files():
     answers += [Answer(Opnum.READ, Status.OK, u32(0) + opaque(bytes(count))) for count in (0, 1, 65536, 65537, 70000)]
     answers += [Answer(Opnum.WRITE, Status.OK, u32(LAST, committed, LAST, LAST)) for committed in range(3)]
     answers += [Answer(26, Status.NOTSUPP, b""), Answer(Opnum.SETATTR, Status.NOTSUPP, u32(0))]
+    # What the profile "clients" alone gives can be read under either; no name and no listing is too long.
+    answers += [Answer(Opnum.SETATTR, status, u32(2, 0, 7)) for status in Status]
+    answers += [Answer(Opnum.COMMIT, Status.OK, b"verifier"), Answer(Opnum.COMMIT, Status.NOFILEHANDLE, b"")]
+    entry = u32(1) + u64(LAST) + opaque(b"n" * 300) + u32(0) + opaque(b"values")
+    answers += [Answer(Opnum.READDIR, Status.OK, b"verifier" + count * entry + u32(0, 1)) for count in (0, 1, 200)]
+    answers += [Answer(number, status, b"") for number in (6, 11, 28, 29) for status in (Status.NOTSUPP, Status.ROFS)]
+    answers += [Answer(Opnum.LOCKT, status, b"") for status in (Status.ROFS, Status.BAD_COOKIE, Status.TOOSMALL,
+                                                                Status.NOT_SAME, Status.ATTRNOTSUPP)]
     answers += [Answer(Opnum.LOCKT, status, b"") for status in (Status.FBIG, Status.DELAY, Status.LOCKED, Status.CLID_INUSE)]
     for answer in answers:
         yield f"the answer {answer}", answered(answer)

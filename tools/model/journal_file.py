@@ -1,11 +1,11 @@
 """A journal's file as the tools that show it read it: whole, or as far as it goes."""
 import sys
 
-from entries import NotJournal
-from journal import Growing
+from model.entries import Call, Expire, NotJournal
+from model.journal import Growing
 
 
-def read_file(path):
+def read_file(path: str) -> tuple[Growing, list[Call | Expire]]:
     """The file as far as it can be read, and its whole entries; or the end of the program where it is no journal and no
     beginning of one."""
     growing = Growing()
@@ -18,7 +18,7 @@ def read_file(path):
         sys.exit(f"fault: not a journal: {wrong}")
 
 
-def tell_end(growing):
+def tell_end(growing: Growing) -> None:
     """Says how a file ends that is no whole journal; or ends the program where what follows is no entry."""
     sys.stdout.flush()
     if growing.fault is not None:

@@ -12,13 +12,15 @@ import tempfile
 import time
 
 sys.dont_write_bytecode = True
+from packages import make_known
+make_known()
 
-import wire
-from model import JOURNAL_LIMIT, OWNERS_LIMIT, STATES_LIMIT
-from pages import PAGE
-from states import SLOTS, handle_of
-from tree import TEXT_LIMIT
-from wire import FILE_SYNC4, Opnum, Status, opaque, u32, u64
+from model.pages import PAGE
+from model.server import JOURNAL_LIMIT, OWNERS_LIMIT, STATES_LIMIT
+from model.states import SLOTS, handle_of
+from model.tree import TEXT_LIMIT
+from nfs4 import messages, wire
+from nfs4.wire import FILE_SYNC4, Opnum, Status, opaque, u32, u64
 
 # A file more than each owner opens; many files keep the opens of each few.
 FILES = 33
@@ -51,7 +53,7 @@ def opening(owner, seqid, file, client=1, number=None, flags=4, state_seqid=1, s
     """An OPEN, for reading if nothing else is said, and the state that it gives; and if its number is given, the
     delegation for reading."""
     share, given = (access, more.get("deny", NONE)), more.get("given")
-    words = u32(Opnum.OPEN, seqid, *share, 1, client) + opaque(b"%d" % owner) + u32(0, 0) + opaque(b"f%d" % file)
+    words = messages.opening(seqid, *share, u32(1, client) + opaque(b"%d" % owner), b"f%d" % file)
     rest = b""
     if status == Status.OK:
         rest = u32(state_seqid, 1, client, number) + u32(1) + u64(0) + u64(0) + u32(flags, 0)

@@ -7,12 +7,14 @@ What is wanted is written beside each call, as in limits.py."""
 import sys
 
 sys.dont_write_bytecode = True
+from packages import make_known
+make_known()
 
-from limits import FILES, closing, compare, confirming, introduce, opening, result
-from model import OWNERS_LIMIT, STATES_LIMIT
-from ranges import ALL_ONES, RUNS_LIMIT
-from states import handle_of
-from wire import BOTH, Opnum, READ, READ_LT, Status, WRITE_LT, opaque, u32, u64
+from model.limits import FILES, closing, compare, confirming, introduce, opening, result
+from model.ranges import ALL_ONES, RUNS_LIMIT
+from model.server import OWNERS_LIMIT, STATES_LIMIT
+from model.states import handle_of
+from nfs4.wire import BOTH, Opnum, READ, READ_LT, Status, WRITE_LT, opaque, u32, u64
 
 OPENED = FILES - 1
 SECONDS_LIMIT = 10

@@ -3,27 +3,27 @@
 output, and its journal to a file. So the other scripts can be tried without a built program."""
 import argparse
 import sys
+from collections.abc import Callable
+from typing import Any
 
 sys.dont_write_bytecode = True
+from packages import make_known
+make_known()
 
-from python_version import require_python
-
-require_python()
-
-from entries import MOMENT_LIMIT
-from journal import LEASE_LIMIT, Recorder, journal_bytes
-from model import Server
-from tree import DEFAULT, Refused, SYNTAX, Tree
+from model.entries import MOMENT_LIMIT
+from model.journal import LEASE_LIMIT, Recorder, journal_bytes
+from model.server import Server
+from model.tree import DEFAULT, Refused, SYNTAX, Tree
 
 
 class Options(argparse.ArgumentParser):
     """Refuses what the program refuses: an option that is given twice, and one that isn't written out."""
 
-    def __init__(self, description):
+    def __init__(self, description: str) -> None:
         super().__init__(description=description, formatter_class=argparse.RawDescriptionHelpFormatter,
                          allow_abbrev=False)
 
-    def parse_args(self):
+    def parse_args(self) -> argparse.Namespace:  # type: ignore[override]
         names = [word.partition("=")[0] for word in sys.argv[1:] if word.startswith("--")]
         for name in names:
             if names.count(name) > 1:
@@ -31,16 +31,16 @@ class Options(argparse.ArgumentParser):
         return super().parse_args()
 
 
-def within(first, last):
+def within(first: int, last: int) -> Callable[[str], int]:
     """What reads a number from the first to the last one."""
-    def read(word):
+    def read(word: str) -> int:
         if not (word.isascii() and word.isdecimal() and first <= int(word) <= last):
             raise argparse.ArgumentTypeError(f"{word!r} isn't a number from {first} to {last}")
         return int(word)
     return read
 
 
-def options(description):
+def options(description: str) -> Options:
     """What `once.py` and `serve.py` have in common."""
     parser = Options(description)
     parser.add_argument("--tree", metavar="FILE", help="the files to serve, as a TOML document (a small tree)")
@@ -51,7 +51,7 @@ def options(description):
     return parser
 
 
-def server_of(given, kind=Server):
+def server_of(given: argparse.Namespace, kind: type[Any] = Server) -> Any:
     """A new server with these options; or the end of the program where its tree can't be read or is refused."""
     try:
         document = DEFAULT if given.tree is None else document_of(given.tree)
@@ -62,7 +62,7 @@ def server_of(given, kind=Server):
         sys.exit("fault: file not read")
 
 
-def document_of(path):
+def document_of(path: str) -> str:
     """The text of a file; one that isn't UTF-8 makes no tree."""
     try:
         with open(path, encoding="utf-8") as source:
@@ -71,7 +71,7 @@ def document_of(path):
         raise Refused(SYNTAX) from None
 
 
-def main():
+def main() -> None:
     parser = options(__doc__)
     parser.add_argument("--now", metavar="SECONDS", type=within(0, MOMENT_LIMIT - 1), default=0,
                         help="the moment of all calls")

@@ -1,7 +1,6 @@
 #!/usr/bin/env python3
 """The model in place of the program `rows`: orders from standard input, and what came of each to standard output, by
-the layouts of crates/rows/README.md. So rows can be run, and the tools that give orders be tried, without a built
-program:
+the layouts that driver.py has. So rows can be run, and the tools that give orders be tried, without a built program:
 
     tools/rows --program tools/model/ordered.py FILE.rows
 
@@ -10,17 +9,21 @@ where it is to sweep meanwhile, and never is out of memory; it doesn't look at p
 as it should be it ends with status 2 and `rows: invalid input`."""
 import os
 import sys
+from collections.abc import Callable
+from typing import Any
 
 sys.dont_write_bytecode = True
+from packages import make_known
+make_known()
 
-import wire
-from callbacks import recall_call
-from entries import MOMENT_LIMIT
-from journal import LEASE_LIMIT, Recorder, journal_bytes
-from recall_queue import Queuing
-from states import Unchanged
-from tree import Refused, Tree
-from wire import u32
+from model.entries import MOMENT_LIMIT
+from model.journal import LEASE_LIMIT, Recorder, journal_bytes
+from model.recall_queue import Queuing
+from model.states import Unchanged
+from model.tree import Refused, Tree
+from nfs4 import wire
+from nfs4.callbacks import recall_call
+from nfs4.wire import u32
 
 ALONE, SHARED = 0, 1
 # The errors of a connection, by the faults that end it.
@@ -34,10 +37,10 @@ class Invalid(Exception):
 class Input(wire.Reader):
     """Standard input, of which no more is read than is taken."""
 
-    def __init__(self):
+    def __init__(self) -> None:
         super().__init__(b"")
 
-    def fixed(self, count):
+    def fixed(self, count: int) -> bytes:
         found = b""
         while len(found) < count:
             more = os.read(0, count - len(found))
@@ -46,30 +49,30 @@ class Input(wire.Reader):
             found += more
         return found
 
-    def part(self):
+    def part(self) -> bytes:
         return self.fixed(self.u32())
 
-    def moment(self):
+    def moment(self) -> int:
         return limited(self.u64(), MOMENT_LIMIT)
 
-    def next_order(self):
+    def next_order(self) -> int | None:
         """The number of the next order, or None at the end of the input."""
         first = os.read(0, 1)
         return int.from_bytes(first + self.fixed(3), "big") if first else None
 
 
-def limited(number, limit):
+def limited(number: int, limit: int) -> int:
     """The number, which has to be from 0 on and below the limit."""
     if not 0 <= number < limit:
         raise Invalid
     return number
 
 
-def answer(*numbers):
+def answer(*numbers: int) -> None:
     send(u32(*numbers))
 
 
-def send(data):
+def send(data: bytes) -> None:
     while data:
         data = data[os.write(1, data):]
 
@@ -77,13 +80,13 @@ def send(data):
 class Clock:
     """That of an order's connections, which goes on with their calls."""
 
-    def __init__(self, start, pace):
-        self.start, self.pace, self.calls, self.last = start, pace, 0, None
+    def __init__(self, start: int, pace: int) -> None:
+        self.start, self.pace, self.calls, self.last = start, pace, 0, -1
 
-    def moment(self):
+    def moment(self) -> int:
         return self.start + (self.calls // self.pace if self.pace else 0)
 
-    def is_new(self):
+    def is_new(self) -> bool:
         """Whether the moment is another one than when this was asked last."""
         last, self.last = self.last, self.moment()
         return last != self.last
@@ -92,7 +95,7 @@ class Clock:
 class Session:
     """A server, and what it is told."""
 
-    def __init__(self, given):
+    def __init__(self, given: Input) -> None:
         self.input, self.way = given, limited(given.u32(), 2)
         lease, epoch, self.seats = limited(given.u32() - 1, LEASE_LIMIT) + 1, given.u32(), given.u32()
         document = given.part()
@@ -102,30 +105,32 @@ class Session:
         except UnicodeDecodeError:
             raise Invalid from None
 
-    def run(self):
+    def run(self) -> None:
         orders = [self.serve, self.sweep, self.mark, self.revoke, self.take, self.pending, self.probe, self.forget]
         while (number := self.input.next_order()) is not None:
             orders[limited(number - 1, len(orders))]()
         data = journal_bytes(self.server.journal())
         send(u32(len(data)) + data)
 
-    def serve(self):
+    def serve(self) -> None:
         moment, given = self.input.moment(), self.input
         pace, _, is_swept, count = given.u32(), given.u32(), limited(given.u32(), 2), given.u32()
         sent = [(given.u32(), given.part()) for _ in range(count)]
         if is_swept and self.way == ALONE or self.way == SHARED and count > self.seats:
             raise Invalid
         self.seats -= count * self.way
-        clock, swept = Clock(moment, pace), []
+        clock = Clock(moment, pace)
+        swept: list[Any] = []
         for _, data in sent:
             self.serve_one(data, clock, swept if is_swept else None)
         if is_swept:
             swept.append(self.server.sweep(clock.moment()))
         answer(len(swept), sum(it.expired for it in swept))
 
-    def serve_one(self, data, clock, swept):
+    def serve_one(self, data: bytes, clock: Clock, swept: Any) -> None:
         """Serves a connection, with sweeps, whose outcomes are added to these, if there are any."""
-        receipts, replies = [], b""
+        receipts: list[int] = []
+        replies = b""
         records, fault = wire.split_records(data)
         for record in records:
             if swept is not None and clock.is_new():
@@ -135,24 +140,24 @@ class Session:
             replies += b"" if reply is None else wire.record(reply)
             receipts += range(before, len(self.server.recorded)) if self.way == SHARED else ()
             clock.calls += isinstance(wire.read_call(record), wire.CompoundCall)
-        answer(ERRORS.get(fault, 0), rest_of(data, fault))
+        answer(ERRORS.get(fault or "", 0), rest_of(data, fault))
         send(u32(len(replies)) + replies + u32(len(receipts), *receipts))
 
-    def sweep(self):
+    def sweep(self) -> None:
         swept = self.server.sweep(self.input.moment())
         answer(swept.expired, swept.kept, 0, swept.refused, swept.revoked, swept.forgotten, swept.is_stopped)
 
-    def mark(self):
+    def mark(self) -> None:
         client, is_up = self.input.u32(), limited(self.input.u32(), 2)
         answer(error_of(lambda: self.server.mark_path(client, is_up))[0])
 
-    def revoke(self):
+    def revoke(self) -> None:
         self.change_alone(self.server.revoke)
 
-    def forget(self):
+    def forget(self) -> None:
         self.change_alone(self.server.forget)
 
-    def change_alone(self, change):
+    def change_alone(self, change: Callable[..., Any]) -> None:
         """Makes what is due at the moment that is read; only where no state is shared."""
         moment = self.input.moment()
         if self.way != ALONE:
@@ -160,19 +165,19 @@ class Session:
         error, entry = error_of(lambda: change(moment))
         answer(error, entry is not None, entry or 0)
 
-    def take(self):
+    def take(self) -> None:
         xid, recall = self.input.u32(), self.server.take_recall()
         record = b"" if recall is None else recall_call(xid, recall)
         send(u32(len(record)) + record)
 
-    def pending(self):
+    def pending(self) -> None:
         answer(self.server.waiting() if self.way == SHARED else len(self.server.pending()))
 
-    def probe(self):
+    def probe(self) -> None:
         answer(self.server.probe(self.input.u32()) or 0)
 
 
-def error_of(change):
+def error_of(change: Callable[..., Any]) -> tuple[int, int | None]:
     """The number of an error, or 0, and then what came of the change."""
     try:
         return 0, change()
@@ -180,14 +185,14 @@ def error_of(change):
         return why.args[0], None
 
 
-def rest_of(data, fault):
+def rest_of(data: bytes, fault: Any) -> int:
     """How many bytes are left behind the last whole record."""
     if fault != "input ends inside a record":
         return 0
     return next(count for count in range(1, len(data) + 1) if wire.split_records(data[:len(data) - count])[1] is None)
 
 
-def main():
+def main() -> Any:
     try:
         session = Session(Input())
     except Refused as refused:

@@ -1,6 +1,7 @@
 """READs and WRITEs by pages: pieces of 4,096 bytes, by which a server may keep its files. The model has none. These are
 what random calls choose to meet the ends of pages, and the count of how often they come to each case that a server with
 pages may have."""
+from typing import Any
 PAGE = 4096
 # The fewest bytes of an answer that may be a part of a page itself.
 PART = 2048
@@ -15,38 +16,65 @@ GAPS = "gaps of no whole page", "gaps of one whole page", "gaps of many whole pa
 ANSWERED, BROUGHT = "pages written that an answer has", "pages written that a WRITE brought"
 WAYS = [f"{operation} {way}" for operation in ("READs", "WRITEs") for way in (WITHIN, WHOLE, ACROSS_TWO, ACROSS_MANY)]
 CASES = [*WAYS, *GAPS, ANSWERED, BROUGHT]
+# Those of a size that is set: where the file ends then that is cut, and how far one goes on that becomes longer; and
+# last pages that are cut or become longer while an answer has bytes of them, or a WRITE brought them whole.
+CUT_WITHIN, CUT_AT, CUT_ALL = "sizes that cut within a page", "sizes that cut at a page", "sizes that cut to nothing"
+LONGER_WITHIN, LONGER_BY_PAGES = "sizes that go on within a page", "sizes that go on into further pages"
+CUT_HAD, LONGER_HAD = "last pages cut that something else has", "last pages longer that something else has"
+CUTS = [CUT_WITHIN, CUT_AT, CUT_ALL, LONGER_WITHIN, LONGER_BY_PAGES, CUT_HAD, LONGER_HAD]
 
 
-def pages_of(begin, end):
+def pages_of(begin: Any, end: Any) -> Any:
     """The numbers of the pages that have these bytes, of which there are some."""
     return range(begin // PAGE, (end - 1) // PAGE + 1)
 
 
-def way_of(begin, end):
+def way_of(begin: Any, end: Any) -> Any:
     if begin % PAGE == end % PAGE == 0:
         return WHOLE
     return {1: WITHIN, 2: ACROSS_TWO}.get(len(pages_of(begin, end)), ACROSS_MANY)
 
 
-def gap_of(size, begin):
+def gap_of(size: Any, begin: Any) -> Any:
     return GAPS[min(max(begin // PAGE - -(-size // PAGE), 0), 2)]
 
 
+def cut_of(size: Any) -> Any:
+    """How a file is cut that has so many bytes then."""
+    if size == 0:
+        return CUT_ALL
+    return CUT_WITHIN if size % PAGE else CUT_AT
+
+
 class Pages:
-    """Counts the cases that the READs and WRITEs of a run come to."""
+    """Counts the cases that the READs, WRITEs and SETATTRs of a run come to."""
 
-    def __init__(self, counts):
+    def __init__(self, counts: Any) -> None:
         # By file and number: what has bytes of a page that wasn't written since.
-        self.counts, self.had = counts, {}
+        self.counts = counts
+        self.had: dict[Any, Any] = {}
 
-    def read(self, file, begin, end):
+    def read(self, file: int, begin: Any, end: Any) -> None:
         """These bytes are answered."""
         if begin < end:
             self.counts[f"READs {way_of(begin, end)}"] += 1
         if end - begin >= PART and len(pages_of(begin, end)) == 1:
             self.had[file, begin // PAGE] = ANSWERED
 
-    def write(self, file, size, begin, end):
+    def resize(self, file: int, before: Any, size: Any) -> None:
+        """A file that had so many bytes has this size. Its page that is cut, or the last one that it had, may be in a
+        part what something else has; those behind the end aren't there any more."""
+        last = min(before, size)
+        has_last = last % PAGE > 0 and (file, last // PAGE) in self.had
+        if size < before:
+            self.counts.update([cut_of(size)] + [CUT_HAD] * has_last)
+            self.had = {key: what for key, what in self.had.items() if key[0] != file or key[1] * PAGE < size}
+        elif size > before:
+            is_within = pages_of(0, size) == pages_of(0, max(before, 1))
+            self.counts.update([LONGER_WITHIN if is_within else LONGER_BY_PAGES] + [LONGER_HAD] * has_last)
+            self.had.pop((file, before // PAGE), None)
+
+    def write(self, file: int, size: Any, begin: Any, end: Any) -> None:
         """These bytes are written into a file of this size."""
         if begin == end:
             return

@@ -5,53 +5,57 @@ import tempfile
 from concurrent.futures import ThreadPoolExecutor
 from itertools import count
 
+from nfs4.rows import Row
+
 # The seconds that a run has, on however busy a machine.
 PATIENCE = 300
+# A run's status, which is None where it has no end, and what it writes on standard output and on standard error.
+Ending = tuple[int | None, bytes, bytes]
 
 
 class Program:
-    def __init__(self, path):
+    def __init__(self, path: str) -> None:
         self.path = os.path.abspath(path)
         self.room, self.numbers = tempfile.TemporaryDirectory(), count()
 
-    def new_path(self):
+    def new_path(self) -> str:
         return os.path.join(self.room.name, str(next(self.numbers)))
 
-    def file_of(self, data):
+    def file_of(self, data: bytes) -> str:
         """The path of a new file with these bytes."""
         path = self.new_path()
         with open(path, "wb") as file:
             file.write(data)
         return path
 
-    def run(self, words, sent=b"", environment=None):
+    def run(self, words: list[str], sent: bytes = b"", environment: dict[str, str] | None = None) -> Ending:
         """Its status, and what it writes on standard output and on standard error."""
-        how = {"input": sent, "stdout": subprocess.PIPE, "stderr": subprocess.PIPE, "timeout": PATIENCE}
         try:
-            ran = subprocess.run([self.path, *words], env=environment, **how)
+            ran = subprocess.run([self.path, *words], env=environment, input=sent, capture_output=True,
+                                 timeout=PATIENCE)
         except subprocess.TimeoutExpired:
             return None, b"", b"no end"
         return ran.returncode, ran.stdout, ran.stderr
 
-    def audit(self, data):
+    def audit(self, data: bytes) -> Ending:
         path = self.file_of(data)
         ending = self.run(["audit", path])
         os.remove(path)
         return ending
 
-    def misjudged(self, judged):
+    def misjudged(self, judged: list[tuple[str, bytes, tuple[bool, str]]]) -> list[str]:
         """Of files, each with its name and a verdict: what is wrong where an audit ends otherwise."""
         with ThreadPoolExecutor(os.cpu_count()) as pool:
             endings = list(pool.map(self.audit, (data for _, data, _ in judged)))
         return [f"{name}: the program ends with {got}, not {ending_of(verdict)}"
                 for (name, _, verdict), got in zip(judged, endings) if got != ending_of(verdict)]
 
-    def miswritten(self, written):
+    def miswritten(self, written: list[tuple[Row, bytes]]) -> list[str]:
         """Of rows, each with the bytes of its journal, or None: what is wrong where `once` writes another one."""
         with ThreadPoolExecutor(os.cpu_count()) as pool:
             return [wrong for wrong in pool.map(self.wrong_once, *zip(*written)) if wrong is not None]
 
-    def once(self, row, environment=None):
+    def once(self, row: Row, environment: dict[str, str] | None = None) -> tuple[Ending, bytes | None]:
         """How `once` ends for the row, but for a line that says what is wrong with its tree; and the bytes of the
         journal that it leaves."""
         path, connection = self.new_path(), row.connections[0]
@@ -65,7 +69,7 @@ class Program:
             lines = lines[1:]
         return (status, output, b"".join(lines)), bytes_of(path)
 
-    def wrong_once(self, row, data):
+    def wrong_once(self, row: Row, data: bytes) -> str | None:
         """What is wrong with how `once` carries the row, or None."""
         ending, got = self.once(row)
         if ending != ending_of_once(row):
@@ -75,12 +79,12 @@ class Program:
         return None
 
 
-def can_run_once(row):
+def can_run_once(row: Row) -> bool:
     """Whether `once` can carry the row: it is one connection, at one moment, and nothing is swept."""
     return len(row.connections) == 1 and not row.connections[0].stops
 
 
-def ending_of_once(row):
+def ending_of_once(row: Row) -> Ending:
     """How `once` ends that carries the row."""
     connection = row.connections[0]
     if connection.fault is None:
@@ -88,14 +92,14 @@ def ending_of_once(row):
     return 1, connection.wanted, f"fault: {connection.fault}\n".encode()
 
 
-def ending_of(verdict):
+def ending_of(verdict: tuple[bool, str]) -> Ending:
     """How a run ends that says this of a journal."""
-    is_lawful, line = verdict
-    line = line.encode() + b"\n"
+    is_lawful, text = verdict
+    line = text.encode() + b"\n"
     return (0, line, b"") if is_lawful else (1, b"", line)
 
 
-def bytes_of(path):
+def bytes_of(path: str) -> bytes | None:
     """The bytes of a file, or None where there is none."""
     if not os.path.exists(path):
         return None

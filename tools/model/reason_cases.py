@@ -1,11 +1,11 @@
 """Refusals, each with the reason that has to be given for it, for check_reasons.py. The reasons were worked out from
 docs/RULES.md: what stands in the way, since which entry, and under which heading that is."""
-from journal import Recorder
-from journal_cases import CALLBACK, LAST, NO_CREATE, NOBODY, SOMEBODY
-from tree import DEFAULT, Tree
-from wire import (Claim, Close, Delegreturn, Getattr, KnownLocker, Lock, LockOwner, Lockt, Locku, NewLocker, Open,
-                  OpenConfirm, OpenDowngrade, OpenOwner, Openhow, Opnum, Read, ReleaseLockowner, Setclientid,
-                  SetclientidConfirm, Stateid, Write)
+from model.journal import Recorder
+from model.journal_cases import CALLBACK, FOR_CLIENTS, LAST, NO_CREATE, NOBODY, SOMEBODY
+from model.tree import DEFAULT, Tree
+from nfs4.wire import (Claim, Close, Delegreturn, Getattr, KnownLocker, Lock, LockOwner, Lockt, Locku, NewLocker, Open,
+                       OpenConfirm, OpenDowngrade, OpenOwner, Openhow, Opnum, Read, Readdir, ReleaseLockowner, Setattr,
+                       Setclientid, SetclientidConfirm, Stateid, Write)
 
 ROOT, FILE, OTHER_FILE, DIRECTORY = 0, 1, 2, 3
 ALL = 2**64 - 1
@@ -81,6 +81,17 @@ class Story:
 
     def write(self, stateid, because=None, filehandle=FILE, offset=0):
         self.call(Opnum.WRITE, Write(stateid, offset, 2, b"bytes"), because, filehandle)
+
+    def list(self, because=None, filehandle=ROOT, **more):
+        """The names and numbers of a directory's children."""
+        arguments = Readdir(0, bytes(8), 0, 4096, (1 << 20,))._replace(**more)
+        self.call(Opnum.READDIR, arguments, because, filehandle)
+
+    def ask_for(self, mask, because=None, filehandle=FILE):
+        self.call(Opnum.GETATTR, Getattr(mask), because, filehandle)
+
+    def set(self, mask, values, because=None, filehandle=FILE, stateid=ZEROS):
+        self.call(Opnum.SETATTR, Setattr(stateid, (mask, values)), because, filehandle)
 
     def expire(self, client, now=91):
         self.server.expire(client, 0, now)
@@ -675,6 +686,74 @@ def owners_that_are_forgotten():
     return story
 
 
+def listings():
+    """READDIR, and GETATTR of what can only be set, under the profile "clients"."""
+    story = Story("listings", FOR_CLIENTS)
+    missing = ("no filehandle is current: no operation before it in its COMPOUND made one so", "COMPOUND")
+    story.list(missing, filehandle=None)
+    story.list(('the current filehandle is that of file "/a", and no directory\'s', "READDIR"), filehandle=FILE)
+    story.list()
+    story.list(("attribute 54 (time_modify_set) can only be set", "READDIR"), mask=(0, 1 << 22), cookie=1)
+    for cookie in (1, 2, 6, 7, 2**64 - 1):
+        story.list((f'cookie {cookie} is neither 0 nor that of a child of directory "/"', "READDIR"), cookie=cookie,
+                   verifier=b"verifier", maxcount=0)
+    story.list(('cookie 3 is neither 0 nor that of a child of directory "/d"', "READDIR"), DIRECTORY, cookie=3)
+    story.list(("the verifier is 7665726966696572, and that of all listings is zero", "READDIR"), cookie=3,
+               verifier=b"verifier", maxcount=0)
+    story.list(verifier=b"verifier")
+    story.list(('one with "a" alone has 56 bytes, and 55 are the most here', "READDIR"), maxcount=55)
+    story.list(('one with "b" alone has 56 bytes, and 0 are the most here', "READDIR"), cookie=3, maxcount=0)
+    story.list(("a listing without an entry has 16 bytes, and 15 are the most here", "READDIR"), cookie=5, maxcount=15)
+    story.list(maxcount=56)
+    story.list(cookie=5, maxcount=16)
+    story.ask_for((0, 1 << 16), missing, None)
+    story.ask_for((0, 1 << 16), ("attribute 48 (time_access_set) can only be set", "GETATTR"))
+    story.ask_for((2**32 - 1, 2**32 - 1), ("attribute 48 (time_access_set); 54 (time_modify_set) can only be set",
+                                           "GETATTR"))
+    story.ask_for((0, 1 << 21))
+    return story
+
+
+def sizes():
+    """SETATTR under the profile "clients"."""
+    story = Story("sizes", FOR_CLIENTS)
+    story.introduce()
+    story.confirm_client(1, 1)
+    story.open(1, access=1, deny=2)
+    story.confirm(2, state(1))
+    size, server_time = (2).to_bytes(8, "big"), bytes(4)
+
+    def refuse(mask, values, text, heading="SETATTR", filehandle=OTHER_FILE, stateid=ZEROS):
+        story.set(mask, values, (text, heading), filehandle, stateid)
+
+    missing = "no filehandle is current: no operation before it in its COMPOUND made one so"
+    refuse((16,), size, missing, "COMPOUND", None)
+    refuse((24, 1 << 16), b"", "attribute 48 (time_access_set) isn't supported")
+    refuse((0, 0, 1), b"", "attribute 64 isn't supported")
+    refuse((2**32 - 1,), b"", "attribute 12; 13; 14; and 8 more isn't supported")
+    refuse((24, 2), b"", "attribute 3 (change) can only be read")
+    refuse((16, 2), b"", "attribute 33 (mode) stays what it is for good")
+    refuse((0, 0x30), b"", "attribute 36 (owner); 37 (owner_group) stays what it is for good")
+    refuse((16,), size + server_time, "the 12 bytes of values are no values of attribute 4 (size)")
+    refuse((), server_time, "the 4 bytes of values are no values of no attribute")
+    own_time = "the time is a client's own, and the server takes none but its own"
+    refuse((0, 1 << 22), bytes((0, 0, 0, 1)) + bytes(12), own_time)
+    story.set((16,), size, filehandle=OTHER_FILE)
+    story.set((16, 1 << 22), size + server_time, filehandle=OTHER_FILE)
+    story.set((), b"", filehandle=DIRECTORY, stateid=state(9))
+    refuse((16,), size, 'the current filehandle is that of directory "/d", and no file\'s', filehandle=DIRECTORY)
+    refuse((16,), size, 'open owner "A" of client 1 denies WRITE of file "/a" since entry 2', filehandle=FILE)
+    refuse((16,), size, "state 1 has seqid 2 since entry 3 (OPEN_CONFIRM), and the stateid has the earlier 1", STATEIDS,
+           FILE, state(1))
+    access = f"SETATTR takes access to WRITE, and state 1, an {OPEN_A}, has access to READ alone"
+    refuse((16,), size, access, filehandle=FILE, stateid=state(1, 2))
+    refuse((0, 1 << 22), server_time, "the stateid is of epoch 2, and this server's is 1", STATEIDS, FILE,
+           state(1, 2, epoch=2))
+    refuse((16,), (65537).to_bytes(8, "big"), "the size is 65537, and a file has 65536 bytes at most")
+    story.set((16,), (65536).to_bytes(8, "big"), filehandle=OTHER_FILE)
+    return story
+
+
 def closes_beside_locks():
     """Refused as long as a byte is held; and what comes before that."""
     story = Story("CLOSEs beside locks", 'policy.close_locks = "refuse"\n' + DEFAULT)
@@ -709,4 +788,4 @@ def stories():
     return [stateids(), ends(), clients(), records_that_give_way(), sequence_ids(), kept_answers(), no_kept_answers(),
             opens(), shares(), many_shares(), locks(), bytes_of_files(), bytes_of_lent_files(), delays(), many_delays(),
             delegation_stateids(), ends_of_delegations(), clients_with_delegations(), clients_of_slots(),
-            owners_that_are_forgotten(), closes_beside_locks()]
+            owners_that_are_forgotten(), closes_beside_locks(), listings(), sizes()]

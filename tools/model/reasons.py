@@ -5,20 +5,26 @@ heading of docs/RULES.md that says so.
 call what it found. The first one is the reason. `check_reasons.py` sees that each refusal has one, of the status that
 was answered, and that no other call has any."""
 from collections import namedtuple
+from collections.abc import Callable, Iterator
+from typing import Any
 
-from delegations import bars
-from entries import Call, Expire, Revoke
-from events import Events
-from history import History
-from journal import states
-from model import JOURNAL_LIMIT, NAME_LIMIT, OF_NODE, SEQUENCED
-from ranges import LAST_BYTE, READ_MODE, denial, range_of
-from states import (Delegation, LockState, OpenState, Request, closed_by, conflict, is_lawful_downgrade, is_special,
-                    mode_of, next_sequence_id, replay, sequence_id_of, stateid_of)
-from tree import TEXT_LIMIT
-from wire import (BOTH, CLAIM_DELEGATE_CUR, CLAIM_DELEGATE_PREV, CLAIM_PREVIOUS, EXCLUSIVE4, GUARDED4, NewLocker,
-                  OPEN4_CREATE, OPEN_DELEGATE_WRITE, Opnum, READ, Status, WRITE)
-from words import client_words, name_words, owner_words, place_words, principal_words, purpose_of
+from model.attributes import FIXED, NAMES, SET_ONLY, SIZE, WRITABLE, numbers_of
+from model.delegations import bars
+from model.entries import Call, Expire, Revoke
+from model.events import Events
+from model.history import History
+from model.journal import Journal, states
+from model.ranges import LAST_BYTE, READ_MODE, denial, range_of
+from model.server import (FIRST_COOKIE, JOURNAL_LIMIT, LISTING_ENDS, LISTING_LIMIT, NAME_LIMIT, NO_VERIFIER, OF_NODE,
+                          SEQUENCED, room_of_entries)
+from model.states import (Delegation, LockState, OpenState, Owner, Refusal, Request, closed_by, conflict,
+                          is_lawful_downgrade, is_special, mode_of, next_sequence_id, replay, sequence_id_of,
+                          stateid_of)
+from model.tree import TEXT_LIMIT
+from model.words import client_words, name_words, owner_words, place_words, principal_words, purpose_of
+from nfs4.wire import (BOTH, CLAIM_DELEGATE_CUR, CLAIM_DELEGATE_PREV, CLAIM_PREVIOUS, Delegreturn, EXCLUSIVE4, GUARDED4,
+                       NewLocker, OPEN4_CREATE, OPEN_DELEGATE_WRITE, Open, OpenConfirm, Opnum, READ, Setclientid,
+                       SetclientidConfirm, Stateid, Status, WRITE)
 
 # What is answered, what stood in the way, and the heading of the rules; and where a kept answer is given, which.
 Reason = namedtuple("Reason", "status text heading again", defaults=[None])
@@ -40,7 +46,7 @@ NAMED = 3
 Told = namedtuple("Told", "number entry reason events")
 
 
-def reasons(journal, limit=JOURNAL_LIMIT):
+def reasons(journal: Journal, limit: int = JOURNAL_LIMIT) -> Iterator[Told]:
     """What there is to say of each entry; or WrongAnswer at the first that can't follow."""
     following = states(journal, limit, History)
     server = next(following)
@@ -54,18 +60,24 @@ def reasons(journal, limit=JOURNAL_LIMIT):
 
 # Words.
 
-def again_words(call, again):
+def again_words(call: Any, again: Any) -> Any:
     """A call that has a kept answer: its owner, and the entry whose answer that is."""
     return f"{call.opnum.name} by {owner_words(again.owner)} is the request of entry {again.entry} again"
 
 
-def run_words(run, place):
+def attribute_words(numbers: Any) -> Any:
+    """Attributes by their numbers and names."""
+    words = [f"{number} ({NAMES[number]})" if number in NAMES else f"{number}" for number in sorted(numbers)]
+    return f"attribute {listed(words)}" if words else "no attribute"
+
+
+def run_words(run: Any, place: Any) -> Any:
     """The bytes of a file that are held, and in which way."""
     held = f"the bytes from {run.first} on" if run.last == LAST_BYTE else f"bytes {run.first} to {run.last}"
     return f"{held} of {place} for {'reading' if run.mode == READ_MODE else 'writing'}"
 
 
-def listed(texts):
+def listed(texts: list[str]) -> str:
     """The first ones, and how many others there are."""
     others = len(texts) - NAMED
     return "; ".join(texts[:NAMED]) + (f"; and {others} more" if others > 0 else "")
@@ -74,44 +86,44 @@ def listed(texts):
 class Causes:
     """What stands in the way of a call in the present state of a server that follows a journal."""
 
-    def __init__(self, server):
+    def __init__(self, server: History) -> None:
         self.server = server
         # The reasons of refusals, by their entries.
-        self.given = {}
+        self.given: dict[int, Any] = {}
 
-    def reason_of(self, call):
+    def reason_of(self, call: Call) -> Reason | None:
         """The reason of the call's answer, or None where nothing stands in its way."""
         reason = next(self.of_call(call), None)
         if reason is not None:
             self.given[self.server.entries] = reason
         return reason
 
-    def of_call(self, call):
+    def of_call(self, call: Call) -> Iterator[Any]:
         if call.opnum in SEQUENCED:
             return self.of_sequenced(Request(call.opnum, call.arguments, call.filehandle))
         if call.opnum in OF_NODE:
             return self.rule_of(call.opnum)(call.arguments, call.filehandle)
         return self.rule_of(call.opnum)(call.arguments, call.principal)
 
-    def rule_of(self, opnum):
+    def rule_of(self, opnum: Opnum) -> Callable[..., Any]:
         return getattr(self, f"of_{opnum.name.lower()}")
 
     # Words that need the state.
 
-    def entry_words(self, number):
+    def entry_words(self, number: int) -> str:
         return self.server.entry_words(number)
 
-    def end_words(self, number):
+    def end_words(self, number: int) -> Any:
         """The entry by which a state ended, while its client stayed."""
         entry = self.server.recorded[number]
         if isinstance(entry, Revoke):
             return f"entry {number}, as it wasn't given back in time"
         return self.entry_words(number) + (", which started its owner anew" if entry.opnum == Opnum.OPEN else "")
 
-    def place_words(self, node):
+    def place_words(self, node: int) -> str:
         return place_words(node, self.server.tree)
 
-    def state_words(self, state):
+    def state_words(self, state: Any) -> str:
         place = self.place_words(state.file)
         if isinstance(state, Delegation):
             lent = f"a delegation of {place} for {purpose_of(state.kind)} to {client_words(state.client)}"
@@ -120,12 +132,12 @@ class Causes:
 
     # What several operations have in common.
 
-    def of_filehandle(self, filehandle):
+    def of_filehandle(self, filehandle: Any) -> Iterator[Any]:
         if filehandle is None:
             text = "no filehandle is current: no operation before it in its COMPOUND made one so"
             yield Reason(Status.NOFILEHANDLE, text, "COMPOUND")
 
-    def of_clientid(self, epoch, number):
+    def of_clientid(self, epoch: int, number: int) -> Iterator[Any]:
         """What is wrong with a clientid, if its client isn't live."""
         text = self.unknown_client(epoch, number)
         if text is None and not self.server.is_live(number):
@@ -133,13 +145,13 @@ class Causes:
         if text is not None:
             yield Reason(Status.STALE_CLIENTID, text, CLIENT_IDS)
 
-    def unknown_client(self, epoch, number):
+    def unknown_client(self, epoch: int, number: int) -> Any:
         """Why a clientid isn't one that was given, or None."""
         if epoch != self.server.epoch:
             return f"the clientid is of epoch {epoch}, and this server's is {self.server.epoch}"
         return None if self.server.was_given(number) else f"{client_words(number)} was never given"
 
-    def lost_client(self, number):
+    def lost_client(self, number: int) -> str:
         """Why a client that was given isn't live."""
         server, client = self.server, client_words(number)
         removed = server.removals.get(number)
@@ -158,11 +170,11 @@ class Causes:
         last = self.last_introduction(given.record.id)
         return f"{text}, and {self.entry_words(last.entry)} gave its id {client_words(last.record.number)}"
 
-    def last_introduction(self, client_id):
+    def last_introduction(self, client_id: Any) -> Any:
         return max((it for it in self.server.introductions.values() if it.record.id == client_id),
                    key=lambda it: it.entry)
 
-    def of_stateid_client(self, stateid):
+    def of_stateid_client(self, stateid: Stateid) -> Iterator[Reason | None]:
         """What is wrong with a stateid up to its client."""
         server = self.server
         if is_special(stateid):
@@ -177,7 +189,7 @@ class Causes:
         if not server.is_live(stateid.client):
             yield Reason(Status.EXPIRED, self.lost_client(stateid.client), STATEIDS)
 
-    def missing_state(self, stateid):
+    def missing_state(self, stateid: Any) -> Any:
         """A live client has no state with the number of its stateid."""
         state = self.server.given.get(stateid.number)
         if state is None:
@@ -189,7 +201,7 @@ class Causes:
             text = f"{self.state_words(state)}, was ended by {self.end_words(self.server.ended[state.number])}"
         return Reason(Status.BAD_STATEID, text, STATEIDS)
 
-    def of_stateid(self, stateid, kind, file, of_unconfirmed=False):
+    def of_stateid(self, stateid: Stateid, kind: Any, file: Any, of_unconfirmed: bool = False) -> Iterator[Any]:
         """What is wrong with a stateid that is to name a state of this kind, or of one of these, on the file, from its
         number on."""
         yield from self.of_state(stateid, kind, file)
@@ -205,7 +217,8 @@ class Causes:
         if stateid.seqid > found.seqid:
             yield Reason(Status.BAD_STATEID, f"{stands}, and the stateid has the later {stateid.seqid}", STATEIDS)
 
-    def of_state(self, stateid, kind, file, naming="the current filehandle that of"):
+    def of_state(self, stateid: Stateid, kind: Any, file: Any,
+                 naming: str = "the current filehandle that of") -> Iterator[Any]:
         """The same, but for its seqid."""
         found = self.server.looked_up(stateid)
         if found is None:
@@ -217,31 +230,32 @@ class Causes:
             text = f"the stateid is that of {self.state_words(found)}, and {naming} {self.place_words(file)}"
             yield Reason(Status.BAD_STATEID, text, STATEIDS)
 
-    def of_range(self, arguments):
+    def of_range(self, arguments: Any) -> Iterator[Any]:
         if range_of(arguments.offset, arguments.length) is None:
             text = "a length of 0 names no bytes"
             if arguments.length > 0:
                 text = f"offset {arguments.offset} and length {arguments.length} add up to more than 2^64 - 1"
             yield Reason(Status.INVAL, text, RANGES)
 
-    def of_share(self, arguments, heading):
+    def of_share(self, arguments: Open, heading: str) -> Iterator[Any]:
         if not READ <= arguments.access <= BOTH:
             yield Reason(Status.INVAL, f"the access is {arguments.access}, and has to be 1 to 3", heading)
         if arguments.deny > BOTH:
             yield Reason(Status.INVAL, f"the deny is {arguments.deny}, and 3 is the most", heading)
 
-    def of_conflict(self, arguments, owner, file):
+    def of_conflict(self, arguments: Any, owner: Any, file: Any) -> Iterator[Any]:
         """The lock of another owner that is in the way, as it is reported."""
-        asked, mode = range_of(arguments.offset, arguments.length), mode_of(arguments.locktype)
+        asked: Any = range_of(arguments.offset, arguments.length)
+        mode = mode_of(arguments.locktype)
         others = [it for it in self.server.lock_states if it.file == file and it.owner != owner]
-        found = denial([(it.owner, it.ranges) for it in others], *asked, mode)
+        found = denial([(it.owner, it.ranges) for it in others], asked[0], asked[1], mode)
         if found is not None:
             state = next(it for it in others if it.owner == found.owner)
             yield Reason(Status.DENIED, self.holding_words(state, found.run), RANGES)
 
     # Operations that are requests of an owner.
 
-    def of_sequenced(self, request):
+    def of_sequenced(self, request: Request) -> Iterator[Reason | None]:
         yield from self.of_filehandle(request.filehandle)
         if request.opnum == Opnum.OPEN:
             name = request.arguments.owner
@@ -253,7 +267,7 @@ class Causes:
             yield from self.of_sequence_id(owner, request)
         yield from self.rule_of(request.opnum)(request.arguments, request.filehandle)
 
-    def of_named_owner(self, stateid):
+    def of_named_owner(self, stateid: Stateid) -> Iterator[Reason | None]:
         """What is wrong with a stateid that is to name an owner."""
         yield from self.of_stateid_client(stateid)
         owners, found = self.server.open_owners.values(), self.server.looked_up(stateid)
@@ -263,7 +277,7 @@ class Causes:
             text = f"the stateid is that of {self.state_words(found)}, and a delegation has no owner"
             yield Reason(Status.BAD_STATEID, text, OWNERS)
 
-    def missing_owner(self, stateid):
+    def missing_owner(self, stateid: Any) -> Any:
         """A stateid without a state, and without an owner whose kept request closed it."""
         reason, forgotten = self.missing_state(stateid), self.server.forgotten.get(stateid[1:])
         if forgotten is None:
@@ -271,12 +285,12 @@ class Causes:
         text = f"{reason.text}, and its owner was forgotten by {self.entry_words(forgotten)}"
         return reason._replace(text=text, heading=IDLE)
 
-    def due_words(self, owner):
+    def due_words(self, owner: Any) -> Any:
         kept = owner.kept
         due = f"{next_sequence_id(kept.seqid)} is the next sequence id of {owner_words(owner.name)}"
         return f"{due}, after {self.entry_words(kept.entry)}"
 
-    def of_sequence_id(self, owner, request):
+    def of_sequence_id(self, owner: Owner, request: Request) -> Iterator[Any]:
         kept, came = owner.kept, sequence_id_of(request)
         if replay(kept, came, request) is not None:
             before = self.given.get(kept.entry)
@@ -291,7 +305,7 @@ class Causes:
             text += f": that of the entry itself, with {other_part(kept.request, request)}"
         yield Reason(Status.BAD_SEQID, text, OWNERS)
 
-    def of_open(self, arguments, directory):
+    def of_open(self, arguments: Open, directory: Any) -> Iterator[Reason | None]:
         claim = arguments.claim
         if claim.kind == CLAIM_PREVIOUS:
             text = "it reclaims (CLAIM_PREVIOUS), and no run keeps anything of the one before"
@@ -301,14 +315,14 @@ class Causes:
         yield from self.of_share(arguments, "OPEN")
         yield from self.of_file_name(arguments, directory)
         server = self.server
-        file = server.tree.child(directory, claim.name)
+        file: Any = server.tree.child(directory, claim.name)
         if claim.kind == CLAIM_DELEGATE_CUR:
             yield from self.of_claimed(claim.delegation, arguments.owner.client, file)
         yield from self.of_other_opens(arguments, file)
         share, others = (arguments.access, arguments.deny), server.delegations_of_others(arguments.owner.client, file)
         yield from self.of_delegations(others, share, self.barred_open_words)
 
-    def of_file_name(self, arguments, directory):
+    def of_file_name(self, arguments: Open, directory: Any) -> Iterator[Any]:
         """What is wrong with the name that an OPEN has."""
         tree, name, how = self.server.tree, arguments.claim.name, arguments.how
         if tree.is_file(directory):
@@ -318,7 +332,8 @@ class Causes:
             yield Reason(Status.INVAL, "the name is empty", "OPEN")
         if len(name) > NAME_LIMIT:
             yield Reason(Status.NAMETOOLONG, f"the name has {len(name)} bytes, and {NAME_LIMIT} are the most", "OPEN")
-        node, creates = tree.child(directory, name), how.create == OPEN4_CREATE
+        node: Any = tree.child(directory, name)
+        creates = how.create == OPEN4_CREATE
         missing = f"{self.place_words(directory)} has no {name_words(name)}"
         if node is None and creates:
             yield Reason(Status.ACCESS, f"{missing}, and no file can be created", "OPEN")
@@ -330,12 +345,12 @@ class Causes:
             mode = "GUARDED4" if how.mode == GUARDED4 else "EXCLUSIVE4"
             yield Reason(Status.EXIST, f"{self.place_words(node)} is there, and {mode} creates a new one", "OPEN")
 
-    def of_claimed(self, stateid, client, file):
+    def of_claimed(self, stateid: Any, client: int, file: Any) -> Iterator[Any]:
         """What is wrong with the delegation that CLAIM_DELEGATE_CUR names."""
         for reason in self.of_claimed_stateid(stateid, client, file):
             yield reason._replace(text=f"of the delegation's stateid: {reason.text}")
 
-    def of_claimed_stateid(self, stateid, client, file):
+    def of_claimed_stateid(self, stateid: Any, client: int, file: Any) -> Iterator[Any]:
         yield from self.of_stateid_client(stateid)
         yield from self.of_state(stateid, Delegation, file, "the OPEN names")
         found = self.server.looked_up(stateid)
@@ -344,25 +359,26 @@ class Causes:
             yield Reason(Status.BAD_STATEID, text, "OPEN")
         yield from self.of_stateid(stateid, Delegation, file)
 
-    def of_delegations(self, held, share, barred_words):
+    def of_delegations(self, held: list[Delegation], share: tuple[int, int],
+                       barred_words: Callable[..., Any]) -> Iterator[Reason | None]:
         """Those of these delegations that are in the way of an access and a deny."""
         barring = sorted((it for it in held if bars(it.kind, share)), key=lambda it: it.number)
         if barring:
             yield Reason(Status.DELAY, listed([self.barring_words(it, barred_words) for it in barring]), DELEGATIONS)
 
-    def barred_open_words(self, held):
+    def barred_open_words(self, held: Delegation) -> str:
         if held.kind == OPEN_DELEGATE_WRITE:
             return "keeps out any open of another client"
         return "keeps out opens of other clients that write or deny READ"
 
-    def barring_words(self, held, barred_words):
+    def barring_words(self, held: Delegation, barred_words: Callable[..., Any]) -> str:
         """How a delegation is in the way, and since when it is called back."""
         barred, since = barred_words(held), self.server.recalled.get(held.number)
         called = "is called back now" if since is None else f"was called back by {self.entry_words(since)}"
         begun = self.entry_words(self.server.begun[held.number])
         return f"{self.state_words(held)} since {begun}, {barred}, and {called}"
 
-    def of_other_opens(self, arguments, file):
+    def of_other_opens(self, arguments: Open, file: Any) -> Iterator[Reason | None]:
         """Opens of other owners that deny what the OPEN asks, or have what it is to deny."""
         share = arguments.access, arguments.deny
         others = [it for it in self.server.opens
@@ -370,7 +386,7 @@ class Causes:
         if others:
             yield Reason(Status.SHARE_DENIED, listed([self.share_words(it, share) for it in others]), SHARE)
 
-    def share_words(self, opened, share):
+    def share_words(self, opened: OpenState, share: tuple[int, int]) -> str:
         """How an open is in the way of one with this access and deny."""
         (access, deny), since, place = opened.share(), self.server.since, self.place_words(opened.file)
         denied, held = deny & share[0], access & share[1]
@@ -382,14 +398,14 @@ class Causes:
         return f"{owner_words(opened.owner)} " + " and ".join(texts) + (
             "" if is_confirmed else " (it isn't confirmed, which makes no difference here)")
 
-    def of_open_confirm(self, arguments, file):
+    def of_open_confirm(self, arguments: OpenConfirm, file: Any) -> Iterator[Any]:
         yield from self.of_stateid(arguments.stateid, OpenState, file, of_unconfirmed=True)
         owner = self.server.looked_up(arguments.stateid).owner
         if self.server.open_owners[owner].is_confirmed:
             text = f"{owner_words(owner)} is confirmed since entry {self.server.owner_confirmations[owner]}"
             yield Reason(Status.BAD_STATEID, text, "OPEN_CONFIRM")
 
-    def of_open_downgrade(self, arguments, file):
+    def of_open_downgrade(self, arguments: Any, file: Any) -> Iterator[Any]:
         yield from self.of_stateid(arguments.stateid, OpenState, file)
         yield from self.of_share(arguments, "OPEN_DOWNGRADE")
         pairs = self.server.looked_up(arguments.stateid).pairs
@@ -399,19 +415,19 @@ class Causes:
                     f"kept of its OPENs: {kept}")
             yield Reason(Status.INVAL, text, "OPEN_DOWNGRADE")
 
-    def of_close(self, arguments, file):
+    def of_close(self, arguments: Any, file: Any) -> Iterator[Any]:
         yield from self.of_stateid(arguments.stateid, OpenState, file)
         server = self.server
         held = server.holding(server.looked_up(arguments.stateid))
         if server.tree.policy.close_locks == "refuse" and held:
             yield Reason(Status.LOCKS_HELD, listed([self.held_words(it) for it in held]), "CLOSE")
 
-    def held_words(self, state):
+    def held_words(self, state: Any) -> Any:
         """The first range that a lock state holds, and how many there are."""
         runs = state.ranges.held()
         return self.holding_words(state, runs[0], f", the first of {len(runs)} ranges" * (len(runs) > 1))
 
-    def holding_words(self, state, run, more=""):
+    def holding_words(self, state: Any, run: Any, more: str = "") -> Any:
         """The bytes that a lock state holds, and since when."""
         held, changed = run_words(run, self.place_words(state.file)), self.entry_words(self.server.moved[state.number])
         text = f"{owner_words(state.owner)} holds {held}{more}, by state {state.number}"
@@ -419,7 +435,7 @@ class Causes:
 
     # Byte-range locks.
 
-    def of_lock(self, arguments, file):
+    def of_lock(self, arguments: Any, file: Any) -> Iterator[Any]:
         locker, server = arguments.locker, self.server
         is_new = isinstance(locker, NewLocker)
         stateid = locker.open_stateid if is_new else locker.lock_stateid
@@ -439,7 +455,7 @@ class Causes:
             yield Reason(Status.OPENMODE, text, "LOCK")
         yield from self.of_conflict(arguments, locker.owner if is_new else found.owner, file)
 
-    def of_new_locker(self, locker, file):
+    def of_new_locker(self, locker: Any, file: Any) -> Iterator[Any]:
         owner, server = locker.owner, self.server
         if owner[:2] != locker.open_stateid[1:3]:
             text = (f"the lock owner has the clientid {owner.epoch} {owner.client}, and the open is one of client "
@@ -456,7 +472,7 @@ class Causes:
             text = f"{self.due_words(known)}, and the lock_seqid is {locker.lock_seqid}"
             yield Reason(Status.BAD_SEQID, text, "LOCK")
 
-    def of_lockt(self, arguments, file):
+    def of_lockt(self, arguments: Any, file: Any) -> Iterator[Any]:
         yield from self.of_filehandle(file)
         yield from self.of_clientid(arguments.owner.epoch, arguments.owner.client)
         if not self.server.tree.is_file(file):
@@ -465,16 +481,16 @@ class Causes:
         yield from self.of_range(arguments)
         yield from self.of_conflict(arguments, arguments.owner, file)
 
-    def of_locku(self, arguments, file):
+    def of_locku(self, arguments: Any, file: Any) -> Iterator[Any]:
         yield from self.of_stateid(arguments.stateid, LockState, file)
         yield from self.of_range(arguments)
 
     # The bytes of files.
 
-    def of_read(self, arguments, file):
+    def of_read(self, arguments: Any, file: Any) -> Any:
         return self.of_access(arguments.stateid, file, READ, "READ")
 
-    def of_write(self, arguments, file):
+    def of_write(self, arguments: Any, file: Any) -> Iterator[Any]:
         yield from self.of_access(arguments.stateid, file, WRITE, "WRITE")
         end = arguments.offset + len(arguments.data)
         if end > TEXT_LIMIT:
@@ -482,7 +498,7 @@ class Causes:
                     f"{TEXT_LIMIT} at most")
             yield Reason(Status.FBIG, text, "WRITE")
 
-    def of_access(self, stateid, file, wanted, heading):
+    def of_access(self, stateid: Any, file: Any, wanted: Any, heading: Any) -> Iterator[Any]:
         """What is wrong with a stateid by which a file is to be read, or written."""
         yield from self.of_filehandle(file)
         if not self.server.tree.is_file(file):
@@ -495,18 +511,18 @@ class Causes:
         yield from self.of_stateid(stateid, (OpenState, LockState, Delegation), file)
         yield from self.of_own_access(self.server.looked_up(stateid), wanted, heading)
 
-    def of_access_of_nobody(self, file, wanted, heading):
+    def of_access_of_nobody(self, file: Any, wanted: Any, heading: Any) -> Iterator[Any]:
         opens = [it for it in self.server.opens if it.file == file and it.share()[1] & wanted]
         if opens:
             yield Reason(Status.LOCKED, listed([self.share_words(it, (wanted, 0)) for it in opens]), heading)
         held = [it for it in self.server.delegations if it.file == file]
         yield from self.of_delegations(held, (wanted, 0), self.barred_special_words)
 
-    def barred_special_words(self, held):
+    def barred_special_words(self, held: Any) -> Any:
         operations = "READs and WRITEs" if held.kind == OPEN_DELEGATE_WRITE else "WRITEs"
         return f"keeps out {operations} by a special stateid, whoever sends them"
 
-    def of_own_access(self, found, wanted, heading):
+    def of_own_access(self, found: Any, wanted: Any, heading: Any) -> Iterator[Any]:
         """A state that doesn't give this access."""
         if isinstance(found, Delegation):
             access = BOTH if found.kind == OPEN_DELEGATE_WRITE else READ
@@ -518,9 +534,71 @@ class Causes:
         if access & wanted == 0:
             yield Reason(Status.OPENMODE, f"{heading} takes access to {MODES[wanted]}, and {text}", heading)
 
+    # Attributes, and listings.
+
+    def of_getattr(self, arguments: Any, filehandle: Any) -> Iterator[Any]:
+        yield from self.of_filehandle(filehandle)
+        yield from self.of_set_only(arguments.mask, "GETATTR")
+
+    def of_set_only(self, mask: Any, heading: Any) -> Iterator[Any]:
+        asked = numbers_of(mask) & SET_ONLY
+        if asked and self.server.is_for_clients():
+            yield Reason(Status.INVAL, f"{attribute_words(asked)} can only be set", heading)
+
+    def of_readdir(self, arguments: Any, directory: Any) -> Iterator[Any]:
+        yield from self.of_filehandle(directory)
+        tree, cookie = self.server.tree, arguments.cookie
+        if tree.is_file(directory):
+            text = f"the current filehandle is that of {self.place_words(directory)}, and no directory's"
+            yield Reason(Status.NOTDIR, text, "READDIR")
+        yield from self.of_set_only(arguments.mask, "READDIR")
+        children = tree.children(directory)
+        if cookie != 0 and cookie - FIRST_COOKIE not in children:
+            text = f"cookie {cookie} is neither 0 nor that of a child of {self.place_words(directory)}"
+            yield Reason(Status.BAD_COOKIE, text, "READDIR")
+        if cookie != 0 and arguments.verifier != NO_VERIFIER:
+            text = f"the verifier is {arguments.verifier.hex()}, and that of all listings is zero"
+            yield Reason(Status.NOT_SAME, text, "READDIR")
+        yield from self.of_room(arguments, [child for child in children if child + FIRST_COOKIE > cookie])
+
+    def of_room(self, arguments: Any, left: Any) -> Iterator[Any]:
+        """That not even the first of the children that are left fits into a listing; or its ends alone don't."""
+        asked, room = min(arguments.maxcount, LISTING_LIMIT), room_of_entries(arguments.maxcount)
+        needed, what = LISTING_ENDS, "a listing without an entry"
+        if left:
+            needed += len(self.server.listing_entry(left[0], arguments.mask))
+            what = f"one with {name_words(self.server.tree.nodes[left[0]].name)} alone"
+        if room < needed - LISTING_ENDS:
+            yield Reason(Status.TOOSMALL, f"{what} has {needed} bytes, and {asked} are the most here", "READDIR")
+
+    def of_setattr(self, arguments: Any, file: Any) -> Iterator[Any]:
+        mask, values = arguments.attributes
+        yield from self.of_filehandle(file)
+        asked = numbers_of(mask)
+        for status, numbers, text in ((Status.ATTRNOTSUPP, asked - self.server.supported(), "isn't supported"),
+                                      (Status.INVAL, asked - WRITABLE, "can only be read"),
+                                      (Status.ROFS, asked & FIXED, "stays what it is for good")):
+            if numbers:
+                yield Reason(status, f"{attribute_words(numbers)} {text}", "SETATTR")
+        yield from self.of_values(asked, values)
+        if asked:
+            yield from self.of_access(arguments.stateid, file, WRITE, "SETATTR")
+        size = int.from_bytes(values[:8], "big") if SIZE in asked else 0
+        if size > TEXT_LIMIT:
+            yield Reason(Status.FBIG, f"the size is {size}, and a file has {TEXT_LIMIT} bytes at most", "SETATTR")
+
+    def of_values(self, asked: Any, values: Any) -> Iterator[Any]:
+        try:
+            self.server.size_of(asked, values)
+        except Refusal as refusal:
+            text = f"the {len(values)} bytes of values are no values of {attribute_words(asked)}"
+            if refusal.status == Status.ROFS:
+                text = "the time is a client's own, and the server takes none but its own"
+            yield Reason(refusal.status, text, "SETATTR")
+
     # The others.
 
-    def of_release_lockowner(self, arguments, _principal):
+    def of_release_lockowner(self, arguments: Any, _principal: Any) -> Iterator[Any]:
         owner = arguments.owner
         yield from self.of_clientid(owner.epoch, owner.client)
         held = [it for it in self.server.lock_states if it.owner == owner and not it.ranges.is_empty()]
@@ -529,19 +607,16 @@ class Causes:
             text = f"{owner_words(owner)} holds bytes of {listed(texts)}"
             yield Reason(Status.LOCKS_HELD, text, "RELEASE_LOCKOWNER")
 
-    def of_delegreturn(self, arguments, file):
+    def of_delegreturn(self, arguments: Delegreturn, file: Any) -> Iterator[Any]:
         yield from self.of_filehandle(file)
         yield from self.of_stateid_client(arguments.stateid)
         yield from self.of_stateid(arguments.stateid, Delegation, file)
 
-    def of_getattr(self, _arguments, filehandle):
-        return self.of_filehandle(filehandle)
-
-    def of_setclientid(self, arguments, principal):
+    def of_setclientid(self, arguments: Setclientid, principal: tuple[int, int]) -> Iterator[Any]:
         record = self.server.record_where(True, lambda it: it.id == arguments.id)
         yield from self.of_other_principal(record, principal, "SETCLIENTID")
 
-    def of_other_principal(self, record, principal, heading):
+    def of_other_principal(self, record: Any, principal: tuple[int, int], heading: str) -> Iterator[Any]:
         """The confirmed record of an id is that of another principal, whose client has state."""
         server = self.server
         if record is None or record.principal == principal or not server.has_state(record.number):
@@ -552,10 +627,10 @@ class Causes:
                 f"since {self.entry_words(server.begun[state.number])}")
         yield Reason(Status.CLID_INUSE, text, heading)
 
-    def of_setclientid_confirm(self, arguments, principal):
+    def of_setclientid_confirm(self, arguments: SetclientidConfirm, principal: tuple[int, int]) -> Iterator[Any]:
         server, heading = self.server, "SETCLIENTID_CONFIRM"
-        given = server.introductions.get(arguments.confirm)
-        record = None if given is None else given.record
+        given: Any = server.introductions.get(arguments.confirm)
+        record: Any = None if given is None else given.record
         is_named = record is not None and (server.epoch, record.number) == arguments[:2]
         if not is_named or not any(it is record for it in server.records):
             yield self.of_no_record(arguments, given)
@@ -568,7 +643,7 @@ class Causes:
             if other is not None and other.number != record.number:
                 yield from self.of_other_principal(other, principal, heading)
 
-    def of_no_record(self, arguments, given):
+    def of_no_record(self, arguments: Any, given: Any) -> Any:
         """No record has the clientid and the confirm value."""
         text = self.unknown_client(arguments.epoch, arguments.client)
         if text is not None:
@@ -590,12 +665,12 @@ class Causes:
         return Reason(Status.STALE_CLIENTID, text, "SETCLIENTID_CONFIRM")
 
 
-def other_part(kept, request):
+def other_part(kept: Any, request: Any) -> Any:
     """What tells a request from the kept one, which has its sequence id."""
     if kept.opnum != request.opnum:
         return "another operation"
     return "another current filehandle" if kept.arguments == request.arguments else "other arguments"
 
 
-def is_refusal(entry):
+def is_refusal(entry: Call | Expire) -> bool:
     return isinstance(entry, Call) and entry.answer.status != Status.OK

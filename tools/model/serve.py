@@ -13,24 +13,23 @@ status is 1 only where the run itself had a fault, as that the journal can't be 
 import os
 import signal
 import sys
-import threading
+from typing import Any
 
 sys.dont_write_bytecode = True
+from packages import make_known
+make_known()
 
-from python_version import require_python
-
-require_python()
-
-from journal import Recorder, journal_bytes
-from once import options, server_of, within
-from serving import Bell, Desk, Fault, Run, address_text, listen, say
-from traces import Tracer
+from model.journal import Recorder, journal_bytes
+from model.once import options, server_of, within
+from model.serving import Bell, Desk, Run, address_text, listen, say
+from model.traces import Tracer
+from nfs4.wire import Fault
 
 # The seconds that a call has to come to its end when the run does.
 PATIENCE = 5
 
 
-def read_options():
+def read_options() -> Any:
     parser = options(__doc__)
     parser.add_argument("--listen", metavar="ADDR", default="127.0.0.1:2049",
                         help="an IP address or a name, and a port, of which 0 is any that is free (%(default)s)")
@@ -51,7 +50,7 @@ def read_options():
     return given
 
 
-def ring_at_end(bell):
+def ring_at_end(bell: Bell) -> None:
     """Rings when standard input has ended."""
     try:
         while os.read(0, 4096):
@@ -61,12 +60,12 @@ def ring_at_end(bell):
     bell.ring()
 
 
-def ring_at_signals(bell):
+def ring_at_signals(bell: Bell) -> list[Any]:
     """Rings at SIGTERM and SIGINT: a list that gets the signals. A shell that starts a command in the background has
     it ignore SIGINT, and so it does."""
     heard = []
 
-    def hear(number, _frame):
+    def hear(number: int, _frame: Any) -> None:
         heard.append(number)
         bell.ring()
     for number in signal.SIGTERM, signal.SIGINT:
@@ -75,7 +74,7 @@ def ring_at_signals(bell):
     return heard
 
 
-def write_journal(path, server):
+def write_journal(path: str, server: Recorder) -> Any:
     """The fault of the journal's file, or None."""
     try:
         with open(path, "wb") as file:
@@ -85,15 +84,15 @@ def write_journal(path, server):
     return None
 
 
-def serve(given):
+def serve(given: Any) -> tuple[list[Any], str | None]:
     """A run: the signals that it heard, and its fault, or None."""
     kind = Tracer if given.trace else Recorder
     first = server_of(given, kind)
 
-    def desk_of(server):
+    def desk_of(server: Recorder) -> Desk:
         return Desk(server, given.trace, given.goes_on)
 
-    def desk_of_its_own():
+    def desk_of_its_own() -> Any:
         return desk_of(kind(first.tree, first.lease, first.epoch))
     desk, bell, listener = desk_of(first), Bell(), listen(given.listen)
     heard = ring_at_signals(bell)
@@ -114,7 +113,7 @@ def serve(given):
     return heard, of_the_file if heard else fault or of_the_file
 
 
-def main():
+def main() -> None:
     try:
         heard, fault = serve(read_options())
     except Fault as refused:

@@ -8,11 +8,14 @@ import socket
 import sys
 import threading
 import time
+from collections.abc import Callable
 from functools import partial
+from typing import Any, TextIO
 
-import wire
-from model import CLIENTS_LIMIT, JOURNAL_LIMIT
-from traces import call_line, entry_line
+from model.server import CLIENTS_LIMIT, JOURNAL_LIMIT
+from model.traces import call_line, entry_line
+from nfs4 import wire
+from nfs4.wire import Fault, records
 
 # The seconds between two looks at the bell, and between two sweeps.
 TICK, SWEEP = 0.25, 1
@@ -24,11 +27,7 @@ PIECE = 16384
 LEFT, SILENT, LONGEST = 4 << 20, 0.5, 30
 
 
-class Fault(Exception):
-    """What ends a connection or a run; its one argument is what stands behind `fault: `."""
-
-
-def say(line, stream=None):
+def say(line: str, stream: TextIO | None = None) -> None:
     """Writes a line of the run, on standard error if nothing else is said; nobody need read it."""
     try:
         stream = stream or sys.stderr
@@ -40,7 +39,7 @@ def say(line, stream=None):
 
 # Addresses.
 
-def listen(text):
+def listen(text: str) -> socket.socket:
     """A socket that listens on this address: an IP address or a name, and a port; or a Fault."""
     host, _, port = text.rpartition(":")
     if host == "" or not re.fullmatch("[0-9]+", port) or int(port) > 65535:
@@ -57,7 +56,7 @@ def listen(text):
     raise Fault("socket")
 
 
-def address_text(address):
+def address_text(address: tuple[str, int]) -> str:
     host, port = address[:2]
     return f"[{host}]:{port}" if ":" in host else f"{host}:{port}"
 
@@ -65,13 +64,13 @@ def address_text(address):
 class Bell:
     """What ends a run from outside. Ringing it takes no lock, so a signal may do that at any time."""
 
-    def __init__(self):
-        self.rung_at = None
+    def __init__(self) -> None:
+        self.rung_at: float | None = None
 
-    def ring(self):
+    def ring(self) -> None:
         self.rung_at = self.rung_at or time.monotonic()
 
-    def is_rung(self, seconds=0):
+    def is_rung(self, seconds: float = 0) -> bool:
         """Whether it was rung, so many seconds ago or more."""
         return self.rung_at is not None and time.monotonic() - self.rung_at >= seconds
 
@@ -79,17 +78,19 @@ class Bell:
 class Desk:
     """One server for several connections, which answers one call at a time, and sweeps between two."""
 
-    def __init__(self, server, is_traced=False, is_limit_told=False):
+    def __init__(self, server: Any, is_traced: bool = False, is_limit_told: bool = False) -> None:
         self.server, self.is_traced = server, is_traced
         self.turn, self.begun = threading.Lock(), time.monotonic()
         # What there is no more of when there is so much, each told once.
-        self.limits = [("no client slot is left", lambda: len(server.renewals), CLIENTS_LIMIT),
-                       ("the journal is full", lambda: server.entries, JOURNAL_LIMIT)] if is_limit_told else []
+        limits: list[tuple[str, Callable[[], Any], int]] = [
+            ("no client slot is left", lambda: len(server.renewals), CLIENTS_LIMIT),
+            ("the journal is full", lambda: server.entries, JOURNAL_LIMIT)]
+        self.limits = limits if is_limit_told else []
 
-    def moment(self):
+    def moment(self) -> int:
         return int(time.monotonic() - self.begun)
 
-    def answer(self, number, record):
+    def answer(self, number: int, record: bytes) -> Any:
         """The reply to a record of the connection of this number, or None."""
         with self.turn:
             self.server.moment = self.moment()
@@ -99,7 +100,7 @@ class Desk:
             self.tell_limits()
         return reply
 
-    def sweep(self):
+    def sweep(self) -> None:
         with self.turn:
             before = len(self.server.recorded)
             self.server.sweep(self.moment())
@@ -107,7 +108,7 @@ class Desk:
                 say(entry_line(self.server, entry), sys.stdout)
             self.tell_limits()
 
-    def tell_limits(self):
+    def tell_limits(self) -> None:
         for limit in list(self.limits):
             words, count, most = limit
             if count() >= most:
@@ -115,40 +116,20 @@ class Desk:
                 self.limits.remove(limit)
 
 
-def records(take):
-    """The records of a connection, as they come, up to its end; or the Fault of a connection that ends otherwise.
-    `take` gives so many bytes, or what there is before the end."""
-    body, is_inside = b"", False
-    while True:
-        header = take(4)
-        if header == b"" and not is_inside:
-            return
-        length = int.from_bytes(header, "big") & 0x7FFFFFFF
-        if len(header) == 4 and len(body) + length > wire.RECORD_LIMIT:
-            raise Fault("record too long")
-        part = take(length) if len(header) == 4 else b""
-        if len(header) < 4 or len(part) < length:
-            raise Fault("input ends inside a record")
-        body, is_inside = body + part, True
-        if header[0] >> 7:
-            yield body
-            body, is_inside = b"", False
-
-
 class Connection:
     """A connection that was taken."""
 
-    def __init__(self, stream, answer, bell):
+    def __init__(self, stream: socket.socket, answer: Callable[..., Any], bell: Bell) -> None:
         self.socket, self.answer, self.bell, self.rest = stream, answer, bell, bytearray()
 
-    def serve(self):
+    def serve(self) -> None:
         """Answers its records up to its end; or the Fault that ends it."""
         for record in records(self.take):
             reply = self.answer(record)
             if reply is not None:
                 self.send(wire.record(reply))
 
-    def take(self, count):
+    def take(self, count: int) -> bytes:
         """The next so many bytes, or what there is before the end of the input."""
         while len(self.rest) < count:
             more = self.receive()
@@ -159,7 +140,7 @@ class Connection:
         del self.rest[:count]
         return taken
 
-    def receive(self):
+    def receive(self) -> bytes:
         """What comes next. There is nothing at the end of the input, which is also where the bell was rung and no
         more has come by then."""
         while not self.bell.is_rung(LATE):
@@ -174,7 +155,7 @@ class Connection:
                 raise Fault("input not read") from None
         return b""
 
-    def send(self, data):
+    def send(self, data: bytes) -> None:
         rest = memoryview(data)
         while rest:
             if self.bell.is_rung(LATE):
@@ -187,7 +168,7 @@ class Connection:
             except OSError:
                 raise Fault("output not written") from None
 
-    def let_go(self):
+    def let_go(self) -> None:
         """Reads on until the peer ends it, too, so that the replies on their way reach the peer; but not for ever."""
         left, until = LEFT, time.monotonic() + LONGEST
         try:
@@ -205,14 +186,16 @@ class Run:
     """Connections, each by a thread: so many in all, or where the run goes on so many at once. `desk_of` gives the
     desk of the next connection."""
 
-    def __init__(self, listener, desk_of, bell, most, goes_on):
+    def __init__(self, listener: socket.socket, desk_of: Callable[[], Desk], bell: Bell, most: int,
+                 goes_on: bool) -> None:
         self.listener, self.desk_of, self.bell, self.most, self.goes_on = listener, desk_of, bell, most, goes_on
         # How many connections have come, and how many are there. Who changes that says so.
         self.come, self.there, self.changed = 0, 0, threading.Condition()
         # What was told once, and the faults of the run, by the connections that had them, of which the first is 1.
-        self.told, self.faults = set(), {}
+        self.told: set[str] = set()
+        self.faults: dict[int, str] = {}
 
-    def spawn(self, number, task, *given):
+    def spawn(self, number: int, task: Callable[..., Any], *given: Any) -> bool:
         """Has a thread of its own do it. That there is none is a fault."""
         try:
             threading.Thread(target=task, args=given, daemon=True).start()
@@ -221,16 +204,16 @@ class Run:
             self.faults[number] = "no memory"
             return False
 
-    def sweep_with(self, desk):
+    def sweep_with(self, desk: Desk) -> None:
         """Has a thread look for leases that are over, about once a second. Its fault comes before those of
         connections."""
-        def sweep():
+        def sweep() -> None:
             while True:
                 time.sleep(SWEEP)
                 desk.sweep()
         self.spawn(0, sweep)
 
-    def serve(self):
+    def serve(self) -> str | None:
         """Takes connections, and waits until they have ended: the fault of the run, or None."""
         self.listener.settimeout(TICK)
         while not self.bell.is_rung() and (self.goes_on or self.come < self.most):
@@ -242,12 +225,12 @@ class Run:
         self.listener.close()
         return self.faults[min(self.faults)] if self.faults else None
 
-    def is_so(self, condition):
+    def is_so(self, condition: Callable[[], bool]) -> bool:
         """Whether it is so, or becomes so within a tick."""
         with self.changed:
             return self.changed.wait_for(condition, TICK)
 
-    def take_one(self):
+    def take_one(self) -> None:
         """Takes a connection, if one comes within a tick."""
         try:
             stream, address = self.listener.accept()
@@ -262,14 +245,14 @@ class Run:
             stream.close()
             self.count(-1)
 
-    def count(self, change):
+    def count(self, change: int) -> None:
         with self.changed:
             self.there += change
             self.changed.notify_all()
         if self.goes_on and self.there == self.most:
             self.tell_once(f"no more connections: {self.most} of {self.most}")
 
-    def miss(self):
+    def miss(self) -> None:
         """Where a connection can't be accepted there is one less to be served; or if the run goes on it waits."""
         if self.goes_on:
             self.tell_once("a connection isn't accepted; it is tried again")
@@ -278,12 +261,12 @@ class Run:
             self.come += 1
             self.faults[self.come] = "input not read"
 
-    def tell_once(self, line):
+    def tell_once(self, line: str) -> None:
         if line not in self.told:
             self.told.add(line)
             say(line)
 
-    def attend(self, number, stream, address):
+    def attend(self, number: int, stream: socket.socket, address: tuple[str, int]) -> None:
         connection = Connection(stream, partial(self.desk_of().answer, number), self.bell)
         try:
             stream.setsockopt(socket.IPPROTO_TCP, socket.TCP_NODELAY, 1)

@@ -1,10 +1,13 @@
 """What the server keeps of clients, owners, opens, locks and delegations; and what several rules ask of these, of
 stateids and of sequence ids. Sections are those of RFC 7530."""
 from collections import namedtuple
+from collections.abc import Callable
 from dataclasses import dataclass, field
+from typing import Any
 
-from ranges import READ_MODE, RUNS_LIMIT, Ranges, WRITE_MODE, range_of
-from wire import (BOTH, Callback, LockOwner, NewLocker, OpenOwner, Opnum, READ, READ_LT, READW_LT, Stateid, Status, u32)
+from model.ranges import READ_MODE, RUNS_LIMIT, Ranges, WRITE_MODE, range_of
+from nfs4.wire import (BOTH, Callback, Lock, LockOwner, Lockt, Locku, NewLocker, OpenOwner, Opnum, READ, READW_LT,
+                       READ_LT, Stateid, Status, u32)
 
 HANDLE_HEAD = b"nfh1"
 LAST = 2**32 - 1
@@ -23,7 +26,7 @@ class Unchanged(Exception):
 class Refusal(Exception):
     """A rule's answer other than OK; what it brings after the status is `rest`."""
 
-    def __init__(self, status, rest=b""):
+    def __init__(self, status: Status, rest: bytes = b"") -> None:
         super().__init__(status)
         self.status, self.rest = status, rest
 
@@ -39,22 +42,22 @@ class Result:
 class ClientRecord:
     """A client that has introduced itself (section 9.1.1)."""
     id: bytes
-    principal: tuple
+    principal: tuple[int, int]
     verifier: bytes
     callback: Callback
     confirm: int
     number: int
     is_confirmed: bool = False
     # Whether the client can be called back, once it is confirmed: UNKNOWN, UP or DOWN.
-    path: str = None
+    path: str | None = None
 
 
 @dataclass(frozen=True)
 class Request:
     """What is compared to tell a retransmission: the operation with its arguments, and the current filehandle."""
     opnum: Opnum
-    arguments: tuple
-    filehandle: int
+    arguments: Any
+    filehandle: int | None
 
 
 @dataclass
@@ -84,14 +87,14 @@ class OpenState:
     owner: OpenOwner
     file: int
     number: int
-    pairs: list
+    pairs: list[tuple[int, int]]
     seqid: int = 1
 
-    def share(self):
+    def share(self) -> tuple[int, int]:
         return union(self.pairs)
 
     @property
-    def client(self):
+    def client(self) -> int:
         return self.owner.client
 
 
@@ -105,11 +108,11 @@ class LockState:
     seqid: int = 0
 
     @property
-    def file(self):
+    def file(self) -> int:
         return self.open.file
 
     @property
-    def client(self):
+    def client(self) -> int:
         return self.owner.client
 
 
@@ -121,7 +124,7 @@ class Delegation:
     kind: int
     number: int
     # When it was called back first, or None.
-    recalled: int = None
+    recalled: int | None = None
     seqid = 1
 
 
@@ -133,44 +136,44 @@ UNKNOWN, UP, DOWN = "unknown", "up", "down"
 Recall = namedtuple("Recall", "stateid file principal callback")
 
 
-def union(pairs):
+def union(pairs: list[tuple[int, int]]) -> tuple[int, int]:
     access = deny = 0
     for pair in pairs:
         access, deny = access | pair[0], deny | pair[1]
     return access, deny
 
 
-def contains(outer, inner):
+def contains(outer: tuple[int, int], inner: tuple[int, int]) -> bool:
     return inner[0] & ~outer[0] == 0 and inner[1] & ~outer[1] == 0
 
 
-def conflict(one, other):
+def conflict(one: tuple[int, int], other: tuple[int, int]) -> bool:
     """The access of one meets what the other denies (section 9.9)."""
     return one[0] & other[1] != 0 or one[1] & other[0] != 0
 
 
-def is_lawful_downgrade(pairs, wanted):
+def is_lawful_downgrade(pairs: list[tuple[int, int]], wanted: tuple[int, int]) -> bool:
     """Some of the pairs, one at least, have just this union (section 16.19)."""
     subsets = range(1, 2**len(pairs))
     return any(union([pair for place, pair in enumerate(pairs) if subset >> place & 1]) == wanted for subset in subsets)
 
 
-def next_seqid(seqid):
+def next_seqid(seqid: int) -> int:
     """The seqid of a stateid after this one: 0 is left out (section 9.1.4.2)."""
     return 1 if seqid == LAST else seqid + 1
 
 
-def next_sequence_id(seqid):
+def next_sequence_id(seqid: int) -> int:
     """The sequence id of an owner's request after this one (section 9.1.7)."""
     return 0 if seqid == LAST else seqid + 1
 
 
-def is_special(stateid):
+def is_special(stateid: Stateid) -> bool:
     """Anonymous, or READ bypass (section 9.1.4.3)."""
     return stateid in (Stateid(0, 0, 0, 0), Stateid(LAST, LAST, LAST, LAST))
 
 
-def answer(rule):
+def answer(rule: Callable[[], bytes]) -> Result:
     """What the rule answers: OK and its bytes, or its refusal."""
     try:
         return Result(Status.OK, rule())
@@ -178,12 +181,12 @@ def answer(rule):
         return Result(refusal.status, refusal.rest)
 
 
-def is_first_lock(request):
+def is_first_lock(request: Request) -> bool:
     """A LOCK that names an owner which is to have its first lock state on the file."""
     return request.opnum == Opnum.LOCK and isinstance(request.arguments.locker, NewLocker)
 
 
-def stateid_of(opnum, arguments):
+def stateid_of(opnum: Opnum, arguments: Any) -> Stateid:
     """The stateid that names the owner of a sequenced operation other than OPEN."""
     if opnum != Opnum.LOCK:
         return arguments.stateid
@@ -191,7 +194,7 @@ def stateid_of(opnum, arguments):
     return locker.open_stateid if isinstance(locker, NewLocker) else locker.lock_stateid
 
 
-def sequence_id_of(request):
+def sequence_id_of(request: Request) -> int:
     """The sequence id of the owner that the operation is judged by."""
     if request.opnum != Opnum.LOCK:
         return request.arguments.seqid
@@ -199,24 +202,24 @@ def sequence_id_of(request):
     return locker.open_seqid if is_first_lock(request) else locker.lock_seqid
 
 
-def replay(kept, seqid, request):
+def replay(kept: Kept, seqid: int, request: Request) -> Result | None:
     """The kept answer to a retransmission of the kept request, or None (section 9.1.8)."""
     return kept.answer if (kept.seqid, kept.request) == (seqid, request) else None
 
 
-def closed_by(kept, stateid):
+def closed_by(kept: Kept, stateid: Stateid) -> bool:
     """Whether the kept request closed the open that the stateid names."""
     if kept.request.opnum != Opnum.CLOSE or kept.answer.status != Status.OK:
         return False
     return kept.request.arguments.stateid[1:] == stateid[1:]
 
 
-def expect_filehandle(filehandle):
+def expect_filehandle(filehandle: int | None) -> None:
     if filehandle is None:
         raise Refusal(Status.NOFILEHANDLE)
 
 
-def expect_seqid(stateid, found):
+def expect_seqid(stateid: Stateid, found: Delegation | LockState | OpenState) -> None:
     """The stateid's seqid is that of the state (section 9.1.4.2)."""
     if stateid.seqid < found.seqid:
         raise Refusal(Status.OLD_STATEID)
@@ -224,7 +227,7 @@ def expect_seqid(stateid, found):
         raise Refusal(Status.BAD_STATEID)
 
 
-def expect_range(arguments):
+def expect_range(arguments: Lock | Lockt | Locku) -> tuple[int, int]:
     """The first and the last byte of the range that is named."""
     found = range_of(arguments.offset, arguments.length)
     if found is None:
@@ -232,27 +235,27 @@ def expect_range(arguments):
     return found
 
 
-def expect_runs(ranges):
+def expect_runs(ranges: Ranges) -> Ranges:
     if ranges.runs() > RUNS_LIMIT:
         raise Refusal(Status.RESOURCE)
     return ranges
 
 
-def mode_of(locktype):
+def mode_of(locktype: int) -> int:
     """A lock that the client would wait for is as one that it wouldn't (section 9.6): no waiter is kept."""
     return READ_MODE if locktype in (READ_LT, READW_LT) else WRITE_MODE
 
 
-def expect_share(share):
+def expect_share(share: tuple[int, int]) -> None:
     """An access of READ, WRITE or both, and a deny of no more than both (section 9.9)."""
     if not (READ <= share[0] <= BOTH and share[1] <= BOTH):
         raise Refusal(Status.INVAL)
 
 
-def handle_of(node):
+def handle_of(node: int) -> bytes:
     return HANDLE_HEAD + u32(node)
 
 
-def slot_of(number):
+def slot_of(number: int) -> int:
     """The slot of a client's number."""
     return number % SLOTS

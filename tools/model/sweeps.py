@@ -3,7 +3,7 @@ the leases of clients, the delegations that aren't given back, and the open owne
 entry of the journal, or Unchanged. Sections are those of RFC 7530."""
 from dataclasses import dataclass
 
-from states import DOWN, FULL, NOT_DUE, NOT_LIVE, UP, Unchanged
+from model.states import DOWN, FULL, NOT_DUE, NOT_LIVE, Owner, UP, Unchanged
 
 
 @dataclass(frozen=True)
@@ -22,7 +22,7 @@ class Swept:
 class Sweeping:
     """What ends since its time is over."""
 
-    def sweep(self, now):
+    def sweep(self, now: int) -> Swept:
         """Removes the clients whose leases are over, in the order of their numbers: more seconds than the lease have
         passed since the last renewal. Then it takes the delegations that are due, and forgets the owners that are."""
         due = sorted(number for number, moment in self.renewals.items() if moment + self.lease < now)
@@ -44,21 +44,21 @@ class Sweeping:
             return Swept(expired, kept, len(due) - expired, revoked, forgotten, True)
         return Swept(expired, kept, len(due) - expired, revoked, forgotten)
 
-    def expect_live(self, number):
+    def expect_live(self, number: int) -> None:
         if not self.is_live(number):
             raise Unchanged(NOT_LIVE)
 
-    def expect_entry(self):
+    def expect_entry(self) -> None:
         """The journal has room for one more."""
         if self.entries >= self.journal_limit:
             raise Unchanged(FULL)
 
-    def enter(self):
+    def enter(self) -> int:
         """Makes the entry of a change that was made: its number."""
         self.entries += 1
         return self.entries - 1
 
-    def expire(self, number, seen, now):
+    def expire(self, number: int, seen: int, now: int) -> int:
         """Removes a client whose lease was renewed last at the moment that was seen (section 9.5)."""
         self.expect_live(number)
         if seen + self.lease >= now:
@@ -67,7 +67,7 @@ class Sweeping:
         self.remove_client(number)
         return self.enter()
 
-    def mark_path(self, number, is_up):
+    def mark_path(self, number: int, is_up: int) -> int:
         """Says that a client can be called back, or that it can't."""
         self.expect_live(number)
         self.expect_entry()
@@ -77,19 +77,19 @@ class Sweeping:
     # Open owners without opens (section 9.1.10). How long they are known is the server's choice: a lease after the last
     # request that counted. One that comes again for its kept answer doesn't count.
 
-    def idle(self, now):
+    def idle(self, now: int) -> list[Owner]:
         """The open owners that may be forgotten, in the order in which they became known."""
         opening = {it.owner for it in self.opens}
         found = [owner for owner in self.open_owners.values()
                  if owner.name not in opening and owner.kept.moment + self.lease < now]
         return sorted(found, key=lambda owner: owner.recorded)
 
-    def forget(self, now):
+    def forget(self, now: int) -> int | None:
         """Forgets the owner that is due: the number of the entry, or None where none is due; or Unchanged."""
         found = self.idle(now)[:1]
         return self.forget_owner(found[0], now) if found else None
 
-    def forget_owner(self, owner, _now):
+    def forget_owner(self, owner: Owner, _now: int) -> int:
         """The owner is as one that never came."""
         self.expect_entry()
         del self.open_owners[owner.name]

@@ -1,12 +1,15 @@
 """What a server is asked and answers, a line a call, in the words in which `tools/show_journal` shows a journal: with
 all operations, also those that make no entry."""
+from collections.abc import Set
 from dataclasses import dataclass, field
+from typing import Any
 
-import wire
-from entries import Answer
-from journal import Recorder
-from wire import Opnum, Status
-from words import STATUS_NAMES, answer_words, line_of, principal_words, words_read
+from model.entries import Answer
+from model.journal import Recorder
+from model.states import Result
+from model.words import STATUS_NAMES, answer_words, line_of, principal_words, words_read
+from nfs4 import wire
+from nfs4.wire import CompoundCall, Opnum
 
 OPERATION_NAMES = {**{int(it): it.name for it in Opnum}, **{it: name for name, it in wire.OTHER_OPERATIONS.items()}}
 ACCEPTED_NAMES = {wire.PROG_UNAVAIL: "PROG_UNAVAIL", wire.PROG_MISMATCH: "PROG_MISMATCH",
@@ -19,29 +22,36 @@ LETTERS = 1000
 @dataclass
 class Tracer(Recorder):
     """A server that keeps its journal, and the words of the operations of the call before."""
-    steps: list = field(default_factory=list)
+    steps: list[str] = field(default_factory=list)
 
-    def run_compound(self, call, refused):
+    def run_compound(self, call: CompoundCall, refused: Set[int]) -> bytes:
         self.steps = []
         return super().run_compound(call, refused)
 
-    def run_next(self, call, handles, room, is_refused):
+    def run_next(self, call: CompoundCall, handles: Any, room: int, is_refused: bool) -> tuple[int, Result]:
         begin = call.operations.at
         number, result = super().run_next(call, handles, room, is_refused)
         self.steps.append(step_words(number, call.operations.data[begin + 4:call.operations.at], result))
         return number, result
 
 
-def step_words(number, arguments, result):
+def step_words(number: int, arguments: bytes, result: Result) -> str:
     """An operation and its answer. The arguments are shown where they were read."""
-    is_read = number in wire.ARGUMENTS and result.status != Status.BADXDR
-    shown = " ".join([OPERATION_NAMES[number]] + (words_read(wire.ARGUMENTS[number], arguments) if is_read else []))
+    shown = " ".join([OPERATION_NAMES[number]] + argument_words(number, arguments))
     if len(shown) > LETTERS:
         shown = f"{shown[:LETTERS]} .."
     return f"{shown} -> {answer_words(Answer(number, result.status, result.rest)).partition(' ')[2]}"
 
 
-def call_line(server, record, reply):
+def argument_words(number: int, arguments: bytes) -> list[str]:
+    """The words of arguments that can be read, and were; or none."""
+    try:
+        return words_read(wire.ARGUMENTS[number], arguments)
+    except (KeyError, wire.Unreadable):
+        return []
+
+
+def call_line(server: Tracer, record: bytes, reply: bytes | None) -> str:
     """The call of a record that the server has just answered so."""
     if reply is None:
         return f"moment {server.moment}: {len(record)} bytes -> no reply"
@@ -51,22 +61,21 @@ def call_line(server, record, reply):
     return f"{head}, {principal_words(call.principal)}: {compound_words(server, call, reply)}"
 
 
-def compound_words(server, call, reply):
+def compound_words(server: Tracer, call: CompoundCall, reply: bytes) -> str:
     if server.steps:
         return "; ".join(server.steps)
     # None was run: there are too many of them, or none, or it is of another minor version.
     return f"COMPOUND of {call.count} operations -> {STATUS_NAMES[int.from_bytes(reply[24:28], 'big')]}"
 
 
-def plain_words(reply):
+def plain_words(reply: bytes) -> str:
     """A call whose answer shows that it is NULL, or else why it isn't taken."""
-    is_denied, number = reply[11] == wire.MSG_DENIED, int.from_bytes(reply[-4:], "big")
-    if is_denied:
+    if reply[11] == wire.MSG_DENIED:
         return f"a call -> {DENIED_NAMES[int.from_bytes(reply[12:16], 'big')]}"
     state = int.from_bytes(reply[20:24], "big")
     return "NULL -> answered" if state == wire.SUCCESS else f"a call -> {ACCEPTED_NAMES[state]}"
 
 
-def entry_line(server, entry):
+def entry_line(server: Any, entry: Any) -> Any:
     """An entry that no call brought."""
     return line_of(entry, server.tree)

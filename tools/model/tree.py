@@ -1,6 +1,7 @@
 """The server's files: a TOML document, and the nodes that it makes."""
 import tomllib
 from collections import namedtuple
+from typing import Any
 
 FILES = DIRECTORIES = 64
 TEXT_LIMIT, NAME_LIMIT, DEPTH = 65536, 255, 8
@@ -19,10 +20,14 @@ path = "d/c"
 Node = namedtuple("Node", "parent name is_file text")
 ROOT = Node(None, b"", False, b"")
 
-# Which delegations may be given, whether a client's callback path is tried first, and what a CLOSE does where bytes are
-# locked, free them or refuse: words of the document.
-Policy = namedtuple("Policy", "delegations callbacks close_locks")
+# Which delegations may be given, whether a client's callback path is tried first, what a CLOSE does where bytes are
+# locked, free them or refuse, and whether there is also what the programs of real clients ask for: words of the
+# document.
 DELEGATIONS, CALLBACKS, CLOSE_LOCKS = ("none", "read", "all"), ("probe", "assume"), ("free", "refuse")
+PLAIN, CLIENTS = PROFILES = "plain", "clients"
+Policy = namedtuple("Policy", "delegations callbacks close_locks profile", defaults=[PLAIN])
+# What the document says where it has no word.
+USUAL = Policy("all", "probe", "free")
 
 
 class Refused(Exception):
@@ -32,33 +37,37 @@ class Refused(Exception):
 class Tree:
     """Nodes by their numbers, from the root, which is 0; and the policy."""
 
-    def __init__(self, document=DEFAULT):
+    def __init__(self, document: str = DEFAULT) -> None:
         self.policy, directories, files = read_document(document)
         self.nodes = [ROOT]
         self.add_all(directories, files)
 
-    def add_all(self, directories, files):
+    def add_all(self, directories: list[Any], files: list[tuple[str, bytes]]) -> None:
         for path in directories:
             self.add_directory(path)
         for path, text in files:
             self.add_file(path, text)
 
-    def child(self, directory, name):
+    def child(self, directory: int, name: bytes) -> int | None:
         """The number of the child of this name, or None."""
         for number, node in enumerate(self.nodes):
             if node.parent == directory and node.name == name:
                 return number
         return None
 
-    def is_file(self, number):
+    def children(self, directory: int) -> list[int]:
+        """Their numbers, which rise."""
+        return [number for number, node in enumerate(self.nodes) if node.parent == directory]
+
+    def is_file(self, number: int) -> bool:
         return self.nodes[number].is_file
 
-    def add_directory(self, path):
+    def add_directory(self, path: str) -> None:
         names = split_path(path)
         self.make_room(names)
         self.walk(names)
 
-    def add_file(self, path, text):
+    def add_file(self, path: str, text: bytes) -> None:
         names = split_path(path)
         if len(text) > TEXT_LIMIT or sum(node.is_file for node in self.nodes) == FILES:
             raise Refused(TOO_MANY)
@@ -68,16 +77,17 @@ class Tree:
             raise Refused(DUPLICATE)
         self.nodes.append(Node(parent, names[-1], True, text))
 
-    def make_room(self, names):
+    def make_room(self, names: list[bytes]) -> None:
         """Counts the directories that the path would need, from the names that are missing."""
-        at, missing = 0, 0
+        at: int | None = 0
+        missing = 0
         for name in names:
             at = None if at is None else self.child(at, name)
             missing += at is None
         if sum(not node.is_file for node in self.nodes) - 1 + missing > DIRECTORIES:
             raise Refused(TOO_MANY)
 
-    def walk(self, names):
+    def walk(self, names: list[bytes]) -> int:
         """The directory of this path, which is made where it is missing."""
         at = 0
         for name in names:
@@ -91,7 +101,7 @@ class Tree:
         return at
 
 
-def tree_of(nodes, policy):
+def tree_of(nodes: list[Node], policy: Policy) -> Tree:
     """The tree with these nodes beside the root, which some document has to give.
 
     One that gives them can name each directory before the first file, and each file, and nothing else: so these paths
@@ -109,9 +119,9 @@ def tree_of(nodes, policy):
     return tree
 
 
-def path_texts(nodes):
+def path_texts(nodes: list[Node]) -> list[str]:
     """The path of each node beside the root; a parent has to come before its children."""
-    paths = [None]
+    paths = [""]
     for node in nodes:
         if not node.parent < len(paths) or not is_text(node.name):
             raise Refused(SYNTAX)
@@ -120,7 +130,7 @@ def path_texts(nodes):
     return paths[1:]
 
 
-def is_text(value):
+def is_text(value: bytes) -> bool:
     """A document is UTF-8, and so is each of its names and texts."""
     try:
         value.decode()
@@ -129,18 +139,18 @@ def is_text(value):
     return True
 
 
-def split_path(path):
+def split_path(path: str) -> list[bytes]:
     names = path.encode().split(b"/")
     if len(names) > DEPTH or not all(is_name(name) for name in names):
         raise Refused(NAME)
     return names
 
 
-def is_name(name):
+def is_name(name: bytes) -> bool:
     return 1 <= len(name) <= NAME_LIMIT and b"\0" not in name and name not in (b".", b"..")
 
 
-def read_document(text):
+def read_document(text: str) -> tuple[Policy, list[Any], list[tuple[str, bytes]]]:
     """The policy, the paths of the directories, and the paths and texts of the files."""
     try:
         document = tomllib.loads(text)
@@ -149,8 +159,8 @@ def read_document(text):
     expect_keys(document, "directory", "file", "policy")
     table = document.get("policy", {})
     expect_keys(table, *Policy._fields)
-    policy = Policy(table.get("delegations", "all"), table.get("callbacks", "probe"), table.get("close_locks", "free"))
-    if not all(word in words for word, words in zip(policy, (DELEGATIONS, CALLBACKS, CLOSE_LOCKS))):
+    policy = USUAL._replace(**table)
+    if not all(word in words for word, words in zip(policy, (DELEGATIONS, CALLBACKS, CLOSE_LOCKS, PROFILES))):
         raise Refused(SYNTAX)
     directories = [text_of(table, "path") for table in tables(document, "directory", "path")]
     files = [(text_of(table, "path"), text_of(table, "text", "").encode())
@@ -158,7 +168,7 @@ def read_document(text):
     return policy, directories, files
 
 
-def tables(document, key, *allowed):
+def tables(document: dict[str, Any], key: str, *allowed: str) -> list[dict[str, str]]:
     found = document.get(key, [])
     if not isinstance(found, list):
         raise Refused(SYNTAX)
@@ -167,12 +177,12 @@ def tables(document, key, *allowed):
     return found
 
 
-def expect_keys(table, *allowed):
+def expect_keys(table: dict[str, Any], *allowed: str) -> None:
     if not isinstance(table, dict) or not set(table) <= set(allowed):
         raise Refused(SYNTAX)
 
 
-def text_of(table, key, default=None):
+def text_of(table: dict[str, str], key: str, default: str | None = None) -> str:
     value = table.get(key, default)
     if not isinstance(value, str):
         raise Refused(SYNTAX)

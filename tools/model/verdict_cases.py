@@ -1,12 +1,13 @@
 """Journals with what is said of each, for check_journals.py: entries that may come next, and entries that can't follow
 those before them; of this version of the file, and of the one before."""
-import wire
-from entries import Answer, Call, Expire, Forget, MOMENT_LIMIT, Path, Revoke
-from journal import EARLIER, Recorder, journal_bytes
-from journal_cases import (CALLBACK, FILE, NOBODY, NOTHING, NOT_JOURNAL, OPENED, SOMEBODY, ask_for_number, close_by_a,
-                           confirm, earlier, file_of, give_back, holding, idle, introduce, journal_of, lent, small)
-from tree import Tree
-from wire import OpenOwner, Opnum, Status, opaque, u32, u64
+from model.entries import Answer, Call, Expire, Forget, MOMENT_LIMIT, Path, Revoke
+from model.journal import EARLIER, Recorder, journal_bytes
+from model.journal_cases import (CALLBACK, FILE, NOBODY, NOTHING, NOT_JOURNAL, OPENED, SOMEBODY, ask_for_number,
+                                 close_by_a, confirm, earlier, file_of, give_back, holding, idle, introduce, journal_of,
+                                 lent, listed_and_set, small)
+from model.tree import Tree
+from nfs4 import wire
+from nfs4.wire import OpenOwner, Opnum, Status, opaque, u32, u64
 
 LAST = 2**32 - 1
 
@@ -42,6 +43,7 @@ def verdicts():
     yield from verdicts_on_locks_held()
     yield from verdicts_on_the_earlier_version()
     yield from verdicts_on_numbers()
+    yield from verdicts_for_clients()
     yield "moments that go down", file_of([entries[0]._replace(moment=5), *entries[1:]]), "lawful: 3 entries"
     yield "the last moment of a call", file_of([entries[0]._replace(moment=MOMENT_LIMIT - 1)]), "lawful: 1 entries"
     yield "another principal", file_of([entries[0], entries[1]._replace(principal=SOMEBODY)]), wrong(1)
@@ -189,6 +191,60 @@ def verdicts_on_the_earlier_version():
     for name, entry, said in (("frees", freed, "lawful: 6 entries"), ("is refused", refused, wrong(5))):
         data = journal_bytes(held._replace(entries=[*held.entries, entry]))
         yield f"a CLOSE beside locks that {name} in the earlier version", data, said
+
+
+def verdicts_for_clients():
+    """Listings and sizes that are set, under the profile "clients"; and what the profile is in entries of both."""
+    journal = listed_and_set()
+    yield "a listing, and what is set", journal_bytes(journal), "lawful: 4 entries"
+    for head in (b"NFSJRN03", b"NFSJRC01", b"NFSJRC02"):
+        yield f"the same behind {head.decode()}", head + journal_bytes(journal)[8:], NOT_JOURNAL
+    listing, attributes, cut, mode = journal.entries
+
+    def said_of(*entries):
+        return journal_bytes(journal._replace(entries=list(entries)))
+
+    read = Call(0, NOBODY, FILE, Opnum.READ, wire.Read(NOTHING, 0, 9), Answer(Opnum.READ, Status.OK, u32(1, 0)))
+    changes = Call(0, NOBODY, FILE, Opnum.GETATTR, wire.Getattr((24,)), Answer(Opnum.GETATTR, Status.OK, b""))
+    yield "what is read behind a cut", said_of(cut, read), "lawful: 2 entries"
+    yield "what is read before it", said_of(read, cut), wrong(0)
+    yield "what is read as before it", said_of(cut, with_rest(read, u32(1) + opaque(b"hello"))), wrong(1)
+    lawful = "lawful: 2 entries"
+    for name, change, size, said in (("its size and change", 1, 0, lawful), ("its old size", 1, 5, wrong(1)),
+                                     ("its old change", 0, 0, wrong(1))):
+        told = with_rest(changes, u32(1, 24) + opaque(u64(change) + u64(size)))
+        yield f"{name} behind a cut", said_of(cut, told), said
+    longer = cut._replace(arguments=cut.arguments._replace(attributes=((16,), u64(9))))
+    for name, data, said in (("zeros", bytes(9), "lawful: 3 entries"),
+                             ("the old bytes", b"hello" + bytes(4), wrong(2))):
+        again = with_rest(read, u32(1) + opaque(data))
+        yield f"{name} where it is longer again", said_of(cut, longer, again), said
+    for name, rest in (("nothing set", u32(0)), ("a zero word more", u32(2, 16, 0)), ("another bit", u32(1, 8))):
+        yield f"a size, and {name}", said_of(with_rest(cut, rest)), wrong(0)
+    yield "a mode that is refused, and set", said_of(with_rest(mode, u32(2, 0, 2))), wrong(0)
+    for status in (Status.NOTSUPP, Status.OK, Status.ATTRNOTSUPP):
+        other = mode._replace(answer=mode.answer._replace(status=status))
+        yield f"a mode with {status.name}", said_of(other), wrong(0)
+    rest = listing.answer.rest
+    for name, other in (("without its entry", bytes(8) + u32(0, 1)),
+                        ("without its entry, not at its end", bytes(8) + u32(0, 0)),
+                        ("not at its end", rest[:-4] + u32(0)), ("with another verifier", b"verifier" + rest[8:]),
+                        ("with its entry twice", rest[:-8] + rest[8:]),
+                        ("with the directory's number", rest.replace(u64(6), u64(5), 1)),
+                        ("with another name", rest.replace(opaque(b"c"), opaque(b"d"), 1))):
+        yield f"a listing {name}", said_of(with_rest(listing, other)), wrong(0)
+    small_room = listing._replace(arguments=listing.arguments._replace(maxcount=55))
+    yield "a listing that has no room", said_of(small_room), wrong(0)
+    refused = small_room._replace(answer=Answer(Opnum.READDIR, Status.TOOSMALL, b""))
+    yield "its refusal", said_of(refused), "lawful: 1 entries"
+    yield "its refusal where there is room", said_of(refused._replace(arguments=listing.arguments)), wrong(0)
+    yield "what can only be set, under the other profile", file_of([attributes]), wrong(0)
+    left_out = with_rest(attributes, u32(0, 0))._replace(answer=Answer(Opnum.GETATTR, Status.OK, u32(0, 0)))
+    yield "the same, left out", file_of([left_out]), "lawful: 1 entries"
+    yield 'the same, left out under "clients"', said_of(left_out), wrong(0)
+    for number in (6, 11, 28, 29):
+        other = attributes._replace(answer=Answer(number, Status.ROFS, b""))
+        yield f"an answer to {number}", said_of(other), wrong(0)
 
 
 def verdicts_on_numbers():

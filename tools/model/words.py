@@ -1,10 +1,12 @@
 """Entries of a journal as text, with operations and answers in the words of rows (crates/rows/README.md). Of the bytes
 of files that READ and WRITE bring only the first are shown, where there are many, unless they are wanted whole."""
-import rows
-import wire
-from entries import ARGUMENT_BYTES, Call, Expire, Forget, RESTS, Revoke, delegation_given
-from states import SLOTS, slot_of
-from wire import OPEN_DELEGATE_WRITE, OpenOwner, Opnum, Status, opaque
+from collections.abc import Callable
+from typing import Any
+
+from model.entries import ARGUMENT_BYTES, Answer, Call, Expire, Forget, RESTS, Revoke, delegation_given
+from model.states import SLOTS, slot_of
+from nfs4 import rows, wire
+from nfs4.wire import OPEN_DELEGATE_WRITE, OpenOwner, Opnum, Status, opaque
 
 STATUS_NAMES = {number: name for name, number in rows.NAMES.items() if name.startswith(("NFS4_OK", "NFS4ERR_"))}
 FLAVOR_NAMES = {wire.AUTH_NONE: "AUTH_NONE", wire.AUTH_SYS: "AUTH_SYS"}
@@ -17,43 +19,44 @@ SHOWN = 64
 class WordReader(wire.Reader):
     """Takes values, and has the words of all that it took; of a file's bytes those of all, or of the first."""
 
-    def __init__(self, data, is_whole=False):
+    def __init__(self, data: bytes, is_whole: bool = False) -> None:
         super().__init__(data)
-        self.words, self.is_whole = [], is_whole
+        self.words: list[str] = []
+        self.is_whole = is_whole
 
-    def taken(self, words_of, take, *limits):
+    def taken(self, words_of: Callable[..., Any], take: Callable[..., Any], *limits: int) -> Any:
         """Takes a value, and puts its words in place of those of its parts."""
         begin = len(self.words)
         value = take(*limits)
         self.words[begin:] = words_of(value)
         return value
 
-    def fixed(self, count):
+    def fixed(self, count: int) -> bytes:
         return self.taken(lambda value: [f"hex:{value.hex()}"], super().fixed, count)
 
-    def u32(self):
+    def u32(self) -> int:
         return self.taken(lambda value: [number_word(value)], super().u32)
 
-    def u64(self):
+    def u64(self) -> int:
         return self.taken(lambda value: [f"u64:{value}"], super().u64)
 
-    def opaque(self, limit=2**32 - 1):
+    def opaque(self, limit: int = 2**32 - 1) -> bytes:
         return self.taken(opaque_words, super().opaque, limit)
 
-    def file_bytes(self):
+    def file_bytes(self) -> bytes:
         words_of = opaque_words if self.is_whole else shortened_words
         return self.taken(words_of, super().opaque)
 
-    def fixed_words(self, *words):
+    def fixed_words(self, *words: int) -> None:
         for _ in words:
             self.u32()
 
 
-def number_word(value):
+def number_word(value: int) -> str:
     return str(value) if value <= DECIMAL_LIMIT else f"0x{value:08x}"
 
 
-def opaque_words(value):
+def opaque_words(value: bytes) -> list[str]:
     """A text, or the length and what follows it in fours."""
     if is_shown_as_text(value):
         return [f'"{value.decode()}"']
@@ -61,7 +64,7 @@ def opaque_words(value):
     return [number_word(len(value))] + [f"0x{data[at:at + 4].hex()}" for at in range(4, len(data), 4)]
 
 
-def shortened_words(value):
+def shortened_words(value: bytes) -> list[str]:
     """The same; of many bytes the first, and how many there are."""
     if len(value) <= SHOWN:
         return opaque_words(value)
@@ -69,7 +72,7 @@ def shortened_words(value):
     return [f'"{first.decode()}"' if is_shown_as_text(first) else f"hex:{first.hex()}", "..", f"({len(value)} bytes)"]
 
 
-def is_shown_as_text(value):
+def is_shown_as_text(value: bytes) -> bool:
     try:
         text = value.decode()
     except UnicodeDecodeError:
@@ -77,35 +80,36 @@ def is_shown_as_text(value):
     return text.isprintable() and '"' not in text
 
 
-def words_read(read, data, is_whole=False):
+def words_read(read: Callable[..., Any], data: bytes, is_whole: bool = False) -> list[str]:
     """The words of what is read of these bytes, which are read to their end."""
     reader = WordReader(data, is_whole)
     read(reader)
     return reader.words
 
 
-def operation_words(call, is_whole=False):
+def operation_words(call: Call, is_whole: bool = False) -> str:
     data = ARGUMENT_BYTES[call.opnum](call.arguments)
     return " ".join([call.opnum.name] + words_read(wire.ARGUMENTS[call.opnum], data, is_whole))
 
 
-def answer_words(answer, is_whole=False):
+def answer_words(answer: Answer, is_whole: bool = False) -> str:
     name = Opnum(answer.number).name if answer.number in set(Opnum) else str(answer.number)
     read = RESTS.get((answer.number, answer.status))
     rest = words_read(read, answer.rest, is_whole) if read else []
     return " ".join([name, STATUS_NAMES[answer.status]] + rest)
 
 
-def principal_words(principal):
+def principal_words(principal: tuple[int, int]) -> str:
     flavor, uid = principal
     return FLAVOR_NAMES[flavor] + (f" {uid}" if flavor == wire.AUTH_SYS else "")
 
 
-def place_words(node, tree):
+def place_words(node: int | None, tree: Any) -> str:
     """The current filehandle, by the path from the root."""
     if node is None:
         return "no file"
-    names, at = [], node
+    names: list[bytes] = []
+    at = node
     while at != 0:
         names.insert(0, tree.nodes[at].name)
         at = tree.nodes[at].parent
@@ -113,7 +117,7 @@ def place_words(node, tree):
     return " ".join([kind] + opaque_words(b"/" + b"/".join(names)))
 
 
-def line_of(entry, tree, is_whole=False):
+def line_of(entry: Call | Expire, tree: Any, is_whole: bool = False) -> str:
     """An entry as a line."""
     if isinstance(entry, Call):
         head = f"moment {entry.moment}, {principal_words(entry.principal)}, {place_words(entry.filehandle, tree)}"
@@ -128,32 +132,32 @@ def line_of(entry, tree, is_whole=False):
     return f"the path of {client_words(entry.client)} is marked {'up' if entry.is_up else 'down'}"
 
 
-def client_words(number):
+def client_words(number: int) -> str:
     """A client by its number; and where its slot was given before, which one in the slot it is."""
     slot, which = slot_of(number), number // SLOTS + 1
     return f"client {number}" + (f" (slot {slot}, {ordinal(which)})" if slot and which > 1 else "")
 
 
-def owner_words(owner):
+def owner_words(owner: OpenOwner) -> str:
     kind = "open" if isinstance(owner, OpenOwner) else "lock"
     return f"{kind} owner {name_words(owner.name)} of {client_words(owner.client)}"
 
 
-def name_words(name):
+def name_words(name: bytes) -> str:
     return " ".join(opaque_words(name))
 
 
-def ordinal(number):
+def ordinal(number: int) -> Any:
     ending = "th" if number // 10 % 10 == 1 else {1: "st", 2: "nd", 3: "rd"}.get(number % 10, "th")
     return {2: "second", 3: "third"}.get(number, f"{number}{ending}")
 
 
-def purpose_of(kind):
+def purpose_of(kind: int) -> str:
     """What a delegation is for."""
     return "writing" if kind == OPEN_DELEGATE_WRITE else "reading"
 
 
-def remark_on(call):
+def remark_on(call: Call) -> str:
     """What is easily overlooked in the words of a call, as a comment behind them, or nothing: what it does about
     delegations; and that a client is the next one in its slot."""
     given = delegation_given(call)

@@ -3,7 +3,8 @@
 ghost use Rattle.std.specs.Prelude.{◌<◌, [], IfSome, IsTrue};
 ghost use Rattle.nfs_shared.specs.Ends.{AreFresh, IsKept};
 ghost use Rattle.nfs_shared.specs.Naming.{CanBegin};
-ghost use Rattle.nfs_xdr.specs.Op.{has_entry};
+ghost use Rattle.nfs_tree.specs.Profiles.{has_entry};
+ghost use Rattle.nfs_tree.specs.declared.profile.Profile.{Profile};
 
 use nfs_core::{Core, Moment, Seeds};
 use nfs_operations::release_lockowner::ReleaseLockowner;
@@ -220,7 +221,7 @@ fn come<S: Service>(alloc: Global, desk: &mut S, moment: Moment) -> Option<Clien
 
 // What is answered to an operation at this moment, in a batch, as a connection asks; none where memory was refused.
 fn ask<S: Service>(desk: &mut S, moment: Moment, op: Op) -> Option<OpResult>
-    requires entry { IsTrue (has_entry op) }
+    requires entry { (profile : Profile) → IsTrue (has_entry profile op) }
 {
     desk.room(1).ok()?;
     desk.begin_batch();
@@ -236,7 +237,7 @@ fn ask<S: Service>(desk: &mut S, moment: Moment, op: Op) -> Option<OpResult>
 
 // SETCLIENTID.
 fn introduction(alloc: Global) -> Option<Op>
-    ensures { IfSome result (λ op. IsTrue (has_entry op)) }
+    ensures { IfSome result (λ op. (profile : Profile) → IsTrue (has_entry profile op)) }
 {
     let address = Address {
         netid: Bytes::copy_of(alloc, b"tcp").ok()?,
@@ -255,7 +256,7 @@ fn introduction(alloc: Global) -> Option<Op>
 
 // RELEASE_LOCKOWNER of an owner of the client.
 fn release_of(alloc: Global, client: ClientId) -> Option<Op>
-    ensures { IfSome result (λ op. IsTrue (has_entry op)) }
+    ensures { IfSome result (λ op. (profile : Profile) → IsTrue (has_entry profile op)) }
 {
     let name = Opaque::copy_of(alloc, b"owner").ok()?;
     Some(Op::ReleaseLockowner(ReleaseLockowner {

@@ -3,7 +3,7 @@ use Rattle.std.proofs.Common.{◌≡◌, inl, inr, ℕ, Bool, true, false, Optio
 use Rattle.std.specs.Prelude.{⊤, ◌&&◌, ◌==◌, is_some, not, IfSome, option_and_then, option_map, if◌then◌else◌}
 use Rattle.std.specs.List.{AllByRecursion, list_any}
 use Rattle.std.proofs.lemmas.Bool.{and_parts, cond-false, cond_both, eq-eqb, eqb-true, false_from_ne_true}
-use Rattle.nfs_core.proofs.Transferring.{each_read, each_write}
+use Rattle.nfs_core.proofs.Transferring.{each_read, each_setattr, each_write}
 use Rattle.nfs_core.proofs.SafeLists.{all_always, all_find, found_some}
 use Rattle.nfs_core.proofs.Sound.{equal_clients, same_client_self}
 use Rattle.nfs_core.proofs.SoundClients.{EachRecord, HasSameId, HasSingles}
@@ -379,4 +379,8 @@ ruled_for journal state (ops.Read args) request d singles is =
 ruled_for journal state (ops.Write args) request d singles is =
     decided_for journal.epoch state.clients (ops.Write args) d _ is
     (each_write (λ e. IsFor journal.epoch state.clients (ops.Write args) e.effect.change) journal state request args (λ refusal. tt) (λ node. tt) tt (λ node short. tt))
+ruled_for journal state (ops.Readdir args) request d singles is = decided_for journal.epoch state.clients (ops.Readdir args) d _ is tt
+ruled_for journal state (ops.Setattr args) request d singles is =
+    decided_for journal.epoch state.clients (ops.Setattr args) d _ is
+    (each_setattr (λ e. IsFor journal.epoch state.clients (ops.Setattr args) e.effect.change) journal state request args (λ refusal. tt) (λ node. tt) (λ asked. tt) (λ asked node size short. tt))
 ruled_for journal state op request d singles is = absurd cc

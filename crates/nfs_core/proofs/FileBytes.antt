@@ -16,7 +16,7 @@ use Rattle.nfs_core.specs.Step.{Step}
 use Rattle.nfs_owners.specs.declared.clients.client_change.ClientChange.TheVariants as client_changes
 use Rattle.nfs_state.specs.Changes.{with_owner_change, with_state_change}
 use Rattle.nfs_state.specs.Entries.{with_entry}
-use Rattle.nfs_state.specs.Files.{FileState, after_write, with_bytes, written}
+use Rattle.nfs_state.specs.Files.{FileState, after_cut, after_write, with_bytes, with_size, written}
 use Rattle.nfs_state.specs.State.{State, History, empty_server, files_below, initial_file}
 use Rattle.nfs_state.specs.declared.change.Change.{Change}
 use Rattle.nfs_state.specs.declared.change.Change.TheVariants as changes
@@ -46,10 +46,20 @@ few_written node offset (b ∷ block) files short h =
     all_map few few (λ f. if f.node == node then after_write offset (b ∷ block) f else f)
     (λ f k. cond_both (f.node == node) (after_write offset (b ∷ block) f) f few (λ _. few_in offset (b ∷ block) f.bytes short k) (λ _. k)) files h
 
+-- a size within the limit that is set
+
+few_cut : (node size : ℕ) (files : List FileState) → size ≤ TEXT_LIMIT → HaveFewBytes files → HaveFewBytes (with_size node size files)
+few_cut node size files short h =
+    let few = λ (f : FileState). length f.bytes ≤ TEXT_LIMIT in
+    all_map few few (λ f. if f.node == node then after_cut size f else f)
+    (λ f k. cond_both (f.node == node) (after_cut size f) f few
+    (λ _. omega (arith, length-take size (f.bytes ++ replicate size 0), min-le_left size (length (f.bytes ++ replicate size 0)), short)) (λ _. k)) files h
+
 -- nothing else of an entry comes into a file
 
 few_after : (change : Change) (old : State) → IsChangeReady change old → HaveFewBytes old.files → HaveFewBytes (with_state_change change old).files
 few_after (changes.Writes node offset bytes) old ready h = few_written node offset bytes old.files ready h
+few_after (changes.Cuts node size) old ready h = few_cut node size old.files ready h
 few_after (changes.Clients (client_changes.Replaces r client)) old ready h = h
 few_after (changes.Clients change) old ready h = h
 few_after (changes.Opens node owner share None) old ready h = h

@@ -9,7 +9,7 @@ use Rattle.nfs_core.specs.Step.{Step}
 use Rattle.nfs_owners.specs.declared.clients.client_change.ClientChange.TheVariants as client_changes
 use Rattle.nfs_state.specs.Changes.{with_owner_change, with_state_change}
 use Rattle.nfs_state.specs.Entries.{with_entry}
-use Rattle.nfs_state.specs.Files.{CanChange, FileState, after_write, with_bytes}
+use Rattle.nfs_state.specs.Files.{CanChange, FileState, after_cut, after_write, with_bytes, with_size}
 use Rattle.nfs_state.specs.State.{State, History, empty_server, files_below, initial_file}
 use Rattle.nfs_state.specs.declared.change.Change.{Change}
 use Rattle.nfs_state.specs.declared.change.Change.TheVariants as changes
@@ -31,8 +31,15 @@ few_written n node offset (b ∷ block) files h =
     (λ f k. cond_both (f.node == node) (after_write offset (b ∷ block) f) f (λ (g : FileState). g.change ≤ n + 1) (λ _. omega (arith, k)) (λ _. omega (arith, k)))
     files h
 
+few_cut : (n node size : ℕ) (files : List FileState) → HaveFewChanges n files → HaveFewChanges (n + 1) (with_size node size files)
+few_cut n node size files h =
+    all_map (λ (f : FileState). f.change ≤ n) (λ f. f.change ≤ n + 1) (λ f. if f.node == node then after_cut size f else f)
+    (λ f k. cond_both (f.node == node) (after_cut size f) f (λ (g : FileState). g.change ≤ n + 1) (λ _. omega (arith, k)) (λ _. omega (arith, k)))
+    files h
+
 few_after : (n : ℕ) (change : Change) (old : State) → HaveFewChanges n old.files → HaveFewChanges (n + 1) (with_state_change change old).files
 few_after n (changes.Writes node offset bytes) old h = few_written n node offset bytes old.files h
+few_after n (changes.Cuts node size) old h = few_cut n node size old.files h
 few_after n (changes.Clients (client_changes.Replaces r client)) old h = one_more n old.files h
 few_after n (changes.Clients change) old h = one_more n old.files h
 few_after n (changes.Opens node owner share None) old h = one_more n old.files h

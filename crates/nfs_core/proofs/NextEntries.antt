@@ -4,7 +4,7 @@ use Rattle.std.specs.Option.{ok_or}
 use Rattle.std.specs.Prelude.{Bool, true, false, ◌&&◌, IfErr, IfNone, IfOk, IfSome, IsErrOf, IsFalse, IsTrue, is_some, not, option_map}
 use Rattle.std.proofs.lemmas.Bool.{both_ways, cond_both, lt-ltb, ltb-true}
 use Rattle.nfs_core.proofs.Journals.{decides_something}
-use Rattle.nfs_core.proofs.Transferring.{each_read, each_write}
+use Rattle.nfs_core.proofs.Transferring.{each_read, each_setattr, each_write}
 use Rattle.nfs_core.proofs.SoundSequences.{some_equal}
 use Rattle.nfs_core.specs.CoreError.{error_of_forget}
 use Rattle.nfs_core.specs.Events.{IsNotRuled, MayNotHappen}
@@ -54,8 +54,8 @@ use Rattle.nfs_state.specs.declared.entry.TheConstants.{JOURNAL_LIMIT}
 use Rattle.nfs_state.specs.declared.request.Request.{Request}
 use Rattle.nfs_state.specs.declared.shortage.Shortage.{Shortage}
 use Rattle.nfs_state.specs.declared.shortage.Shortage.TheVariants as shortages
+use Rattle.nfs_tree.specs.Profiles.{has_entry}
 use Rattle.nfs_tree.specs.Tree.{node_count}
-use Rattle.nfs_xdr.specs.Op.{has_entry}
 use Rattle.nfs_xdr.specs.declared.op.Op.{Op}
 use Rattle.nfs_xdr.specs.declared.op.Op.TheVariants as ops
 use Rattle.nfs_xdr.specs.declared.op_result.OpResult.{OpResult}
@@ -74,17 +74,17 @@ both_true true b is = (refl, is)
 both_true false b is = absurd cc
 
 -- a request can be asked exactly if its operation has an entry and its filehandle is that of a node
-pub can_ask : (journal : History) (request : Request) → IsTrue (has_entry request.op) → IsFilehandle journal request.filehandle → CanBeAsked journal request
+pub can_ask : (journal : History) (request : Request) → IsTrue (has_entry journal.policy.profile request.op) → IsFilehandle journal request.filehandle → CanBeAsked journal request
 can_ask journal request entry node =
     let is_node = node_passes (node_count journal.nodes) request.filehandle node in
     cc (entry, is_node)
 
-pub asked_entry : (journal : History) (request : Request) → CanBeAsked journal request → IsTrue (has_entry request.op)
-asked_entry journal request asked = (both_true (has_entry request.op) (is_filehandle (node_count journal.nodes) request.filehandle) asked).0
+pub asked_entry : (journal : History) (request : Request) → CanBeAsked journal request → IsTrue (has_entry journal.policy.profile request.op)
+asked_entry journal request asked = (both_true (has_entry journal.policy.profile request.op) (is_filehandle (node_count journal.nodes) request.filehandle) asked).0
 
 pub asked_node : (journal : History) (request : Request) → CanBeAsked journal request → IsFilehandle journal request.filehandle
 asked_node journal request asked =
-    passes_node (node_count journal.nodes) request.filehandle (both_true (has_entry request.op) (is_filehandle (node_count journal.nodes) request.filehandle) asked).1
+    passes_node (node_count journal.nodes) request.filehandle (both_true (has_entry journal.policy.profile request.op) (is_filehandle (node_count journal.nodes) request.filehandle) asked).1
 
 -- if the journal is full, no entry may come next
 pub full_follows : (journal : History) (old : State) (entry : Entry) → JOURNAL_LIMIT ≤ length journal.entries → HasNoStep journal old entry
@@ -149,6 +149,10 @@ plain_owner (ops.Read args) journal old request decision is =
 plain_owner (ops.Write args) journal old request decision is =
     let P : Decision → Type 0 = λ d. d.effect.owner ≡ owner_changes.Nothing in
     ap (λ (d : Decision). d.effect.owner) (some_equal decision _ is) ∙ each_write P journal old request args (λ refusal. refl) (λ node. refl) refl (λ node short. refl)
+plain_owner (ops.Readdir args) journal old request decision is = ap (λ (d : Decision). d.effect.owner) (some_equal decision _ is)
+plain_owner (ops.Setattr args) journal old request decision is =
+    let P : Decision → Type 0 = λ d. d.effect.owner ≡ owner_changes.Nothing in
+    ap (λ (d : Decision). d.effect.owner) (some_equal decision _ is) ∙ each_setattr P journal old request args (λ refusal. refl) (λ node. refl) (λ asked. refl) (λ asked node size short. refl)
 plain_owner op journal old request decision is = absurd cc
 
 -- so owners may keep what is decided
@@ -163,7 +167,7 @@ can_be_kept (Owned id seqid) call journal old decision ruled sendable = λ kind.
 pub decided_next : (journal : History) (old : State) (request : Request) (result : Result Decision Shortage) → length journal.entries < JOURNAL_LIMIT → CanBeAsked journal request → Decides (IsRuled request.op journal old request) old request.op result → IfOk result (λ decision. IsNext journal old (entry_of request decision.answer) decision.effect)
 decided_next journal old request (Ok decision) below asked decides = record {
   below = below;
-  allowed = record { rule = decides.0; other = decides.1.not_resource; node = asked_node journal request asked };
+  allowed = record { rule = decides.0; other = decides.1.not_resource; entry = asked_entry journal request asked; node = asked_node journal request asked };
   fits = record {
     kept = can_be_kept (names_of request.op) (record { request = request; answer = decision.answer }) journal old decision decides.0 decides.1;
     numbers = decides.2;
@@ -188,26 +192,12 @@ other_answer once journal old call decision next other new step =
     let d : Decision = record { answer = call.answer; effect = step.effect } in
     other (ap (λ (x : Decision). x.answer) (some_equal decision d (once journal old call.request (Some decision) (Some d) next.allowed.rule step.allowed.rule)))
 
--- an operation with a rule has an entry in the journal
-ruled_entry : (op : Op) (journal : History) (old : State) (request : Request) (decision : Decision) → IsRuled op journal old request (Some decision) → IsTrue (has_entry op)
-ruled_entry (ops.Access args) journal old request decision ruled = absurd cc
-ruled_entry ops.Getfh journal old request decision ruled = absurd cc
-ruled_entry (ops.Lookup args) journal old request decision ruled = absurd cc
-ruled_entry (ops.Putfh args) journal old request decision ruled = absurd cc
-ruled_entry ops.Putrootfh journal old request decision ruled = absurd cc
-ruled_entry (ops.Renew args) journal old request decision ruled = absurd cc
-ruled_entry ops.Restorefh journal old request decision ruled = absurd cc
-ruled_entry ops.Savefh journal old request decision ruled = absurd cc
-ruled_entry op journal old request decision ruled = refl
-
 -- a request that is answered can be asked
 answered_asked : (journal : History) (old : State) (call : Call) (effect : Effect) → IsAnswered journal old call effect → CanBeAsked journal call.request
-answered_asked journal old call effect answered =
-    let decision : Decision = record { answer = call.answer; effect = effect } in
-    can_ask journal call.request (ruled_entry call.request.op journal old call.request decision answered.rule) answered.node
+answered_asked journal old call effect answered = can_ask journal call.request answered.entry answered.node
 
 -- a request that can't be asked isn't answered
-pub not_asked : (journal : History) (old : State) (call : Call) → IsFalse (can_be_asked (node_count journal.nodes) call.request) → HasNoStep journal old (entries.Call call)
+pub not_asked : (journal : History) (old : State) (call : Call) → IsFalse (can_be_asked journal.policy.profile (node_count journal.nodes) call.request) → HasNoStep journal old (entries.Call call)
 not_asked journal old call not new step = both_ways _ not (answered_asked journal old call step.effect step.allowed)
 
 -- where a decision fails because nothing may come next, a limit would be passed

@@ -6,7 +6,7 @@ use Rattle.std.proofs.lemmas.Bool.{cond_both}
 use Rattle.nfs_core.specs.Lawful.{Lawful, Leads}
 use Rattle.nfs_core.specs.Safe.{HasCounted, KeepRequests}
 use Rattle.nfs_core.specs.Step.{Allows, Step}
-use Rattle.nfs_core.proofs.Transferring.{each_read, each_write}
+use Rattle.nfs_core.proofs.Transferring.{each_read, each_setattr, each_write}
 use Rattle.nfs_core.proofs.SafeLists.{all_filter, all_map, all_push, all_weaken}
 use Rattle.nfs_core.proofs.SoundSequences.{never, some_equal}
 use Rattle.nfs_forms.specs.ClientId.{is_same_client}
@@ -146,6 +146,10 @@ plain_none (ops.Read args) journal state request d is =
 plain_none (ops.Write args) journal state request d is =
     let P : Decision → Type 0 = λ e. keeps e.effect.owner ≡ false in
     not_kept d _ is (each_write P journal state request args (λ refusal. refl) (λ node. refl) refl (λ node short. refl))
+plain_none (ops.Readdir args) journal state request d is = not_kept d _ is refl
+plain_none (ops.Setattr args) journal state request d is =
+    let P : Decision → Type 0 = λ e. keeps e.effect.owner ≡ false in
+    not_kept d _ is (each_setattr P journal state request args (λ refusal. refl) (λ node. refl) (λ asked. refl) (λ asked node size short. refl))
 plain_none op journal state request d is = absurd cc
 
 -- what has its entry kept

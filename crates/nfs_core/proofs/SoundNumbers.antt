@@ -204,6 +204,7 @@ weight_changed w (changes.Returns node number) old =
     omega (arith, sum_lent_set (of_lent w) 0 (without_lent (is_delegation_numbered number) here) node old.delegations (omega (arith, fewer)))
 weight_changed w (changes.Forgets owner) old = omega arith
 weight_changed w (changes.Writes node offset bytes) old = omega arith
+weight_changed w (changes.Cuts node size) old = omega arith
 weight_changed w (changes.MarksPath client path) old = omega arith
 
 -- A delegation that is lent adds the number after that.

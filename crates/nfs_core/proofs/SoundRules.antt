@@ -34,7 +34,7 @@ use Rattle.nfs_rules.specs.Refusing.{◌>>=◌}
 use Rattle.nfs_rules.specs.Stateids.{any_open, as_open, confirmed_open, verdict}
 use Rattle.nfs_state.specs.State.{State, History, record_has_state}
 use Rattle.nfs_core.proofs.Choosing.{chosen_next}
-use Rattle.nfs_core.proofs.Transferring.{each_read, each_write}
+use Rattle.nfs_core.proofs.Transferring.{each_read, each_setattr, each_write}
 use Rattle.nfs_core.proofs.SafeLists.{all_always, all_find, all_none, all_weaken, found_last, found_some}
 use Rattle.nfs_core.proofs.Sound.{AreSingle, HasSameClient, HasRecord, IsOnlyOf, IsSound, is_live_in, is_record_of, same_client_self, same_name_self}
 use Rattle.nfs_core.proofs.SoundClients.{HasSingles}
@@ -455,4 +455,7 @@ ruled_ready number journal state (ops.Read args) request d same sound singles is
     as_decided number state d _ is (each_read (IsReady number state) journal state request args (λ refusal. (tt, tt)) (λ node. (tt, tt)) (λ node. (tt, tt)))
 ruled_ready number journal state (ops.Write args) request d same sound singles is =
     as_decided number state d _ is (each_write (IsReady number state) journal state request args (λ refusal. (tt, tt)) (λ node. (tt, tt)) (tt, tt) (λ node short. (tt, short)))
+ruled_ready number journal state (ops.Readdir args) request d same sound singles is = as_decided number state d _ is (tt, tt)
+ruled_ready number journal state (ops.Setattr args) request d same sound singles is =
+    as_decided number state d _ is (each_setattr (IsReady number state) journal state request args (λ refusal. (tt, tt)) (λ node. (tt, tt)) (λ asked. (tt, tt)) (λ asked node size short. (tt, short)))
 ruled_ready number journal state op request d same sound singles is = absurd cc

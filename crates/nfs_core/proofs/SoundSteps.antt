@@ -121,6 +121,7 @@ IsChangeReady (changes.Locks node number change) state =
     × IsFreeFor owner change (locks_of node state.locks)
     × (is_full_for number change (locks_of node state.locks) ≡ false)
 IsChangeReady (changes.Writes node offset bytes) state = offset + length bytes ≤ TEXT_LIMIT
+IsChangeReady (changes.Cuts node size) state = size ≤ TEXT_LIMIT
 IsChangeReady (changes.Expires client) state =
     (is_live_in state.clients.confirmed client ≡ true) × AllByRecursion (IsAloneOf client) state.clients.confirmed
 IsChangeReady (changes.Forgets owner) state = HasNoOpen owner state.opens
@@ -407,6 +408,13 @@ sound_changed law lock_law (changes.Returns node number) old ready sound = recor
   locks = sound.locks;
 }
 sound_changed law lock_law (changes.Writes node offset bytes) old ready sound = record {
+  live = sound.live;
+  known = sound.known;
+  compatible = sound.compatible;
+  single = sound.single;
+  locks = sound.locks;
+}
+sound_changed law lock_law (changes.Cuts node size) old ready sound = record {
   live = sound.live;
   known = sound.known;
   compatible = sound.compatible;

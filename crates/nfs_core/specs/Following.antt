@@ -43,9 +43,10 @@ pub record StoreAgrees (store : Store) : Type 0 where
       (state_of store.tables).files
   pub owners : OwnersAgree store
 
--- the request can be asked of a server with the journal's tree
+-- the request can be asked of a server with the journal's tree and profile
 abbrev pub CanBeAsked : History → Request → Type 0
-CanBeAsked journal request = IsTrue (can_be_asked (node_count journal.nodes) request)
+CanBeAsked journal request =
+    IsTrue (can_be_asked journal.policy.profile (node_count journal.nodes) request)
 
 -- In the state old, after this journal, the entry may come next with this effect, and can be committed.
 pub record IsNext (journal : History) (old : State) (entry : Entry) (effect : Effect) : Type 0 where

@@ -1,5 +1,5 @@
 -- How one entry of the journal leads from a state to the next.
-use Rattle.std.specs.Prelude.{◌≡◌, ◌≢◌, ◌<◌, length, Some}
+use Rattle.std.specs.Prelude.{◌≡◌, ◌≢◌, ◌<◌, length, Some, IsTrue}
 use Rattle.nfs_state.specs.declared.effect.Effect.{Effect}
 use Rattle.nfs_state.specs.declared.entry.Call.{Call}
 use Rattle.nfs_state.specs.declared.entry.Entry.{Entry}
@@ -14,15 +14,17 @@ use Rattle.nfs_rules.specs.entries.Path.{IsPathMark}
 use Rattle.nfs_rules.specs.entries.Revoke.{IsRevocation}
 use Rattle.nfs_rules.specs.operations.{IsRuled}
 use Rattle.nfs_state.specs.State.{State, History}
+use Rattle.nfs_tree.specs.Profiles.{has_entry}
 use Rattle.nfs_xdr.specs.declared.op_result.OpResult.{OpResult}
 
 -- In the state old, the rule of the call's request decides this answer and this effect. Calls that are answered
--- NFS4ERR_RESOURCE, or whose filehandle belongs to no node, are never in the journal.
+-- NFS4ERR_RESOURCE, that the profile refuses, or whose filehandle belongs to no node, are never in the journal.
 pub record IsAnswered (journal : History) (old : State) (call : Call)
     (effect : Effect) : Type 0 where
   pub rule : IsRuled call.request.op journal old call.request
       (Some (record { answer = call.answer; effect = effect }))
   pub other : call.answer ≢ resource call.request.op
+  pub entry : IsTrue (has_entry journal.policy.profile call.request.op)
   pub node : IsFilehandle journal call.request.filehandle
 
 -- In the state old, after this journal, the entry may have this effect.

@@ -16,7 +16,8 @@ ghost use Rattle.nfs_state.specs.Entries.{IsFilehandle, request_of};
 ghost use Rattle.nfs_state.specs.Kept.{Agrees};
 ghost use Rattle.nfs_state.specs.Stored.{empty_store, meaning};
 ghost use Rattle.nfs_state.specs.declared.entry.Entry.TheVariants as entries;
-ghost use Rattle.nfs_xdr.specs.Op.{has_entry, opnum_of};
+ghost use Rattle.nfs_tree.specs.Profiles.{has_entry};
+ghost use Rattle.nfs_xdr.specs.Op.{opnum_of};
 ghost use Rattle.nfs_xdr.specs.OpResult.{op_result};
 ghost use Rattle.nfs_xdr.specs.Opnum.{answer_limit};
 
@@ -109,9 +110,9 @@ impl Core {
         })
     }
 
-    /// Answers an operation that has an entry in the journal (`Op::has_entry`), and returns the entry's number. Without
-    /// a number the answer is NFS4ERR_RESOURCE and nothing has changed but room, of which there isn't less: the journal
-    /// is full, memory ran out, or a limit would be exceeded. `filehandle` has to be a node of the tree.
+    /// Answers an operation that has an entry in the journal (`Profile::has_entry`), and returns the entry's number.
+    /// Without a number the answer is NFS4ERR_RESOURCE and nothing has changed but room, of which there isn't less: the
+    /// journal is full, memory ran out, or a limit would be exceeded. `filehandle` has to be a node of the tree.
     pub fn apply(
         &mut self,
         moment: Moment,
@@ -119,7 +120,7 @@ impl Core {
         op: &Op,
         filehandle: Option<u32>,
     ) -> (OpResult, Option<u32>)
-        requires entry { IsTrue (has_entry op.now) }
+        requires entry { IsTrue (has_entry self.old.journal.policy.profile op.now) }
         requires node { IsFilehandle self.old.journal filehandle }
         ensures applies { Applies self.old self.new (request_of moment principal op.now filehandle)
             result.0 result.1 }
@@ -143,7 +144,7 @@ impl Core {
     /// The same as `apply` for a request, whose operation goes into the journal without a copy, and returns what came of
     /// it: with the entry's number who came to be live by it, or is live no longer.
     pub fn answer(&mut self, request: Request) -> (OpResult, Option<Entered>)
-        requires entry { IsTrue (has_entry request.op) }
+        requires entry { IsTrue (has_entry self.old.journal.policy.profile request.op) }
         requires node { IsFilehandle self.old.journal request.filehandle }
         ensures answers { Answers self.old self.new request result.0 result.1 }
         ensures room { IfNone result.1 (self.old.room ≤ self.new.room) }

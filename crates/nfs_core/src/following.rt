@@ -122,7 +122,11 @@ fn effect_of_call(alloc: Global, held: &Holdings, call: &Call) -> Result<Effect,
         → MayFollow (server_of held.now) (entries.Call call.now) }
 {
     at_most_one_decision();
-    if !call.request.can_be_asked(held.store.journal.tree().len()) {
+    let journal = &held.store.journal;
+    if !call
+        .request
+        .can_be_asked(journal.policy().profile, journal.tree().len())
+    {
         return Err(FollowError::NotNext);
     }
     let Decision { answer, effect } = decide_next(alloc, &held.store, &call.request)?;

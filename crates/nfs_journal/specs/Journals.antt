@@ -9,7 +9,7 @@ use Rattle.nfs_journal.specs.Exact.{IsEncoded}
 use Rattle.nfs_journal.specs.File.{file, start_of}
 use Rattle.nfs_journal.specs.declared.opening.Opening.{Opening}
 use Rattle.nfs_journal.specs.declared.opening.Opening.TheVariants as openings
-use Rattle.nfs_journal.specs.declared.opening.Start.{Start}
+use Rattle.nfs_journal.specs.declared.opening.ThirdStart.{ThirdStart}
 use Rattle.nfs_state.specs.declared.entry.Entry.{Entry}
 use Rattle.nfs_state.specs.declared.entry.Entry.TheVariants as entries
 use Rattle.nfs_state.specs.declared.journal.TheConstants.{LEASE_MIN, LEASE_MAX}
@@ -17,22 +17,24 @@ use Rattle.nfs_state.specs.Entries.{can_be_asked}
 use Rattle.nfs_state.specs.State.{History}
 use Rattle.nfs_tree.specs.DocumentNodes.{are_of_a_document}
 use Rattle.nfs_tree.specs.Tree.{node_count}
+use Rattle.nfs_tree.specs.declared.profile.Profile.{Profile}
+use Rattle.nfs_tree.specs.declared.profile.Profile.TheVariants.{Plain, Clients}
 
 abbrev pub number_of : AuditError → ℕ
 number_of errors.Format = 1
 number_of (errors.WrongAnswer number) = 2
 number_of errors.Memory = 3
 
--- an entry that a journal can have whose tree has so many nodes
-abbrev pub is_entry : ℕ → Entry → Bool
-is_entry nodes (entries.Call call) = can_be_asked nodes call.request
-is_entry nodes entry = true
+-- an entry that a journal can have of this profile, whose tree has so many nodes
+abbrev pub is_entry : Profile → ℕ → Entry → Bool
+is_entry profile nodes (entries.Call call) = can_be_asked profile nodes call.request
+is_entry profile nodes entry = true
 
 -- The lease is within its limits, some document gives the nodes, and each entry is one that the journal can have.
 abbrev pub is_journal : History → Bool
 is_journal h = (nat_le LEASE_MIN h.lease && nat_le h.lease LEASE_MAX)
     && are_of_a_document h.nodes
-    && list_all (is_entry (node_count h.nodes)) h.entries
+    && list_all (is_entry h.policy.profile (node_count h.nodes)) h.entries
 
 -- the journal that has what a file has
 abbrev pub history_of : File → History
@@ -46,11 +48,28 @@ history_of f =
       entries = f.entries;
     }
 
+-- the opening of a file of this profile, of the third edition
+abbrev pub opening_of : Profile → ThirdStart → Opening
+opening_of Plain start = openings.Third start
+opening_of Clients start = openings.Clients start
+
+-- what a file of the third edition has of what the server of this journal began with
+abbrev pub third_of : History → ThirdStart
+third_of h = record {
+  epoch = h.epoch;
+  lease = h.lease;
+  delegations = h.policy.delegations;
+  callbacks = h.policy.callbacks;
+  close_locks = h.policy.close_locks;
+}
+
 -- what the file of a journal has that is written
 abbrev pub file_of : History → File
-file_of h =
-    let start : Start = record { epoch = h.epoch; lease = h.lease; policy = h.policy } in
-    record { opening = openings.Third start; nodes = h.nodes; entries = h.entries }
+file_of h = record {
+  opening = opening_of h.policy.profile (third_of h);
+  nodes = h.nodes;
+  entries = h.entries;
+}
 
 -- the entry is the end of what is kept for an owner
 abbrev pub is_forget : Entry → Bool
@@ -59,6 +78,7 @@ is_forget entry = false
 
 -- the entries are such as a file of the edition may have: before the third no owner was forgotten
 abbrev pub are_of_edition : Opening → List Entry → Bool
+are_of_edition (openings.Clients start) entries = true
 are_of_edition (openings.Second start) entries = list_all (λ e. not (is_forget e)) entries
 are_of_edition (openings.Third start) entries = true
 

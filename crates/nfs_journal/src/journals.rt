@@ -6,7 +6,7 @@ use crate::exact::read_exact;
 use crate::file::write_parts;
 use crate::{AuditError, File, FiledJournal, Opening};
 use nfs_state::{Entry, Journal, LEASE_MAX, LEASE_MIN};
-use nfs_tree::Tree;
+use nfs_tree::{Profile, Tree};
 use std::alloc::Global;
 use xdr::WireError;
 
@@ -49,7 +49,7 @@ fn journal_of(file: File) -> Result<FiledJournal, AuditError>
     let Ok(tree) = Tree::from_nodes(nodes.into_vec(), start.policy) else {
         return Err(AuditError::Format);
     };
-    if !are_entries(tree.len(), entries.as_slice()) {
+    if !are_entries(start.policy.profile, tree.len(), entries.as_slice()) {
         return Err(AuditError::Format);
     }
     if !are_of_edition(opening, entries.as_slice()) {
@@ -62,18 +62,18 @@ fn journal_of(file: File) -> Result<FiledJournal, AuditError>
     })
 }
 
-// Whether these are entries that a journal can have whose tree has so many nodes.
-fn are_entries(nodes: u32, entries: &[Entry]) -> bool
-    ensures { result ≡ list_all (is_entry nodes) entries.now }
+// Whether these are entries that a journal can have of this profile, whose tree has so many nodes.
+fn are_entries(profile: Profile, nodes: u32, entries: &[Entry]) -> bool
+    ensures { result ≡ list_all (is_entry profile nodes) entries.now }
 {
-    entries.iter().all(|e| is_entry(nodes, e))
+    entries.iter().all(|e| is_entry(profile, nodes, e))
 }
 
-fn is_entry(nodes: u32, entry: &Entry) -> bool
-    ensures { result ≡ is_entry nodes entry.now }
+fn is_entry(profile: Profile, nodes: u32, entry: &Entry) -> bool
+    ensures { result ≡ is_entry profile nodes entry.now }
 {
     match entry {
-        Entry::Call(call) => call.request.can_be_asked(nodes),
+        Entry::Call(call) => call.request.can_be_asked(profile, nodes),
         Entry::Expire(_) | Entry::Revoke(_) | Entry::Path(_) | Entry::Forget(_) => true,
     }
 }
@@ -84,7 +84,7 @@ fn are_of_edition(opening: Opening, entries: &[Entry]) -> bool
 {
     match opening {
         Opening::Second(_) => have_no_forget(entries),
-        Opening::Third(_) => true,
+        Opening::Clients(_) | Opening::Third(_) => true,
     }
 }
 

@@ -1,26 +1,28 @@
 ghost use Rattle.std.specs.Prelude.{◌≡◌};
 ghost use Rattle.nfs_journal.specs.File as forms;
-ghost use Rattle.nfs_journal.specs.File.{start_case, start_of};
+ghost use Rattle.nfs_journal.specs.File.{of_profile, start_case, start_of};
 ghost use Rattle.nfs_journal.specs.Journals.{file_of};
 ghost use Rattle.xdr.specs.Reading.{Answers, Gives};
 ghost use Rattle.xdr.specs.Switch.{case_at};
 
 use nfs_state::Journal;
-use nfs_tree::{Callbacks, CloseLocks, Delegations, Policy};
+use nfs_tree::{Callbacks, CloseLocks, Delegations, Policy, Profile};
 use std::alloc::Global;
 use xdr::{
-    Wire, WireError, read_constant, read_u32, write_four, write_three, write_two, write_u32,
+    Wire, WireError, read_constant, read_u32, write_five, write_four, write_three, write_u32,
 };
 
 /// The first four letters of each file, `NFSJ`.
 const FIRST_LETTERS: u32 = 0x4e46_534a;
 
-/// The editions of the form of a file, by the four letters that follow.
+/// The editions of the form of a file, by the four letters that follow. They tell the profile.
 #[derive(Clone, Copy, PartialEq, Eq)]
 pub enum Edition {
-    /// `RN02`. What CLOSE does under locks isn't told, and owners aren't forgotten.
+    /// `RC03`. The profile is "clients".
+    Clients = 0x5243_3033,
+    /// `RN02`. The profile is "plain", what CLOSE does under locks isn't told, and owners aren't forgotten.
     Second = 0x524e_3032,
-    /// `RN03`.
+    /// `RN03`. The profile is "plain".
     Third = 0x524e_3033,
 }
 
@@ -43,11 +45,22 @@ pub struct SecondStart {
     pub callbacks: Callbacks,
 }
 
+/// The same in a file of the third edition, of either profile.
+#[derive(Clone, Copy)]
+pub struct ThirdStart {
+    pub epoch: u32,
+    pub lease: u32,
+    pub delegations: Delegations,
+    pub callbacks: Callbacks,
+    pub close_locks: CloseLocks,
+}
+
 /// What a file has of what a server began with, beside its tree, by its edition.
 #[derive(Clone, Copy)]
 pub enum Opening {
+    Clients(ThirdStart),
     Second(SecondStart),
-    Third(Start),
+    Third(ThirdStart),
 }
 
 impl Opening {
@@ -55,11 +68,18 @@ impl Opening {
     pub fn of(journal: &Journal) -> Opening
         ensures { result ≡ (file_of journal.now.history).opening }
     {
-        Opening::Third(Start {
+        let policy = journal.policy();
+        let start = ThirdStart {
             epoch: journal.epoch(),
             lease: journal.lease(),
-            policy: journal.policy(),
-        })
+            delegations: policy.delegations,
+            callbacks: policy.callbacks,
+            close_locks: policy.close_locks,
+        };
+        match policy.profile {
+            Profile::Plain => Opening::Third(start),
+            Profile::Clients => Opening::Clients(start),
+        }
     }
 
     /// What the server began with. Before the third edition CLOSE freed what was locked.
@@ -67,6 +87,7 @@ impl Opening {
         ensures { result ≡ start_of self }
     {
         match self {
+            Opening::Clients(start) => start.of_profile(Profile::Clients),
             Opening::Second(start) => Start {
                 epoch: start.epoch,
                 lease: start.lease,
@@ -74,9 +95,28 @@ impl Opening {
                     delegations: start.delegations,
                     callbacks: start.callbacks,
                     close_locks: CloseLocks::Free,
+                    profile: Profile::Plain,
                 },
             },
-            Opening::Third(start) => start,
+            Opening::Third(start) => start.of_profile(Profile::Plain),
+        }
+    }
+}
+
+impl ThirdStart {
+    // What the server began with, whose profile the letters tell.
+    fn of_profile(self, profile: Profile) -> Start
+        ensures { result ≡ of_profile profile self }
+    {
+        Start {
+            epoch: self.epoch,
+            lease: self.lease,
+            policy: Policy {
+                delegations: self.delegations,
+                callbacks: self.callbacks,
+                close_locks: self.close_locks,
+                profile,
+            },
         }
     }
 }
@@ -90,6 +130,7 @@ impl Wire for Edition {
     {
         let (number, rest) = read_u32(bytes)?;
         match number {
+            0x5243_3033 => Ok((Edition::Clients, rest)),
             0x524e_3032 => Ok((Edition::Second, rest)),
             0x524e_3033 => Ok((Edition::Third, rest)),
             _ => Err(WireError::Short),
@@ -102,25 +143,36 @@ impl Wire for Edition {
     }
 }
 
-impl Wire for Start {
+impl Wire for ThirdStart {
     ghost form = { forms.third };
 
     #[tactic(auto, unfolding(crate::specs::File::third))]
-    fn read(alloc: Global, bytes: &[u8]) -> Result<(Start, &[u8]), WireError> {
+    fn read(alloc: Global, bytes: &[u8]) -> Result<(ThirdStart, &[u8]), WireError> {
         let (epoch, rest) = u32::read(alloc, bytes)?;
         let (lease, rest) = u32::read(alloc, rest)?;
-        let (policy, rest) = Policy::read(alloc, rest)?;
-        let start = Start {
+        let (delegations, rest) = Delegations::read(alloc, rest)?;
+        let (callbacks, rest) = Callbacks::read(alloc, rest)?;
+        let (close_locks, rest) = CloseLocks::read(alloc, rest)?;
+        let start = ThirdStart {
             epoch,
             lease,
-            policy,
+            delegations,
+            callbacks,
+            close_locks,
         };
         Ok((start, rest))
     }
 
     #[tactic(auto, unfolding(crate::specs::File::third))]
     fn write(&self, out: &mut Vec<u8>) -> Result<(), WireError> {
-        write_three(out, &self.epoch, &self.lease, &self.policy)
+        write_five(
+            out,
+            &self.epoch,
+            &self.lease,
+            &self.delegations,
+            &self.callbacks,
+            &self.close_locks,
+        )
     }
 }
 
@@ -167,6 +219,7 @@ impl Wire for Opening {
     #[tactic(auto, unfolding(crate::specs::File::opening))]
     fn write(&self, out: &mut Vec<u8>) -> Result<(), WireError> {
         match self {
+            Opening::Clients(start) => write_three(out, &FIRST_LETTERS, &Edition::Clients, start),
             Opening::Second(start) => write_three(out, &FIRST_LETTERS, &Edition::Second, start),
             Opening::Third(start) => write_three(out, &FIRST_LETTERS, &Edition::Third, start),
         }
@@ -178,11 +231,15 @@ fn read_start(alloc: Global, edition: Edition, bytes: &[u8]) -> Result<(Opening,
     ensures { Gives (λ x. (x.0, x.1.now)) result (case_at (start_case edition) bytes.now) }
 {
     match edition {
+        Edition::Clients => match ThirdStart::read(alloc, bytes) {
+            Ok((start, rest)) => Ok((Opening::Clients(start), rest)),
+            Err(error) => Err(error),
+        },
         Edition::Second => match SecondStart::read(alloc, bytes) {
             Ok((start, rest)) => Ok((Opening::Second(start), rest)),
             Err(error) => Err(error),
         },
-        Edition::Third => match Start::read(alloc, bytes) {
+        Edition::Third => match ThirdStart::read(alloc, bytes) {
             Ok((start, rest)) => Ok((Opening::Third(start), rest)),
             Err(error) => Err(error),
         },

@@ -7,7 +7,8 @@ ghost use Rattle.nfs_leases.specs.BookOf.{IsBookOf, events_entered};
 ghost use Rattle.nfs_leases.specs.PlainBook.{has_open_lease, with_renewal};
 ghost use Rattle.nfs_leases.specs.Sweeps.{Sweeps, leased_server};
 ghost use Rattle.nfs_state.specs.Entries.{IsFilehandle};
-ghost use Rattle.nfs_xdr.specs.Op.{has_entry, opnum_of};
+ghost use Rattle.nfs_tree.specs.Profiles.{has_entry};
+ghost use Rattle.nfs_xdr.specs.Op.{opnum_of};
 ghost use Rattle.nfs_xdr.specs.OpResult.{op_result};
 ghost use Rattle.nfs_xdr.specs.Opnum.{answer_limit};
 
@@ -41,7 +42,7 @@ impl<B: LeaseBook> LeasedCore<B> {
     /// Has the core answer a request. The leases follow: where a client becomes live by it, its lease is opened at the
     /// request's moment; where one is replaced, its lease is retired. No lease is renewed: the caller does that, before.
     pub fn call(&mut self, request: Request) -> (OpResult, Option<Entered>)
-        requires entry { IsTrue (has_entry request.op) }
+        requires entry { IsTrue (has_entry self.old.core.journal.policy.profile request.op) }
         requires node { IsFilehandle self.old.core.journal request.filehandle }
         ensures answers { Answers self.old.core self.new.core request result.0 result.1 }
         ensures short { length (op_result.encoding result.0)

@@ -1,5 +1,6 @@
 pub mod Access
 pub mod Close
+pub mod Commit
 pub mod Delegreturn
 pub mod Getattr
 pub mod Getfh
@@ -13,10 +14,12 @@ pub mod OpenDowngrade
 pub mod Putfh
 pub mod Putrootfh
 pub mod Read
+pub mod Readdir
 pub mod ReleaseLockowner
 pub mod Renew
 pub mod Restorefh
 pub mod Savefh
+pub mod Setattr
 pub mod Setclientid
 pub mod SetclientidConfirm
 pub mod Write

@@ -4,6 +4,7 @@
 
 pub mod access;
 pub mod close;
+pub mod commit;
 pub mod delegreturn;
 pub mod getattr;
 pub mod getfh;
@@ -18,10 +19,12 @@ pub mod open_downgrade;
 pub mod putfh;
 pub mod putrootfh;
 pub mod read;
+pub mod readdir;
 pub mod release_lockowner;
 pub mod renew;
 pub mod restorefh;
 pub mod savefh;
+pub mod setattr;
 pub mod setclientid;
 pub mod setclientid_confirm;
 pub mod write;

@@ -4,6 +4,7 @@ ghost use Rattle.nfs_owners.specs.Registry.{is_live};
 ghost use Rattle.nfs_server.specs.Connection.{HasCourse, scene};
 ghost use Rattle.nfs_server.specs.Device.{device_of_sink};
 ghost use Rattle.nfs_server.specs.Exchange.{rules};
+ghost use Rattle.nfs_server.specs.Serves.{exported, served_by};
 ghost use Rattle.nfs_program.specs.Once.{IsFiled, fault_of, status_of};
 ghost use Rattle.nfs_server.specs.declared.clock.Stopped.{Stopped};
 ghost use Rattle.nfs_program.specs.declared.fault.Fault.{Fault};
@@ -44,8 +45,8 @@ pub fn run_once<D: Duplex, E: Write, J: Sink>(
         × (((lent : LentCore) × (clock : Stopped) × (lent' : LentCore) × (clock' : Stopped)
         × (lent.core ≡ core) × IsLent core lent.book × (clock.moment ≡ now)
         × HasCourse D.device
-        (rules tree.now ⟦<Lent as Service>⟧.gives ⟦<Lent as Service>⟧.alike
-        ⟦<Stopped as Clock>⟧.tells)
+        (rules (exported tree.now (served_by lent.core.journal)) ⟦<Lent as Service>⟧.gives
+        ⟦<Lent as Service>⟧.alike ⟦<Stopped as Clock>⟧.tells)
         (scene device.old lent clock) outcome (scene device.new lent' clock')
         × IsFiled (device_of_sink J.takes J.fails) J.failures journal.old journal.new
         lent'.core.journal filed)

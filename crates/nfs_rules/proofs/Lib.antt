@@ -8,3 +8,7 @@ pub mod Judging
 pub mod FoundDelegations
 pub mod Closing
 pub mod Forgetting
+pub mod Greatest
+pub mod Rising
+pub mod Listings
+pub mod Setting

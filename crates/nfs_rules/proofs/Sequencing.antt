@@ -1,8 +1,9 @@
 -- What is found of an owner among the stored ones is what the rules find among the known ones.
-use Rattle.std.proofs.Common.{◌≡◌, ℕ, Bool, true, false, Option, Some, None, List, [], ◌∷◌, Result, Ok, Err, refl, sym, ap, ◌∙◌, subst, arith}
+use Rattle.std.proofs.Common.{◌≡◌, ℕ, ◌<◌, ◌^◌, Bool, true, false, Option, Some, None, List, [], ◌∷◌, Result, Ok, Err, refl, sym, ap, ◌∙◌, subst, arith}
 use Rattle.std.specs.Prelude.{◌≢◌, ◌&&◌, ◌==◌, not, map, find, option_and_then, option_map, is_some, slice_get, if◌then◌else◌}
 use Rattle.std.specs.List.{AllByRecursion}
 use Rattle.std.specs.Result.{OnErr}
+use Rattle.std.proofs.lemmas.List.Elements.{All-nil}
 use Rattle.nfs_rules.specs.Deciding.{HasPassage}
 use Rattle.nfs_state.specs.Entries.{IsSendable, call_of}
 use Rattle.nfs_rules.specs.Finding.{IsCallAt, call_at, parts_of, parts_seen, stored_or_bad}
@@ -23,6 +24,7 @@ use Rattle.nfs_owners.specs.declared.state_owner.StateOwner.{StateOwner}
 use Rattle.nfs_forms.specs.declared.stateid.Stateid.{Stateid}
 use Rattle.nfs_forms.specs.declared.status.Refusal.{Refusal}
 use Rattle.nfs_forms.specs.declared.status.Refusal.TheVariants as refusals
+use Rattle.nfs_forms.specs.declared.status.Status.TheVariants as statuses
 use Rattle.nfs_owners.specs.declared.kept.KeptCall.{KeptCall}
 use Rattle.nfs_owners.specs.declared.kept.KeptSummary.{KeptSummary}
 use Rattle.nfs_owners.specs.declared.kept.Verdict.{Verdict}
@@ -134,12 +136,17 @@ on_err (Ok a) p = tt
 on_err (Err e) p = p
 
 -- A refusal with another status is another answer.
+same_refusal : (r s : Refusal) → statuses.Refused r ≡ statuses.Refused s → r ≡ s
+same_refusal r s same = cc
+
 refused_once : (op : Op) (r s : Refusal) → refusal_of (opnum_of op) r ≡ refusal_of (opnum_of op) s → r ≡ s
 refused_once (ops.Open args) r s same = cc
+refused_once (ops.Setattr args) r s same = same_refusal r s (ap results.status_of same)
 refused_once op r s same = cc
 
 refusal_answers : (op : Op) (r : Refusal) → (results.opnum_of (refusal_of (opnum_of op) r) ≡ opnum_of op) × IsShort (refusal_of (opnum_of op) r)
 refusal_answers (ops.Open args) r = (refl, tt)
+refusal_answers (ops.Setattr args) r = (refl, ((omega arith, omega arith, All-nil (λ w. w < 2 ^ 32)), omega arith))
 refusal_answers op r = (refl, tt)
 
 pub refusal_sendable : (op : Op) (refusal : Refusal) (answer : OpResult) → refusal ≢ refusals.Resource → answer ≡ refusal_of (opnum_of op) refusal → IsSendable op answer

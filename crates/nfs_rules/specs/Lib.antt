@@ -6,6 +6,7 @@ pub mod Judging
 pub mod Lending
 pub mod Locking
 pub mod Transfers
+pub mod Listings
 pub mod operations
 pub mod Deciding
 pub mod Finding

@@ -1,5 +1,5 @@
--- Who may read and write the bytes of a file, by which stateid: one rule for READ and WRITE (RFC 7530, sections 9.1.4.3,
--- 9.1.6, 10.4.4, 16.23 and 16.36).
+-- Who may read and write the bytes of a file, by which stateid: one rule for READ, WRITE and a SETATTR of the size (RFC
+-- 7530, sections 9.1.4.3, 9.1.6, 10.4.4, 16.23, 16.32 and 16.36).
 use Rattle.std.specs.Prelude.{ℕ, Bool, true, false, not, ◌&&◌, Option, Some, None, Result, Ok, Err, if◌then◌else◌}
 use Rattle.nfs_forms.specs.Stateid.{is_special}
 use Rattle.nfs_forms.specs.declared.stateid.Stateid.{Stateid}
@@ -32,11 +32,13 @@ use Rattle.nfs_xdr.specs.declared.opnum.Opnum.TheVariants as opnums
 abbrev pub opnum_of : Transfer → Opnum
 opnum_of transfers.Read = opnums.Read
 opnum_of transfers.Write = opnums.Write
+opnum_of transfers.Resize = opnums.Setattr
 
--- the access that it needs of an open, and that an open may deny
+-- The access that it needs of an open, and that an open may deny. Another size is other bytes, as a WRITE makes them.
 abbrev pub mode_of : Transfer → Modes
 mode_of transfers.Read = modes true false
 mode_of transfers.Write = modes false true
+mode_of transfers.Resize = modes false true
 
 -- The file of the current filehandle: NFS4ERR_NOFILEHANDLE where there is none, NFS4ERR_ISDIR for a directory.
 abbrev pub file_in : History → Option ℕ → Result ℕ Refusal
@@ -57,8 +59,8 @@ has_access transfer (Some o) = contains (share_of o).access (mode_of transfer)
 -- a delegation of this kind is for it
 abbrev pub is_for : Transfer → DelegationKind → Bool
 is_for transfers.Read kind = true
-is_for transfers.Write kinds.Read = false
-is_for transfers.Write kinds.Write = true
+is_for transfer kinds.Read = false
+is_for transfer kinds.Write = true
 
 -- What was found allows it: an open by its access, a lock state by that of its open, a delegation by its kind.
 abbrev pub allows : Transfer → State → Found → Bool

@@ -12,7 +12,9 @@ use Rattle.nfs_rules.specs.operations.Open as opening
 use Rattle.nfs_rules.specs.operations.OpenConfirm as open_confirm
 use Rattle.nfs_rules.specs.operations.OpenDowngrade as open_downgrade
 use Rattle.nfs_rules.specs.operations.Read as read
+use Rattle.nfs_rules.specs.operations.Readdir as readdir
 use Rattle.nfs_rules.specs.operations.ReleaseLockowner as release
+use Rattle.nfs_rules.specs.operations.Setattr as setattr
 use Rattle.nfs_rules.specs.operations.Setclientid as setclientid
 use Rattle.nfs_rules.specs.operations.SetclientidConfirm as confirm
 use Rattle.nfs_rules.specs.operations.Write as write
@@ -32,7 +34,9 @@ pub mod OpenGrant
 pub mod OpenConfirm
 pub mod OpenDowngrade
 pub mod Read
+pub mod Readdir
 pub mod ReleaseLockowner
+pub mod Setattr
 pub mod Setclientid
 pub mod SetclientidConfirm
 pub mod Write
@@ -61,6 +65,10 @@ IsPlain (ops.Lockt args) journal state request decision =
     lockt.IsRuled journal state request.filehandle args decision
 IsPlain (ops.Read args) journal state request decision =
     decision ≡ read.rule journal state request args
+IsPlain (ops.Readdir args) journal state request decision =
+    decision ≡ readdir.rule journal state request.filehandle args
+IsPlain (ops.Setattr args) journal state request decision =
+    decision ≡ setattr.rule journal state request args
 IsPlain (ops.Write args) journal state request decision =
     decision ≡ write.rule journal state request args
 IsPlain (ops.ReleaseLockowner args) journal state request decision =

@@ -16,6 +16,7 @@ mod sequence;
 mod stateids;
 mod transfer;
 mod turn;
+mod wish;
 
 pub use decision::Decision;
 pub use demand::{Demand, Kinds};
@@ -23,9 +24,12 @@ pub use entries::expire::{NotExpired, expire};
 pub use entries::forget::{NotForgotten, forget, next_idle};
 pub use entries::path::mark_path;
 pub use entries::revoke::revoke;
-pub use laws::{at_most_one_decision, judged_as_sequenced};
+pub use laws::{
+    at_most_one_decision, each_child_is_listed_once, judged_as_sequenced, limit_of_listings,
+};
 pub use opening::Opening;
 pub use operations::decide;
 pub use passage::Passage;
 pub use ruling::Ruling;
 pub use transfer::Transfer;
+pub use wish::Wish;

@@ -5,8 +5,8 @@ ghost use Rattle.nfs_rules.specs.Deciding.{Decides};
 ghost use Rattle.nfs_state.specs.Entries.{IsFilehandle};
 ghost use Rattle.nfs_state.specs.Room.{state_of};
 ghost use Rattle.nfs_state.specs.Store.{OwnersAgree};
+ghost use Rattle.nfs_tree.specs.Profiles.{has_entry};
 ghost use Rattle.nfs_xdr.specs.Names.{is_sequenced};
-ghost use Rattle.nfs_xdr.specs.Op.{has_entry};
 
 mod close;
 mod delegreturn;
@@ -18,8 +18,10 @@ mod open;
 mod open_confirm;
 mod open_downgrade;
 mod read;
+mod readdir;
 mod release_lockowner;
 mod sequenced;
+mod setattr;
 mod setclientid;
 mod setclientid_confirm;
 mod write;
@@ -29,11 +31,12 @@ use crate::sequence::{requester_of_open, requester_of_target};
 use crate::stateids::target_of;
 use nfs_state::{Request, Shortage, Store};
 use nfs_xdr::{Names, Op};
+pub use readdir::LISTING_LIMIT;
 use std::alloc::Global;
 
 /// Decides, by the operation's rule, how a request is answered and what it changes.
 pub fn decide(alloc: Global, store: &Store, request: &Request) -> Result<Decision, Shortage>
-    requires entry { IsTrue (has_entry request.now.op) }
+    requires entry { IsTrue (has_entry store.now.journal.history.policy.profile request.now.op) }
     requires node { IsFilehandle store.now.journal.history request.now.filehandle }
     requires numbers { store.now.tables.clients.registry.last_confirm < 2 ^ 64 - 1 }
     requires states { store.now.tables.numbers < 2 ^ 32 - 2 }
@@ -59,7 +62,7 @@ pub fn decide(alloc: Global, store: &Store, request: &Request) -> Result<Decisio
 
 // Decides an operation that goes by no sequence id.
 fn decide_plain(alloc: Global, store: &Store, request: &Request) -> Result<Decision, Shortage>
-    requires entry { IsTrue (has_entry request.now.op) }
+    requires entry { IsTrue (has_entry store.now.journal.history.policy.profile request.now.op) }
     requires other { IsFalse (is_sequenced request.now.op) }
     requires node { IsFilehandle store.now.journal.history request.now.filehandle }
     requires numbers { store.now.tables.clients.registry.last_confirm < 2 ^ 64 - 1 }
@@ -73,6 +76,8 @@ fn decide_plain(alloc: Global, store: &Store, request: &Request) -> Result<Decis
         Op::SetclientidConfirm(args) => setclientid_confirm::decide(alloc, store, request, args),
         Op::Lockt(args) => lockt::decide(store, request, args),
         Op::Read(args) => read::decide(alloc, store, request, args),
+        Op::Readdir(args) => readdir::decide(alloc, store, request, args),
+        Op::Setattr(args) => setattr::decide(alloc, store, request, args),
         Op::Write(args) => write::decide(store, request, args),
         Op::ReleaseLockowner(args) => release_lockowner::decide(&store.tables, args),
         _ => unreachable!(),

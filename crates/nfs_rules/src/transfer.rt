@@ -16,6 +16,8 @@ use nfs_xdr::{Opnum, Refusal, Stateid};
 pub enum Transfer {
     Read,
     Write,
+    /// The file gets another size, by SETATTR.
+    Resize,
 }
 
 impl Transfer {
@@ -25,6 +27,7 @@ impl Transfer {
         match self {
             Transfer::Read => Opnum::Read,
             Transfer::Write => Opnum::Write,
+            Transfer::Resize => Opnum::Setattr,
         }
     }
 
@@ -34,7 +37,7 @@ impl Transfer {
     {
         match self {
             Transfer::Read => Modes::READ,
-            Transfer::Write => Modes::WRITE,
+            Transfer::Write | Transfer::Resize => Modes::WRITE,
         }
     }
 
@@ -44,7 +47,7 @@ impl Transfer {
     {
         match self {
             Transfer::Read => true,
-            Transfer::Write => kind == DelegationKind::Write,
+            Transfer::Write | Transfer::Resize => kind == DelegationKind::Write,
         }
     }
 

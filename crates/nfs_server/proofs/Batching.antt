@@ -85,8 +85,8 @@ answered_more rules before mid after message bytes a first more one =
       served = a.served ∙ ap (λ (l : List (List ℕ)). messages_of a.exchanges ++ l) (first ∙ ap (λ (m : List ℕ). m ∷ after.left) (sym one.1)) ∙ messages-more a.exchanges e after.left;
       exchanged = exchanged_more rules a.exchanges e before.service mid.service after.service before.clock mid.clock after.clock (reached rules before mid a) one.2;
       stays = refl;
-      written = more ∙ ap (λ (b : List ℕ). mid.gathered ++ b) one.3 ∙ ap (λ (g : List ℕ). g ++ written_for rules.tree e) a.written ∙ append_assoc before.gathered (written_for_all rules.tree a.exchanges) (written_for rules.tree e)
-          ∙ ap (λ (w : List ℕ). before.gathered ++ w) (sym (written-more rules.tree a.exchanges e));
+      written = more ∙ ap (λ (b : List ℕ). mid.gathered ++ b) one.3 ∙ ap (λ (g : List ℕ). g ++ written_for rules.export e) a.written ∙ append_assoc before.gathered (written_for_all rules.export a.exchanges) (written_for rules.export e)
+          ∙ ap (λ (w : List ℕ). before.gathered ++ w) (sym (written-more rules.export a.exchanges e));
     }
 
 -- there was no room for answering the next one
@@ -163,7 +163,7 @@ serves_more device rules before mid messages left waiting after s a =
       served = s.served ∙ ap (λ (l : List (List ℕ)). messages_of s.exchanges ++ l) a.served ∙ sym (append_assoc (messages_of s.exchanges) (messages_of a.exchanges) after.left)
           ∙ ap (λ (m : List (List ℕ)). m ++ after.left) (sym (messages-append s.exchanges a.exchanges));
       exchanged = exchanged_then rules s.exchanges a.exchanges before.service mid.service after.service before.clock mid.clock after.clock s.exchanged (reached rules start after a);
-      all = written-append rules.tree s.exchanges a.exchanges ∙ ap (λ (w : List ℕ). w ++ written_for_all rules.tree a.exchanges) s.all ∙ append_assoc s.out waiting (written_for_all rules.tree a.exchanges)
+      all = written-append rules.export s.exchanges a.exchanges ∙ ap (λ (w : List ℕ). w ++ written_for_all rules.export a.exchanges) s.all ∙ append_assoc s.out waiting (written_for_all rules.export a.exchanges)
           ∙ ap (λ (w : List ℕ). s.out ++ w) (sym a.written);
       written = s.written;
     }
@@ -179,7 +179,7 @@ serves_part device rules before mid messages left waiting refused after s none a
       ∙ sym (append_assoc (messages_of s.exchanges) (messages_of a.exchanges) refused)
       ∙ ap (λ (m : List (List ℕ)). m ++ refused) (sym (messages-append s.exchanges a.exchanges));
   exchanged = exchanged_then rules s.exchanges a.exchanges before.service mid.service a.service before.clock mid.clock after.clock s.exchanged a.exchanged;
-  all = written-append rules.tree s.exchanges a.exchanges ∙ ap (λ (w : List ℕ). w ++ written_for_all rules.tree a.exchanges) s.all ∙ append_assoc s.out waiting (written_for_all rules.tree a.exchanges)
+  all = written-append rules.export s.exchanges a.exchanges ∙ ap (λ (w : List ℕ). w ++ written_for_all rules.export a.exchanges) s.all ∙ append_assoc s.out waiting (written_for_all rules.export a.exchanges)
       ∙ ap (λ (w : List ℕ). s.out ++ w) (sym a.written);
   written = s.written;
 }

@@ -6,7 +6,7 @@ use Rattle.std.proofs.KnownBytes.{Appends-nil, Appends-kept, Appends-trans, Cons
 use Rattle.std.proofs.lemmas.List.{append-nil, length-append}
 use Rattle.std.proofs.lemmas.List.Concat.{flat_map-cons}
 use Rattle.nfs_rpc.specs.Records.{IsRest, SplitGoesOn, Splits}
-use Rattle.nfs_tree.specs.Tree.{Files}
+use Rattle.nfs_tree.specs.Exports.{Exported}
 use Rattle.nfs_server.specs.declared.serve_error.ServeError.TheVariants as errors
 use Rattle.nfs_server.specs.Connection.{Scene, Turn, Course, AreTurns, EndsWith, IsIdle, IsTurn, all_exchanges, exchanges_of, rest_after, text_of}
 use Rattle.nfs_server.specs.Sides.{device_of}
@@ -118,19 +118,19 @@ turn_bytes device rules remaining contents tells out before carried turn after w
 
 turns_bytes : {D S C : Type 0} (device : Device D) (rules : Rules S C) (remaining contents : D → Option (List ℕ)) (tells : TellsBytes device remaining contents) (before : Scene D S C) (carried : List ℕ) (turns : List Turn) (after : Scene D S C)
     → AreTurns device rules before carried turns after
-    → Consumes (remaining before.device) (remaining after.device) (text_of turns) × Appends (contents before.device) (contents after.device) (written_for_all rules.tree (exchanges_of turns))
+    → Consumes (remaining before.device) (remaining after.device) (text_of turns) × Appends (contents before.device) (contents after.device) (written_for_all rules.export (exchanges_of turns))
 turns_bytes {D = D} {S = S} {C = C} device rules remaining contents tells before carried [] after are = (
   subst (λ (s : Scene D S C). Consumes (remaining before.device) (remaining s.device) []) (sym are) (Consumes-nil (remaining before.device)),
   subst (λ (s : Scene D S C). Appends (contents before.device) (contents s.device) []) (sym are) (Appends-nil (contents before.device)),
 )
 turns_bytes device rules remaining contents tells before carried (turn ∷ turns) after are =
     let mid = are.0 in
-    let written = written_for_all rules.tree turn.exchanges in
-    let others = written_for_all rules.tree (exchanges_of turns) in
+    let written = written_for_all rules.export turn.exchanges in
+    let others = written_for_all rules.export (exchanges_of turns) in
     let one = turn_bytes device rules remaining contents tells IsWritten before carried turn mid written are.1 (written_bytes device remaining contents tells are.1.mid mid.device written are.1.written) in
     let more = turns_bytes device rules remaining contents tells mid turn.rest turns after are.4 in
-    let all : written ++ others ≡ written_for_all rules.tree (exchanges_of (turn ∷ turns)) =
-    sym (ap (λ (es : List Exchange). written_for_all rules.tree es) (flat_map-cons (λ (t : Turn). t.exchanges) turn turns) ∙ written-append rules.tree turn.exchanges (exchanges_of turns)) in (
+    let all : written ++ others ≡ written_for_all rules.export (exchanges_of (turn ∷ turns)) =
+    sym (ap (λ (es : List Exchange). written_for_all rules.export es) (flat_map-cons (λ (t : Turn). t.exchanges) turn turns) ∙ written-append rules.export turn.exchanges (exchanges_of turns)) in (
       subst (λ (x : List ℕ). Consumes (remaining before.device) (remaining after.device) x) (sym (flat_map-cons (λ (t : Turn). t.piece) turn turns)) (Consumes-trans (remaining before.device) (remaining mid.device) (remaining after.device) turn.piece (text_of turns) one.0 more.0),
       subst (λ (x : List ℕ). Appends (contents before.device) (contents after.device) x) all (Appends-trans (contents before.device) (contents mid.device) (contents after.device) written others one.1 more.1),
     )
@@ -138,40 +138,40 @@ turns_bytes device rules remaining contents tells before carried (turn ∷ turns
 -- which bytes a last turn read and wrote whose replies were all written
 last_bytes : {D S C : Type 0} (device : Device D) (rules : Rules S C) (remaining contents : D → Option (List ℕ)) (tells : TellsBytes device remaining contents) (before : Scene D S C) (carried : List ℕ) (last : Turn) (after : Scene D S C)
     → IsTurn device rules IsWritten before carried last after
-    → Consumes (remaining before.device) (remaining after.device) last.piece × Appends (contents before.device) (contents after.device) (written_for_all rules.tree last.exchanges)
+    → Consumes (remaining before.device) (remaining after.device) last.piece × Appends (contents before.device) (contents after.device) (written_for_all rules.export last.exchanges)
 last_bytes device rules remaining contents tells before carried last after t =
-    turn_bytes device rules remaining contents tells IsWritten before carried last after (written_for_all rules.tree last.exchanges) t (written_bytes device remaining contents tells t.mid after.device (written_for_all rules.tree last.exchanges) t.written)
+    turn_bytes device rules remaining contents tells IsWritten before carried last after (written_for_all rules.export last.exchanges) t (written_bytes device remaining contents tells t.mid after.device (written_for_all rules.export last.exchanges) t.written)
 
 -- a last turn without exchanges wrote nothing
-silent_bytes : (tree : Files) (es : List Exchange) (a b : Option (List ℕ)) → es ≡ [] → b ≡ a → Appends a b (written_for_all tree es)
-silent_bytes tree es a b none same = rw (none, same) (Appends-nil a)
+silent_bytes : (export : Exported) (es : List Exchange) (a b : Option (List ℕ)) → es ≡ [] → b ≡ a → Appends a b (written_for_all export es)
+silent_bytes export es a b none same = rw (none, same) (Appends-nil a)
 
 -- which bytes the turns and the last turn read and wrote together, if all replies were written
 joined_bytes : {D S C : Type 0} (device : Device D) (rules : Rules S C) (remaining contents : D → Option (List ℕ)) (tells : TellsBytes device remaining contents) (before mid after : Scene D S C) (course : Course)
     → AreTurns device rules before [] course.turns mid
-    → Consumes (remaining mid.device) (remaining after.device) course.last.piece × Appends (contents mid.device) (contents after.device) (written_for_all rules.tree course.last.exchanges)
+    → Consumes (remaining mid.device) (remaining after.device) course.last.piece × Appends (contents mid.device) (contents after.device) (written_for_all rules.export course.last.exchanges)
     → Consumes (remaining before.device) (remaining after.device) (text_of course.turns ++ course.last.piece)
-    × Appends (contents before.device) (contents after.device) (written_for_all rules.tree (all_exchanges course))
+    × Appends (contents before.device) (contents after.device) (written_for_all rules.export (all_exchanges course))
 joined_bytes device rules remaining contents tells before mid after course are end =
     let turns = turns_bytes device rules remaining contents tells before [] course.turns mid are in (
       Consumes-trans (remaining before.device) (remaining mid.device) (remaining after.device) (text_of course.turns) course.last.piece turns.0 end.0,
-      subst (λ (x : List ℕ). Appends (contents before.device) (contents after.device) x) (sym (written-append rules.tree (exchanges_of course.turns) course.last.exchanges))
-          (Appends-trans (contents before.device) (contents mid.device) (contents after.device) (written_for_all rules.tree (exchanges_of course.turns)) (written_for_all rules.tree course.last.exchanges) turns.1 end.1),
+      subst (λ (x : List ℕ). Appends (contents before.device) (contents after.device) x) (sym (written-append rules.export (exchanges_of course.turns) course.last.exchanges))
+          (Appends-trans (contents before.device) (contents mid.device) (contents after.device) (written_for_all rules.export (exchanges_of course.turns)) (written_for_all rules.export course.last.exchanges) turns.1 end.1),
     )
 
 idle_bytes : {D S C : Type 0} (device : Device D) (rules : Rules S C) (remaining contents : D → Option (List ℕ)) (tells : TellsBytes device remaining contents) (before : Scene D S C) (last : Turn) (after : Scene D S C)
     → IsIdle device rules before last after
-    → Consumes (remaining before.device) (remaining after.device) last.piece × Appends (contents before.device) (contents after.device) (written_for_all rules.tree last.exchanges)
+    → Consumes (remaining before.device) (remaining after.device) last.piece × Appends (contents before.device) (contents after.device) (written_for_all rules.export last.exchanges)
 idle_bytes device rules remaining contents tells before last after idle =
     let read = tells.gives before.device after.device last.piece idle.2 in
-    (read.0, silent_bytes rules.tree last.exchanges (contents before.device) (contents after.device) idle.0 read.2)
+    (read.0, silent_bytes rules.export last.exchanges (contents before.device) (contents after.device) idle.0 read.2)
 
 memory_bytes : {D S C : Type 0} (device : Device D) (rules : Rules S C) (remaining contents : D → Option (List ℕ)) (tells : TellsBytes device remaining contents) (before : Scene D S C) (course : Course) (after : Scene D S C)
     → EndsWith device rules before course (Err errors.Memory) after
-    → Consumes (remaining before.device) (remaining after.device) course.last.piece × Appends (contents before.device) (contents after.device) (written_for_all rules.tree course.last.exchanges)
+    → Consumes (remaining before.device) (remaining after.device) course.last.piece × Appends (contents before.device) (contents after.device) (written_for_all rules.export course.last.exchanges)
 memory_bytes {D = D} {S = S} {C = C} device rules remaining contents tells before course after (inl ends) = (
   rw (ends.2) (subst (λ (s : Scene D S C). Consumes (remaining before.device) (remaining s.device) []) (sym ends.3) (Consumes-nil (remaining before.device))),
-  silent_bytes rules.tree course.last.exchanges (contents before.device) (contents after.device) ends.1 (ap (λ (s : Scene D S C). contents s.device) ends.3),
+  silent_bytes rules.export course.last.exchanges (contents before.device) (contents after.device) ends.1 (ap (λ (s : Scene D S C). contents s.device) ends.3),
 )
 memory_bytes device rules remaining contents tells before course after (inr (inl ends)) = idle_bytes device rules remaining contents tells before course.last after ends.0
 memory_bytes device rules remaining contents tells before course after (inr (inr ends)) = last_bytes device rules remaining contents tells before (rest_after [] course.turns) course.last after ends.0
@@ -180,13 +180,13 @@ pub has_bytes : {D S C : Type 0} (device : Device D) (rules : Rules S C) (remain
 has_bytes device rules remaining contents tells before after course (Ok len) is =
     let all = joined_bytes device rules remaining contents tells before is.0 after course is.1 (idle_bytes device rules remaining contents tells is.0 course.last after is.3.0) in
     let read = tells.gives is.0.device after.device course.last.piece is.3.0.2 in
-    (all.0, read.1 is.3.1, (written_for_all rules.tree (all_exchanges course), refl, all.1))
+    (all.0, read.1 is.3.1, (written_for_all rules.export (all_exchanges course), refl, all.1))
 has_bytes device rules remaining contents tells before after course (Err errors.Read) is =
     let failed = tells.fails_to_read is.0.device after.device is.3.3 in
     let none : Consumes (remaining is.0.device) (remaining after.device) course.last.piece =
     rw (is.3.1) (Consumes-kept (remaining is.0.device) (remaining is.0.device) (remaining after.device) [] (Consumes-nil (remaining is.0.device)) failed.0) in
-    let all = joined_bytes device rules remaining contents tells before is.0 after course is.1 (none, silent_bytes rules.tree course.last.exchanges (contents is.0.device) (contents after.device) is.3.0 failed.1) in
-    (all.0, tt, (written_for_all rules.tree (all_exchanges course), refl, all.1))
+    let all = joined_bytes device rules remaining contents tells before is.0 after course is.1 (none, silent_bytes rules.export course.last.exchanges (contents is.0.device) (contents after.device) is.3.0 failed.1) in
+    (all.0, tt, (written_for_all rules.export (all_exchanges course), refl, all.1))
 has_bytes device rules remaining contents tells before after course (Err errors.Write) is =
     let mid = is.0 in
     let t = is.3.0 in
@@ -199,17 +199,17 @@ has_bytes device rules remaining contents tells before after course (Err errors.
       Consumes-trans (remaining before.device) (remaining mid.device) (remaining after.device) (text_of course.turns) course.last.piece turns.0 end.0,
       tt,
       (
-        written_for_all rules.tree (exchanges_of course.turns) ++ cut.0,
+        written_for_all rules.export (exchanges_of course.turns) ++ cut.0,
         (cut.0, cut.1, cut.3, cut.4, refl),
-        Appends-trans (contents before.device) (contents mid.device) (contents after.device) (written_for_all rules.tree (exchanges_of course.turns)) cut.0 turns.1 end.1,
+        Appends-trans (contents before.device) (contents mid.device) (contents after.device) (written_for_all rules.export (exchanges_of course.turns)) cut.0 turns.1 end.1,
       ),
     )
 has_bytes device rules remaining contents tells before after course (Err errors.TooLong) is =
     let all = joined_bytes device rules remaining contents tells before is.0 after course is.1 (last_bytes device rules remaining contents tells is.0 (rest_after [] course.turns) course.last after is.3.0) in
-    (all.0, tt, (written_for_all rules.tree (all_exchanges course), refl, all.1))
+    (all.0, tt, (written_for_all rules.export (all_exchanges course), refl, all.1))
 has_bytes {D = D} {S = S} {C = C} device rules remaining contents tells before after course (Err errors.TooMuch) is =
     let all = joined_bytes device rules remaining contents tells before is.0 after course is.1 (idle_bytes device rules remaining contents tells is.0 course.last after is.3.0) in
-    (all.0, tt, (written_for_all rules.tree (all_exchanges course), refl, all.1))
+    (all.0, tt, (written_for_all rules.export (all_exchanges course), refl, all.1))
 has_bytes {D = D} {S = S} {C = C} device rules remaining contents tells before after course (Err errors.Memory) is =
     let all = joined_bytes device rules remaining contents tells before is.0 after course is.1 (memory_bytes device rules remaining contents tells is.0 course after is.3) in
-    (all.0, tt, (written_for_all rules.tree (all_exchanges course), refl, all.1))
+    (all.0, tt, (written_for_all rules.export (all_exchanges course), refl, all.1))

@@ -17,12 +17,12 @@ use Rattle.nfs_forms.specs.declared.principal.Principal.{Principal}
 abbrev pub IsAnswered : {S C : Type 0} → Rules S C → S → C → List ℕ → List ℕ → S → C → Type 0
 IsAnswered rules service clock message bytes service' clock' =
     (e : Exchange) × (e.message ≡ message) × IsExchanged rules service clock e service' clock'
-    × (bytes ≡ written_for rules.tree e)
+    × (bytes ≡ written_for rules.export e)
 
 -- what is to be written for the message is put behind that of others
 pub answered_behind : {S C : Type 0} (rules : Rules S C) (service service' : S) (clock clock' : C) (message bytes : List ℕ) (old new : List (List ℕ)) (len : ℕ)
     → IsAnswered rules service clock message bytes service' clock' → new ≡ old ++ bytes ∷ [] → len ≡ length bytes
-    → (e : Exchange) × (e.message ≡ message) × IsExchanged rules service clock e service' clock' × (new ≡ old ++ written_for rules.tree e ∷ []) × (len ≡ length (written_for rules.tree e))
+    → (e : Exchange) × (e.message ≡ message) × IsExchanged rules service clock e service' clock' × (new ≡ old ++ written_for rules.export e ∷ []) × (len ≡ length (written_for rules.export e))
 answered_behind rules service service' clock clock' message bytes old new len one more counted =
     (one.0, one.1, one.2, more ∙ ap (λ (b : List ℕ). old ++ b ∷ []) one.3, counted ∙ ap (λ (b : List ℕ). length b) one.3)
 
@@ -40,7 +40,7 @@ answers_alone rules service clock message bytes xid reply call written =
 
 pub answers_compound : {S C : Type 0} (rules : Rules S C) (service ready service' : S) (clock clock' : C) (message bytes : List ℕ) (xid moment : ℕ) (principal : Principal) (compound : Compound) (reply : CompoundReply)
     → IsCall message (calls.Compound xid principal compound) → rules.alike service ready → rules.tells clock moment clock'
-    → (answers : List OpResult) × Asks rules.gives ready (map (question_of moment principal) (compound_outcome rules.tree compound answers).asked) answers service' × (reply ≡ compound_reply rules.tree compound answers)
+    → (answers : List OpResult) × Asks rules.gives ready (map (question_of moment principal) (compound_outcome rules.export compound answers).asked) answers service' × (reply ≡ compound_reply rules.export compound answers)
     → bytes ≡ written_record (written_reply xid (replies.Compound reply)) → IsAnswered rules service clock message bytes service' clock'
 answers_compound rules service ready service' clock clock' message bytes xid moment principal compound reply call alike told asked written = (
   record { message = message; call = calls.Compound xid principal compound; moment = moment; answers = asked.0 },

@@ -25,7 +25,7 @@ with_result answer same = ap (λ (r : List OpResult). answer ∷ r) same
 -- an operation with this dispatch, and what follows its answer
 determined_by : {S : Type 0} (asker : Asker S) (old : Place S) (op : ArgOp) (ops : List ArgOp)
     (effect : Effect) (results : List OpResult) (service new : S) (ok : Bool) (how : Dispatch)
-    → dispatch asker.tree old.handles old.size op ≡ how → is_ok (status_of effect.answer) ≡ ok
+    → dispatch asker.export old.handles old.size op ≡ how → is_ok (status_of effect.answer) ≡ ok
     → HasEffect asker old how effect service
     → Follows asker (place_after old effect service) ok ops results new
     → IsDetermined asker old (op ∷ ops) (effect.answer ∷ results) new
@@ -71,7 +71,7 @@ completes : {S : Type 0} (asker : Asker S) (first now : Place S) (ops rest rest'
     → Follows asker (place_after now effect service) ok rest' results new
     → IsDetermined asker first ops (so_far ++ effect.answer ∷ results) new
 completes asker first now ops rest rest' so_far op effect service results new ok is has goes more follows =
-    let how = dispatch asker.tree now.handles now.size op in
+    let how = dispatch asker.export now.handles now.size op in
     let all =
     determined_by asker now op rest' effect results service new ok how refl goes has follows in
     let Left : List ArgOp → Type 0 = λ o. IsDetermined asker now o (effect.answer ∷ results) new in

@@ -8,7 +8,7 @@ use Rattle.nfs_core.specs.declared.entered.Entered.{Entered}
 use Rattle.nfs_state.specs.State.{History}
 use Rattle.nfs_state.specs.Entries.{entry_of}
 use Rattle.nfs_state.specs.declared.request.Request.{Request}
-use Rattle.nfs_tree.specs.Tree.{Files}
+use Rattle.nfs_tree.specs.Exports.{Exported}
 use Rattle.nfs_server.specs.Asking.{Operation, Question, Renewal}
 use Rattle.nfs_server.specs.CourseLaws.{GainsEntries}
 use Rattle.nfs_server.specs.Device.{Device}
@@ -72,6 +72,6 @@ pub questions_are_entries : QuestionsAreEntries
 questions_are_entries old new questions answers asked =
     asked_gain IsGiven AreAlikeLent LentGains lent_gains old new questions answers asked
 
-pub gains_entries : {D C : Type 0} (device : Device D) (tree : Files) (tells : C → ℕ → C → Type 0) → GainsEntries device (answered_by tree IsGiven AreAlikeLent tells)
-gains_entries device tree tells before after course result is =
-    course_gains device (answered_by tree IsGiven AreAlikeLent tells) LentGains lent_gains before course result after is
+pub gains_entries : {D C : Type 0} (device : Device D) (export : Exported) (tells : C → ℕ → C → Type 0) → GainsEntries device (answered_by export IsGiven AreAlikeLent tells)
+gains_entries device export tells before after course result is =
+    course_gains device (answered_by export IsGiven AreAlikeLent tells) LentGains lent_gains before course result after is

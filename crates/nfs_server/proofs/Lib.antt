@@ -1,5 +1,6 @@
 pub mod Limits
 pub mod Folding
+pub mod Refused
 pub mod Replying
 pub mod Exchanges
 pub mod Serving

@@ -4,7 +4,7 @@ use Rattle.std.specs.Prelude.{◌≢◌, OnOk, OnErr, IsErrOf}
 use Rattle.std.proofs.lemmas.List.{append-nil}
 use Rattle.std.proofs.lemmas.List.Concat.{flat_map-cons}
 use Rattle.std.proofs.lemmas.Grind.{flat_map-append}
-use Rattle.nfs_tree.specs.Tree.{Files}
+use Rattle.nfs_tree.specs.Exports.{Exported}
 use Rattle.nfs_server.specs.declared.serve_error.ServeError.{ServeError}
 use Rattle.nfs_server.specs.declared.serve_error.ServeError.TheVariants as errors
 use Rattle.nfs_server.specs.Connection.{Scene, scene}
@@ -27,11 +27,11 @@ pub messages-more : (es : List Exchange) (e : Exchange) (left : List (List ℕ))
 messages-more [] e left = refl
 messages-more (f ∷ es) e left = ap (λ (x : List (List ℕ)). f.message ∷ x) (messages-more es e left)
 
-pub written-append : (tree : Files) (es fs : List Exchange) → written_for_all tree (es ++ fs) ≡ written_for_all tree es ++ written_for_all tree fs
-written-append tree es fs = flat_map-append (written_for tree) es fs
+pub written-append : (export : Exported) (es fs : List Exchange) → written_for_all export (es ++ fs) ≡ written_for_all export es ++ written_for_all export fs
+written-append export es fs = flat_map-append (written_for export) es fs
 
-pub written-more : (tree : Files) (es : List Exchange) (e : Exchange) → written_for_all tree (es ++ e ∷ []) ≡ written_for_all tree es ++ written_for tree e
-written-more tree es e = written-append tree es (e ∷ []) ∙ ap (λ (x : List ℕ). written_for_all tree es ++ x) (flat_map-cons (written_for tree) e [] ∙ append-nil (written_for tree e))
+pub written-more : (export : Exported) (es : List Exchange) (e : Exchange) → written_for_all export (es ++ e ∷ []) ≡ written_for_all export es ++ written_for export e
+written-more export es e = written-append export es (e ∷ []) ∙ ap (λ (x : List ℕ). written_for_all export es ++ x) (flat_map-cons (written_for export) e [] ∙ append-nil (written_for export e))
 
 -- All messages except those that are left were answered; some bytes of the replies were written, and the others wait.
 pub record HasServed {D S C : Type 0} (device : Device D) (rules : Rules S C) (before : Scene D S C) (messages left : List (List ℕ)) (waiting : List ℕ) (after : Scene D S C) : Type 0 where
@@ -39,7 +39,7 @@ pub record HasServed {D S C : Type 0} (device : Device D) (rules : Rules S C) (b
   pub out : List ℕ
   pub served : messages ≡ messages_of exchanges ++ left
   pub exchanged : AreExchanged rules before.service before.clock exchanges after.service after.clock
-  pub all : written_for_all rules.tree exchanges ≡ out ++ waiting
+  pub all : written_for_all rules.export exchanges ≡ out ++ waiting
   pub written : IsWritten device before.device out after.device
 
 pub serves_none : {D S C : Type 0} (device : Device D) (rules : Rules S C) (before : Scene D S C) (messages : List (List ℕ)) (waiting : List ℕ) → waiting ≡ [] → HasServed device rules before messages messages waiting before

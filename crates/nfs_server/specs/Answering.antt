@@ -10,8 +10,9 @@ use Rattle.nfs_tree.specs.declared.filehandles.Filehandles.{Filehandles}
 use Rattle.nfs_tree.specs.Effect.{Effect, stays}
 use Rattle.nfs_tree.specs.Filehandles.{handles_after, no_filehandles}
 use Rattle.nfs_tree.specs.operations.{effect_of}
-use Rattle.nfs_tree.specs.Tree.{Files}
+use Rattle.nfs_tree.specs.Profiles as profiles
 use Rattle.nfs_rpc.specs.Reply.{written_reply}
+use Rattle.nfs_tree.specs.Exports.{Exported}
 use Rattle.nfs_state.specs.Entries.{resource}
 use Rattle.nfs_xdr.specs.declared.arg_op.ArgOp.{ArgOp}
 use Rattle.nfs_xdr.specs.declared.arg_op.ArgOp.TheVariants.{Run, BadArgs, Unsupported, Illegal}
@@ -21,6 +22,7 @@ use Rattle.nfs_xdr.specs.declared.compound.CompoundRequest.TheVariants.{MinorVer
 use Rattle.nfs_xdr.specs.declared.op.Op.{Op}
 use Rattle.nfs_xdr.specs.declared.op.Op.TheVariants as ops
 use Rattle.nfs_xdr.specs.declared.op_result.OpResult.{OpResult}
+use Rattle.nfs_xdr.specs.declared.opnum.Opnum.{Opnum}
 use Rattle.nfs_xdr.specs.declared.opnum.Opnum.TheVariants as opnums
 use Rattle.nfs_forms.specs.declared.client_id.ClientId.{ClientId}
 use Rattle.nfs_forms.specs.declared.status.Refusal.TheVariants as refusals
@@ -74,38 +76,53 @@ abbrev pub by_effect : Option Effect → Asked → Dispatch
 by_effect (Some effect) question = Known effect
 by_effect None question = Ask question
 
--- An entry that ends the list isn't run. An operation is run only if there is room for any answer to it after the first
--- `size` bytes of the reply's record.
-abbrev pub dispatch : Files → Filehandles → ℕ → ArgOp → Dispatch
-dispatch tree handles size (BadArgs o) = Known (stays handles (refusal_of o refusals.BadXdr))
-dispatch tree handles size (Unsupported o) =
+-- the operation of an entry of the list
+abbrev pub opnum_in : ArgOp → Opnum
+opnum_in (Run op) = opnum_of op
+opnum_in (BadArgs o) = o
+opnum_in (Unsupported o) = opnums.Unsupported o
+opnum_in (Illegal number) = opnums.Illegal
+
+-- An entry that the profile doesn't refuse, as each does with an operation without a rule. One that ends the list isn't
+-- run. An operation is run only if there is room for any answer to it after the first `size` bytes of the reply's record.
+abbrev pub allowed : Exported → Filehandles → ℕ → ArgOp → Dispatch
+allowed export handles size (BadArgs o) =
+    Known (stays handles (refusal_of o refusals.BadXdr))
+allowed export handles size (Unsupported o) =
     Known (stays handles (refusal_of (opnums.Unsupported o) refusals.NotSupp))
-dispatch tree handles size (Illegal number) =
+allowed export handles size (Illegal number) =
     Known (stays handles (refusal_of opnums.Illegal refusals.OpIllegal))
-dispatch tree handles size (Run op) =
+allowed export handles size (Run op) =
     if not (nat_le (size + room_of (opnum_of op)) RECORD_LIMIT)
     then Known (stays handles (resource op))
-    else by_effect (effect_of tree handles op) (question_for op handles.current)
+    else by_effect (effect_of export handles op) (question_for op handles.current)
+
+-- What the profile refuses whatever the arguments are is refused first, without any room.
+abbrev pub dispatch : Exported → Filehandles → ℕ → ArgOp → Dispatch
+dispatch export handles size entry = elim (profiles.refusal export.profile (opnum_in entry)) [
+  | Some refusal ↦ Known (stays handles (refusal_of (opnum_in entry) refusal))
+  | None ↦ allowed export handles size entry
+]
 
 -- The filehandles after the service's answer: with NFS4_OK they follow the operation.
-abbrev pub handles_after_answer : Files → Filehandles → Asked → OpResult → Filehandles
-handles_after_answer tree handles (Operation op filehandle) answer =
-    if is_ok (status_of answer) then handles_after tree handles op else handles
-handles_after_answer tree handles (Renewal client) answer = handles
+abbrev pub handles_after_answer : Exported → Filehandles → Asked → OpResult → Filehandles
+handles_after_answer export handles (Operation op filehandle) answer =
+    if is_ok (status_of answer) then handles_after export.nodes handles op else handles
+handles_after_answer export handles (Renewal client) answer = handles
 
 -- The questions and the results of the operations, whose results follow the first `size` bytes of the reply's record.
-unfoldable pub outcome_of : Files → Filehandles → ℕ → List ArgOp → List OpResult → Outcome
-outcome_of tree handles size [] answers = record { asked = []; results = [] }
-outcome_of tree handles size (op ∷ ops) answers =
+unfoldable pub outcome_of : Exported → Filehandles → ℕ → List ArgOp → List OpResult → Outcome
+outcome_of export handles size [] answers = record { asked = []; results = [] }
+outcome_of export handles size (op ∷ ops) answers =
     let size_with : OpResult → ℕ = λ answer. size + length (op_result.encoding answer) in
-    elim (dispatch tree handles size op) [
+    elim (dispatch export handles size op) [
       | Known effect ↦
           continues effect.answer
-          (outcome_of tree effect.after (size_with effect.answer) ops answers)
+          (outcome_of export effect.after (size_with effect.answer) ops answers)
       | Ask question ↦
           asks question answers
           (λ answer others.
-          outcome_of tree (handles_after_answer tree handles question answer) (size_with answer)
+          outcome_of export (handles_after_answer export handles question answer) (size_with answer)
           ops others)
     ]
 
@@ -132,24 +149,24 @@ request_status results (MinorVersion minor) = status.Refused refusals.MinorVersM
 request_status results (TooMany count) = status.Refused refusals.Resource
 request_status results (Operations ops) = last_status results
 
-abbrev pub compound_outcome : Files → Compound → List OpResult → Outcome
-compound_outcome tree c answers =
-    outcome_of tree no_filehandles (head_size c.tag) (operations_of c.request) answers
+abbrev pub compound_outcome : Exported → Compound → List OpResult → Outcome
+compound_outcome export c answers =
+    outcome_of export no_filehandles (head_size c.tag) (operations_of c.request) answers
 
-abbrev pub compound_reply : Files → Compound → List OpResult → CompoundReply
-compound_reply tree c answers =
-    let results = (compound_outcome tree c answers).results in
+abbrev pub compound_reply : Exported → Compound → List OpResult → CompoundReply
+compound_reply export c answers =
+    let results = (compound_outcome export c answers).results in
     record { status = request_status results c.request; tag = c.tag; results = results }
 
 -- what the service is asked for a call, given its answers
-abbrev pub asked : Files → RpcCall → List OpResult → List Asked
-asked tree (calls.Compound xid principal c) answers = (compound_outcome tree c answers).asked
-asked tree call answers = []
+abbrev pub asked : Exported → RpcCall → List OpResult → List Asked
+asked export (calls.Compound xid principal c) answers = (compound_outcome export c answers).asked
+asked export call answers = []
 
 -- the reply to a call, if there is one, given the service's answers
-abbrev pub reply : Files → RpcCall → List OpResult → Option (List ℕ)
-reply tree calls.Silent answers = None
-reply tree (calls.Null xid) answers = Some (written_reply xid replies.Null)
-reply tree (calls.Compound xid principal c) answers =
-    Some (written_reply xid (replies.Compound (compound_reply tree c answers)))
-reply tree (calls.Answer xid answer) answers = Some (written_reply xid answer)
+abbrev pub reply : Exported → RpcCall → List OpResult → Option (List ℕ)
+reply export calls.Silent answers = None
+reply export (calls.Null xid) answers = Some (written_reply xid replies.Null)
+reply export (calls.Compound xid principal c) answers =
+    Some (written_reply xid (replies.Compound (compound_reply export c answers)))
+reply export (calls.Answer xid answer) answers = Some (written_reply xid answer)

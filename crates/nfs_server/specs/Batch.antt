@@ -48,4 +48,4 @@ pub record AreAnswered {S C : Type 0} (rules : Rules S C) (before : Gathering S 
   pub served : before.left ≡ messages_of exchanges ++ (refused ++ after.left)
   pub exchanged : AreExchanged rules before.service before.clock exchanges service after.clock
   pub stays : AreLeft rules.alike service refused after.service
-  pub written : after.gathered ≡ before.gathered ++ written_for_all rules.tree exchanges
+  pub written : after.gathered ≡ before.gathered ++ written_for_all rules.export exchanges

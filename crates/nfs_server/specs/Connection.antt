@@ -38,7 +38,7 @@ pub record IsTurn {D S C : Type 0} (device : Device D) (rules : Rules S C)
       turn.rest
   pub exchanged : AreExchanged rules before.service before.clock turn.exchanges service after.clock
   pub left : AreLeft rules.alike service turn.unanswered after.service
-  pub written : goes_out device mid (written_for_all rules.tree turn.exchanges) after.device
+  pub written : goes_out device mid (written_for_all rules.export turn.exchanges) after.device
 
 -- Turns one after the other. In each of them every record is answered and every reply is written before the next read,
 -- and no record is too long.

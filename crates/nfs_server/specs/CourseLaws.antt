@@ -5,7 +5,7 @@ use Rattle.std.specs.List.{flat_map}
 use Rattle.std.specs.Io.KnownBytes.{Appends, Consumes, IsAtEnd, Keeps}
 use Rattle.nfs_state.specs.declared.entry.Entry.{Entry}
 use Rattle.nfs_rpc.specs.Records.{Splits}
-use Rattle.nfs_tree.specs.Tree.{Files}
+use Rattle.nfs_tree.specs.Exports.{Exported}
 use Rattle.nfs_server.specs.declared.serve_error.ServeError.{ServeError}
 use Rattle.nfs_server.specs.declared.serve_error.ServeError.TheVariants as errors
 use Rattle.nfs_server.specs.Leases.{LentCore}
@@ -27,12 +27,12 @@ IsOneText {D = D} {S = S} {C = C} device rules =
 
 -- What was written in a course: the replies to all records that were answered, or, if a write failed, a beginning of
 -- these replies that ends within those to the records of the last read.
-abbrev pub IsWrittenBy : {T : Type 0} → Files → Course → Result T ServeError → List ℕ → Type 0
-IsWrittenBy tree course (Err errors.Write) written =
+abbrev pub IsWrittenBy : {T : Type 0} → Exported → Course → Result T ServeError → List ℕ → Type 0
+IsWrittenBy export course (Err errors.Write) written =
     (front : List ℕ) × (back : List ℕ)
-    × (written_for_all tree course.last.exchanges ≡ front ++ back) × (back ≢ [])
-    × (written ≡ written_for_all tree (exchanges_of course.turns) ++ front)
-IsWrittenBy tree course result written = written ≡ written_for_all tree (all_exchanges course)
+    × (written_for_all export course.last.exchanges ≡ front ++ back) × (back ≢ [])
+    × (written ≡ written_for_all export (exchanges_of course.turns) ++ front)
+IsWrittenBy export course result written = written ≡ written_for_all export (all_exchanges course)
 
 -- The bytes of a device are known: those that reads will give, and those that were written.
 pub record TellsBytes {D : Type 0} (device : Device D)
@@ -66,7 +66,7 @@ HasBytes {D = D} {S = S} {C = C} device rules remaining contents =
     → Consumes (remaining before.device) (remaining after.device)
     (text_of course.turns ++ course.last.piece)
     × OnOk result (IsAtEnd (remaining after.device))
-    × ((written : List ℕ) × IsWrittenBy rules.tree course result written
+    × ((written : List ℕ) × IsWrittenBy rules.export course result written
     × Appends (contents before.device) (contents after.device) written)
 
 -- If the service is a core, its journal gains an entry for each operation that it was asked in a course and that wasn't
@@ -76,7 +76,7 @@ GainsEntries {D = D} {C = C} device rules =
     (before after : Scene D LentCore C) (course : Course) (result : Result ℕ ServeError)
     → IsCourse device rules before course result after
     → (entries : List Entry)
-    × AreEntries (flat_map (questions_of rules.tree) (all_exchanges course))
+    × AreEntries (flat_map (questions_of rules.export) (all_exchanges course))
     (flat_map (λ e. e.answers) (all_exchanges course)) entries
     × (after.service.core.journal
     ≡ record before.service.core.journal {

@@ -3,8 +3,8 @@ use Rattle.std.specs.Prelude.{◌≡◌, ℕ, ◌+◌, List, length, map}
 use Rattle.nfs_tree.specs.Effect.{Effect}
 use Rattle.nfs_tree.specs.declared.filehandles.Filehandles.{Filehandles}
 use Rattle.nfs_tree.specs.Filehandles.{no_filehandles}
-use Rattle.nfs_tree.specs.Tree.{Files}
-use Rattle.nfs_server.specs.Answering.{Asked, Dispatch, Known, Ask, Outcome, dispatch, handles_after_answer, outcome_of}
+use Rattle.nfs_tree.specs.Exports.{Exported, export_seen}
+use Rattle.nfs_server.specs.Answering.{Asked, Dispatch, Known, Ask, Outcome, allowed, dispatch, handles_after_answer, outcome_of}
 use Rattle.nfs_server.specs.Asking.{Asks, Question, question_of}
 use Rattle.nfs_server.specs.declared.compound.Context.{Context}
 use Rattle.nfs_xdr.specs.declared.arg_op.ArgOp.{ArgOp}
@@ -15,14 +15,14 @@ use Rattle.nfs_xdr.specs.OpResult.{op_result}
 -- What stays the same for all operations of a COMPOUND, and how the service may answer.
 pub record Asker (S : Type 0) : Type 1 where
   pub gives : S → Question → OpResult → S → Type 0
-  pub tree : Files
+  pub export : Exported
   pub moment : ℕ
   pub principal : Principal
 
 abbrev pub asker_of : {S : Type 0} → (S → Question → OpResult → S → Type 0) → Context → Asker S
 asker_of gives context = record {
   gives = gives;
-  tree = context.tree.now;
+  export = export_seen context.export.now;
   moment = context.moment;
   principal = context.principal;
 }
@@ -51,16 +51,21 @@ abbrev pub HasEffect : {S : Type 0} → Asker S → Place S → Dispatch → Eff
 HasEffect asker old (Known known) effect service = (effect ≡ known) × (service ≡ old.service)
 HasEffect asker old (Ask asked) effect service =
     asker.gives old.service (question_of asker.moment asker.principal asked) effect.answer service
-    × (effect.after ≡ handles_after_answer asker.tree old.handles asked effect.answer)
+    × (effect.after ≡ handles_after_answer asker.export old.handles asked effect.answer)
 
 -- At this place the operation has this effect, and leaves the service in this state.
 abbrev pub IsAnswered : {S : Type 0} → Asker S → Place S → ArgOp → Effect → S → Type 0
 IsAnswered asker old op effect service =
-    HasEffect asker old (dispatch asker.tree old.handles old.size op) effect service
+    HasEffect asker old (dispatch asker.export old.handles old.size op) effect service
+
+-- The same of an operation that the profile doesn't refuse.
+abbrev pub IsAllowed : {S : Type 0} → Asker S → Place S → ArgOp → Effect → S → Type 0
+IsAllowed asker old op effect service =
+    HasEffect asker old (allowed asker.export old.handles old.size op) effect service
 
 -- the questions and the results from this place on, given the service's answers
 abbrev pub outcome_from : {S : Type 0} → Asker S → Place S → List ArgOp → List OpResult → Outcome
-outcome_from asker old ops answers = outcome_of asker.tree old.handles old.size ops answers
+outcome_from asker old ops answers = outcome_of asker.export old.handles old.size ops answers
 
 -- The results are those that follow, from this place on, from some answers of the service to the questions that it is
 -- asked.

@@ -1,3 +1,4 @@
+pub mod Serves
 pub mod Answering
 pub mod Asking
 pub mod Leases

@@ -23,5 +23,5 @@ pub record IsServed {D S C T : Type 0} (device : Device D) (rules : Rules S C)
   pub left : AreLeft rules.alike service unanswered after.service
   pub none_left : OnOk result (unanswered ≡ [])
   pub some_left : IsErrOf result errors.Memory → unanswered ≢ []
-  pub written : GoesOut device result before.device (written_for_all rules.tree exchanges)
+  pub written : GoesOut device result before.device (written_for_all rules.export exchanges)
       after.device

@@ -4,13 +4,14 @@ ghost use Rattle.nfs_rpc.specs.Reply.{IsWritable, written_record, written_reply}
 ghost use Rattle.nfs_rpc.specs.declared.records.TheConstants.{RECORD_LIMIT};
 ghost use Rattle.nfs_rpc.specs.declared.reply.TheConstants.{SHORT_REPLY_LEN};
 ghost use Rattle.nfs_server.specs.Exchange.{Exchange, IsExchanged, rules, written_for};
+ghost use Rattle.nfs_tree.specs.Exports.{export_seen};
 ghost use Rattle.nfs_server.specs.declared.answered_call.TheConstants.{REPLY_LIMIT};
 
 use crate::compound::{AnsweredCompound, operation_count};
 use crate::pending_call::{PendingCall, keep_list};
 use crate::{Clock, Service, run_compound};
 use nfs_rpc::{ACCEPTED_LEN, HEADER_LEN, LAST_FRAGMENT, RECORD_LIMIT, Reply, RpcCall, write_reply};
-use nfs_tree::Tree;
+use nfs_tree::Export;
 use nfs_xdr::{ArgOp, OpResult};
 use std::alloc::AllocError;
 use std::collections::VecDeque;
@@ -52,24 +53,24 @@ impl Model for AnsweredCall {
 pub(crate) fn answer_call<S: Service, C: Clock>(
     pending: PendingCall,
     service: &mut S,
-    tree: &Tree,
+    export: &Export<'_>,
     clock: &mut C,
     answered: &mut VecDeque<AnsweredCall>,
     lists: &mut Vec<Vec<OpResult>>,
 ) -> Result<usize, AllocError>
-    requires serves { S.serves service.old ≡ tree.now.nodes }
+    requires serves { S.serves service.old ≡ export_seen export.now }
     requires room { deque_len answered.old < deque_capacity answered.old }
     ensures ok { IfOk result (λ len. (e : Exchange) × (e.message ≡ pending.message)
-        × IsExchanged (rules tree.now S.gives S.alike C.tells) service.old clock.old e
+        × IsExchanged (rules (export_seen export.now) S.gives S.alike C.tells) service.old clock.old e
         service.new clock.new
-        × (answered.new.items ≡ answered.old.items ++ written_for tree.now e ∷ [])
-        × (len ≡ length (written_for tree.now e))) }
+        × (answered.new.items ≡ answered.old.items ++ written_for (export_seen export.now) e ∷ [])
+        × (len ≡ length (written_for (export_seen export.now) e))) }
     ensures few { IfOk result (λ len. len ≤ REPLY_LIMIT) }
     ensures count { OnOk result (deque_len answered.new ≡ deque_len answered.old + 1) }
     ensures room { deque_capacity answered.old ≤ deque_capacity answered.new }
     ensures err { OnErr result (S.alike service.old service.new × (clock.new ≡ clock.old)
         × (answered.new.items ≡ answered.old.items)) }
-    ensures serves { S.serves service.new ≡ tree.now.nodes }
+    ensures serves { S.serves service.new ≡ export_seen export.now }
 {
     let (message, call, results) = pending.into_parts();
     match call {
@@ -86,7 +87,7 @@ pub(crate) fn answer_call<S: Service, C: Clock>(
             let questions = operation_count(&compound.request);
             let results = with_service_room(service, questions, results, lists)?;
             let moment = clock.now();
-            let compound = run_compound(service, tree, moment, principal, compound, results);
+            let compound = run_compound(service, export, moment, principal, compound, results);
             Ok(put(answered, AnsweredCall::with_results(message, xid, compound)))
         }
     }

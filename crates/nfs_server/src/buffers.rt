@@ -1,11 +1,12 @@
 ghost use Rattle.std.specs.Prelude.{◌≡◌, ◌-◌, ◌^◌, ◌<◌, ◌↔◌, IsErrOf};
 ghost use Rattle.nfs_server.specs.Connection.{HasCourse, scene};
 ghost use Rattle.nfs_server.specs.Exchange.{rules};
+ghost use Rattle.nfs_server.specs.Serves.{exported};
 
 use crate::connection::{PIECE_LEN, serve_turns};
 use crate::replies::Replies;
 use crate::{Clock, Duplex, ServeError, Service};
-use nfs_tree::Tree;
+use nfs_tree::{Export, Tree};
 use std::alloc::{AllocError, Global};
 use std::marker::Model;
 
@@ -48,9 +49,10 @@ impl Buffers {
     ) -> Result<usize, ServeError>
         requires reads { D.read_failures device.old < 2 ^ 64 - 1 }
         requires writes { D.write_failures device.old < 2 ^ 64 - 1 }
-        requires serves { S.serves service.old ≡ tree.now.nodes }
-        ensures serves { S.serves service.new ≡ tree.now.nodes }
-        ensures course { HasCourse D.device (rules tree.now S.gives S.alike C.tells)
+        requires serves { (S.serves service.old).nodes ≡ tree.now.nodes }
+        ensures serves { S.serves service.new ≡ S.serves service.old }
+        ensures course { HasCourse D.device
+            (rules (exported tree.now (S.serves service.old)) S.gives S.alike C.tells)
             (scene device.old service.old clock.old) result
             (scene device.new service.new clock.new) }
         ensures read_failed { IsErrOf result ServeError.Read
@@ -58,8 +60,13 @@ impl Buffers {
         ensures write_failed { IsErrOf result ServeError.Write
             ↔ D.write_failures device.old < D.write_failures device.new }
     {
+        let export = Export {
+            tree,
+            profile: service.profile(),
+            epoch: service.epoch(),
+        };
         let buffer = self.piece.as_mut_slice();
-        let result = serve_turns(&mut self.replies, buffer, device, service, tree, clock);
+        let result = serve_turns(&mut self.replies, buffer, device, service, &export, clock);
         // What an error left.
         self.replies.clear_all();
         result

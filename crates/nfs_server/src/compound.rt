@@ -1,11 +1,13 @@
-ghost use Rattle.std.specs.Prelude.{◌≡◌, ◌+◌, ◌-◌, ◌^◌, ◌<◌, ◌≤◌, true, false, max, List, [], map, length, vec_capacity, IsOk, OnOk};
+ghost use Rattle.std.specs.Prelude.{◌≡◌, ◌+◌, ◌-◌, ◌^◌, ◌<◌, ◌≤◌, true, false, max, List, [], map, length, vec_capacity, IsOk, None, OnOk};
 ghost use Rattle.std.specs.List.{All, flat_map};
-ghost use Rattle.nfs_server.specs.Answering.{compound_outcome, compound_reply, head_size, is_ok, last_status, operations_of, request_status};
+ghost use Rattle.nfs_server.specs.Answering.{compound_outcome, compound_reply, head_size, is_ok, last_status, operations_of, opnum_in, request_status};
+ghost use Rattle.nfs_tree.specs.Exports.{export_seen};
+ghost use Rattle.nfs_tree.specs.Profiles as profiles;
 ghost use Rattle.nfs_server.specs.Asking.{Asks, question_of};
 ghost use Rattle.nfs_rpc.specs.Reply.{written_compound_reply};
 ghost use Rattle.nfs_rpc.specs.RpcCall.{HasFewOperations, IsWithinLimits};
 ghost use Rattle.nfs_tree.specs.Filehandles.{AreNodes};
-ghost use Rattle.nfs_server.specs.Folding.{IsAnswered, IsDetermined, asker_of, start};
+ghost use Rattle.nfs_server.specs.Folding.{IsAllowed, IsAnswered, IsDetermined, asker_of, start};
 ghost use Rattle.nfs_xdr.specs.Compound.{compound_result};
 ghost use Rattle.nfs_xdr.specs.declared.op_result.OpResult.{OpResult};
 ghost use Rattle.nfs_xdr.specs.OpResult.{op_result, status_of};
@@ -14,7 +16,7 @@ use crate::Service;
 use nfs_core::Moment;
 use nfs_rpc::{ACCEPTED_LEN, CompoundReply, RECORD_LIMIT};
 use nfs_state::Request;
-use nfs_tree::{Filehandles, Tree};
+use nfs_tree::{Export, Filehandles};
 use nfs_xdr::{
     ArgOp, Compound, CompoundRequest, OPERATION_LIMIT, Op, OpResult, Opnum, Principal, Refusal,
     Status,
@@ -38,7 +40,7 @@ pub struct AnsweredCompound {
 /// be empty, with room for the results of as many operations as a COMPOUND may have.
 pub fn run_compound<S: Service>(
     service: &mut S,
-    tree: &Tree,
+    export: &Export<'_>,
     moment: Moment,
     principal: Principal,
     compound: Compound,
@@ -46,17 +48,17 @@ pub fn run_compound<S: Service>(
 ) -> AnsweredCompound
     requires limits { IsWithinLimits RECORD_LIMIT compound }
     requires ready { length (operations_of compound.request) ≤ S.room service.old }
-    requires serves { S.serves service.old ≡ tree.now.nodes }
+    requires serves { S.serves service.old ≡ export_seen export.now }
     requires empty { results.items ≡ [] }
     requires room { OPERATION_LIMIT ≤ vec_capacity results }
     // The service was asked what the COMPOUND asks given its answers, and the reply is the one
     // for these answers.
     ensures answers { (answers : List OpResult)
         × Asks S.gives service.old
-        (map (question_of moment principal) (compound_outcome tree.now compound answers).asked)
+        (map (question_of moment principal) (compound_outcome (export_seen export.now) compound answers).asked)
         answers service.new
-        × (result.reply ≡ compound_reply tree.now compound answers) }
-    ensures serves { S.serves service.new ≡ tree.now.nodes }
+        × (result.reply ≡ compound_reply (export_seen export.now) compound answers) }
+    ensures serves { S.serves service.new ≡ export_seen export.now }
     ensures len { result.len ≡ ACCEPTED_LEN + length (written_compound_reply result.reply) }
     // The reply isn't too long for a record.
     ensures fits { ACCEPTED_LEN + length (written_compound_reply result.reply) ≤ RECORD_LIMIT }
@@ -65,7 +67,7 @@ pub fn run_compound<S: Service>(
         (result.reply.status, (result.reply.tag, result.reply.results)) }
 {
     let context = Context {
-        tree,
+        export,
         moment,
         principal,
     };
@@ -109,7 +111,7 @@ pub(crate) fn operation_count(request: &CompoundRequest) -> usize
 // What stays the same for all operations of a COMPOUND.
 #[derive(Drop)]
 struct Context<'a> {
-    tree: &'a Tree,
+    export: &'a Export<'a>,
     moment: Moment,
     principal: Principal,
 }
@@ -158,13 +160,13 @@ fn answer_request<S: Service>(
     requires few { head < 2 ^ 40 }
     requires limit { HasFewOperations request }
     requires ready { length (operations_of request) ≤ S.room service.old }
-    requires serves { S.serves service.old ≡ context.now.tree.now.nodes }
+    requires serves { S.serves service.old ≡ export_seen context.now.export.now }
     requires empty { results.old.items ≡ [] }
     requires room { OPERATION_LIMIT ≤ vec_capacity results.old }
     ensures answers { IsDetermined (asker_of S.gives context.now) (start service.old head)
         (operations_of request) results.new.items service.new }
     ensures status { result.status ≡ request_status results.new.items request }
-    ensures serves { S.serves service.new ≡ context.now.tree.now.nodes }
+    ensures serves { S.serves service.new ≡ export_seen context.now.export.now }
     ensures len { result.len ≡ head + length (flat_map op_result.encoding results.new.items) }
     ensures fits { result.len ≤ max (head + 12) RECORD_LIMIT }
     ensures form { All op_result.Fits results.new.items }
@@ -207,12 +209,12 @@ fn answer_operations<S: Service>(
     requires few { head < 2 ^ 40 }
     requires limit { length ops.old.items ≤ OPERATION_LIMIT }
     requires ready { length ops.old.items ≤ S.room service.old }
-    requires serves { S.serves service.old ≡ context.now.tree.now.nodes }
+    requires serves { S.serves service.old ≡ export_seen context.now.export.now }
     requires empty { results.old.items ≡ [] }
     requires room { OPERATION_LIMIT ≤ vec_capacity results.old }
     ensures answers { IsDetermined (asker_of S.gives context.now) (start service.old head)
         ops.old.items results.new.items service.new }
-    ensures serves { S.serves service.new ≡ context.now.tree.now.nodes }
+    ensures serves { S.serves service.new ≡ export_seen context.now.export.now }
     ensures len { result ≡ head + length (flat_map op_result.encoding results.new.items) }
     ensures fits { result ≤ max (head + 12) RECORD_LIMIT }
     ensures form { All op_result.Fits results.new.items }
@@ -248,9 +250,8 @@ fn is_ok(answer: &OpResult) -> bool
     matches!(answer.status(), Status::Ok)
 }
 
-// Answers an entry of the list, whose result follows the first `size` bytes of the reply's record. An entry that ends
-// the list isn't run, nor is an operation for whose answer the reply may not have enough room. The service is asked for
-// one that needs more than the tree; after an OPEN that it answers NFS4_OK its file is the current one.
+// Answers an entry of the list, whose result follows the first `size` bytes of the reply's record. What the profile answers
+// whatever the arguments are comes first, without any room; it ends the list.
 fn answer_one<S: Service>(
     service: &mut S,
     context: &Context<'_>,
@@ -260,14 +261,63 @@ fn answer_one<S: Service>(
 ) -> OpResult
     requires few { size < 2 ^ 41 }
     requires ready { 0 < S.room service.old }
-    requires serves { S.serves service.old ≡ context.now.tree.now.nodes }
-    requires nodes { AreNodes context.now.tree.now handles.old }
+    requires serves { S.serves service.old ≡ export_seen context.now.export.now }
+    requires nodes { AreNodes context.now.export.now.tree.now handles.old }
     ensures answer { IsAnswered (asker_of S.gives context.now)
         (record { service = service.old; handles = handles.old; size = size }) op
         (record { answer = result; after = handles.new }) service.new }
     ensures ready { S.room service.old ≤ S.room service.new + 1 }
-    ensures serves { S.serves service.new ≡ context.now.tree.now.nodes }
-    ensures nodes { AreNodes context.now.tree.now handles.new }
+    ensures serves { S.serves service.new ≡ export_seen context.now.export.now }
+    ensures nodes { AreNodes context.now.export.now.tree.now handles.new }
+    ensures form { op_result.Fits result }
+    ensures last { is_ok (status_of result) ≡ false
+        → size + length (op_result.encoding result) ≤ max (size + 12) (RECORD_LIMIT - 12) }
+    ensures continues { is_ok (status_of result) ≡ true
+        → size + length (op_result.encoding result) ≤ RECORD_LIMIT - 12 }
+{
+    let opnum = opnum_in(&op);
+    match context.export.profile.refusal(opnum) {
+        Some(refusal) => {
+            drop(op);
+            opnum.refusal(refusal)
+        }
+        None => answer_allowed(service, context, handles, op, size),
+    }
+}
+
+// The operation of an entry of the list.
+fn opnum_in(op: &ArgOp) -> Opnum
+    ensures { result ≡ opnum_in op.now }
+{
+    match op {
+        ArgOp::Run(op) => op.opnum(),
+        ArgOp::BadArgs(opnum) => *opnum,
+        ArgOp::Unsupported(op) => Opnum::Unsupported(*op),
+        ArgOp::Illegal(_) => Opnum::Illegal,
+    }
+}
+
+// Answers such an entry that the profile doesn't refuse. An entry that ends the list isn't run, nor is an operation for
+// whose answer the reply may not have enough room. The service is asked for one that needs more than the tree; after an
+// OPEN that it answers NFS4_OK its file is the current one.
+fn answer_allowed<S: Service>(
+    service: &mut S,
+    context: &Context<'_>,
+    handles: &mut Filehandles,
+    op: ArgOp,
+    size: usize,
+) -> OpResult
+    requires few { size < 2 ^ 41 }
+    requires ready { 0 < S.room service.old }
+    requires serves { S.serves service.old ≡ export_seen context.now.export.now }
+    requires nodes { AreNodes context.now.export.now.tree.now handles.old }
+    requires allowed { profiles.refusal context.now.export.now.profile (opnum_in op) ≡ None }
+    ensures answer { IsAllowed (asker_of S.gives context.now)
+        (record { service = service.old; handles = handles.old; size = size }) op
+        (record { answer = result; after = handles.new }) service.new }
+    ensures ready { S.room service.old ≤ S.room service.new + 1 }
+    ensures serves { S.serves service.new ≡ export_seen context.now.export.now }
+    ensures nodes { AreNodes context.now.export.now.tree.now handles.new }
     ensures form { op_result.Fits result }
     ensures last { is_ok (status_of result) ≡ false
         → size + length (op_result.encoding result) ≤ max (size + 12) (RECORD_LIMIT - 12) }
@@ -286,7 +336,7 @@ fn answer_one<S: Service>(
         return opnum.refusal(Refusal::Resource);
     }
     if op.is_on_tree() {
-        let answer = handles.run(context.tree, &op);
+        let answer = handles.run(context.export, &op);
         drop(op);
         return answer;
     }
@@ -294,7 +344,7 @@ fn answer_one<S: Service>(
         return service.renew(context.moment, args.client);
     }
     let mut handles_after = *handles;
-    handles_after.follow(context.tree, &op);
+    handles_after.follow(context.export.tree, &op);
     let answer = service.call(Request {
         moment: context.moment,
         principal: context.principal,

@@ -4,6 +4,8 @@ ghost use Rattle.nfs_server.specs.Connection.{HasCourse, scene};
 ghost use Rattle.nfs_server.specs.Device.{IsCut, IsWritten, device_of_sink};
 ghost use Rattle.nfs_server.specs.Sides.{device_of, sides};
 ghost use Rattle.nfs_server.specs.Exchange.{rules};
+ghost use Rattle.nfs_server.specs.Serves.{exported};
+ghost use Rattle.nfs_tree.specs.Exports.{export_seen};
 ghost use Rattle.nfs_server.specs.Serving.{IsServed};
 ghost use Rattle.nfs_rpc.specs.Records.{IsStream, TakesPiece};
 
@@ -11,7 +13,7 @@ use crate::duplex::Pair;
 use crate::replies::{GATHER_LIMIT, Replies};
 use crate::{Buffers, Clock, Counted, DeviceFailed, Duplex, ServeError, Service, Sink, Source};
 use nfs_rpc::{RECORD_LIMIT, RecordError, Records};
-use nfs_tree::Tree;
+use nfs_tree::{Export, Tree};
 use std::alloc::{AllocError, Global};
 use std::io;
 
@@ -33,10 +35,10 @@ pub fn serve_connection<R: Source, W: Sink, S: Service, C: Clock>(
 ) -> Result<usize, ServeError>
     requires reads { R.failures source.old < 2 ^ 64 - 1 }
     requires writes { W.failures sink.old < 2 ^ 64 - 1 }
-    requires serves { S.serves service.old ≡ tree.now.nodes }
-    ensures serves { S.serves service.new ≡ tree.now.nodes }
+    requires serves { (S.serves service.old).nodes ≡ tree.now.nodes }
+    ensures serves { S.serves service.new ≡ S.serves service.old }
     ensures course { HasCourse (device_of R.gives R.fails W.takes W.fails)
-        (rules tree.now S.gives S.alike C.tells)
+        (rules (exported tree.now (S.serves service.old)) S.gives S.alike C.tells)
         (scene (sides source.old sink.old) service.old clock.old) result
         (scene (sides source.new sink.new) service.new clock.new) }
     ensures read_failed { IsErrOf result ServeError.Read
@@ -66,9 +68,10 @@ pub fn serve_duplex<D: Duplex, S: Service, C: Clock>(
 ) -> Result<usize, ServeError>
     requires reads { D.read_failures device.old < 2 ^ 64 - 1 }
     requires writes { D.write_failures device.old < 2 ^ 64 - 1 }
-    requires serves { S.serves service.old ≡ tree.now.nodes }
-    ensures serves { S.serves service.new ≡ tree.now.nodes }
-    ensures course { HasCourse D.device (rules tree.now S.gives S.alike C.tells)
+    requires serves { (S.serves service.old).nodes ≡ tree.now.nodes }
+    ensures serves { S.serves service.new ≡ S.serves service.old }
+    ensures course { HasCourse D.device
+        (rules (exported tree.now (S.serves service.old)) S.gives S.alike C.tells)
         (scene device.old service.old clock.old) result (scene device.new service.new clock.new) }
     ensures read_failed { IsErrOf result ServeError.Read
         ↔ D.read_failures device.old < D.read_failures device.new }
@@ -92,7 +95,7 @@ pub(crate) fn serve_turns<D: Duplex, S: Service, C: Clock>(
     buffer: &mut [u8],
     device: &mut D,
     service: &mut S,
-    tree: &Tree,
+    export: &Export<'_>,
     clock: &mut C,
 ) -> Result<usize, ServeError>
     requires room { length buffer.old ≡ PIECE_LEN }
@@ -101,10 +104,10 @@ pub(crate) fn serve_turns<D: Duplex, S: Service, C: Clock>(
     requires written { replies.old.answered.items ≡ [] }
     requires reads { D.read_failures device.old < 2 ^ 64 - 1 }
     requires writes { D.write_failures device.old < 2 ^ 64 - 1 }
-    requires serves { S.serves service.old ≡ tree.now.nodes }
+    requires serves { S.serves service.old ≡ export_seen export.now }
     ensures room { length buffer.new ≡ PIECE_LEN }
-    ensures serves { S.serves service.new ≡ tree.now.nodes }
-    ensures course { HasCourse D.device (rules tree.now S.gives S.alike C.tells)
+    ensures serves { S.serves service.new ≡ export_seen export.now }
+    ensures course { HasCourse D.device (rules (export_seen export.now) S.gives S.alike C.tells)
         (scene device.old service.old clock.old) result (scene device.new service.new clock.new) }
     ensures read_failed { IsErrOf result ServeError.Read
         ↔ D.read_failures device.old < D.read_failures device.new }
@@ -122,7 +125,7 @@ pub(crate) fn serve_turns<D: Duplex, S: Service, C: Clock>(
             return Err(ServeError::TooMuch);
         }
         feed(&mut records, &buffer[..count])?;
-        serve_ready(&mut records, replies, device, service, tree, clock)?;
+        serve_ready(&mut records, replies, device, service, export, clock)?;
         if records.is_too_long() {
             return Err(ServeError::TooLong);
         }
@@ -150,7 +153,7 @@ fn serve_ready<D: Duplex, S: Service, C: Clock>(
     replies: &mut Replies,
     device: &mut D,
     service: &mut S,
-    tree: &Tree,
+    export: &Export<'_>,
     clock: &mut C,
 ) -> Result<(), ServeError>
     requires limits { AllByRecursion (λ message. length message ≤ RECORD_LIMIT) records.old.ready }
@@ -158,9 +161,9 @@ fn serve_ready<D: Duplex, S: Service, C: Clock>(
     requires none { replies.old.pending.items ≡ [] }
     requires written { replies.old.answered.items ≡ [] }
     requires writes { D.write_failures device.old < 2 ^ 64 - 1 }
-    requires serves { S.serves service.old ≡ tree.now.nodes }
-    ensures serves { S.serves service.new ≡ tree.now.nodes }
-    ensures served { IsServed D.device (rules tree.now S.gives S.alike C.tells)
+    requires serves { S.serves service.old ≡ export_seen export.now }
+    ensures serves { S.serves service.new ≡ export_seen export.now }
+    ensures served { IsServed D.device (rules (export_seen export.now) S.gives S.alike C.tells)
         (scene device.old service.old clock.old) records.old.ready result
         (scene device.new service.new clock.new) }
     ensures taken { OnOk result (records.new ≡ record records.old { ready = [] }) }
@@ -175,7 +178,7 @@ fn serve_ready<D: Duplex, S: Service, C: Clock>(
         (IsErrOf result ServeError.Write ⊎ IsErrOf result ServeError.Memory) }
 {
     loop {
-        match replies.answer_some(records, service, tree, clock) {
+        match replies.answer_some(records, service, export, clock) {
             Ok(true) => {}
             Ok(false) => return send(device, replies),
             Err(AllocError) => {

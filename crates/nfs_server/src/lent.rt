@@ -10,6 +10,7 @@ use crate::Service;
 use nfs_core::{Core, CoreError, Event, Moment, Recall};
 use nfs_leases::{LeasedCore, PlainLeases, Swept, renewal_answer, renewed_client};
 use nfs_state::Request;
+use nfs_tree::Profile;
 use nfs_xdr::{ClientId, OpResult};
 use std::alloc::{AllocError, Global};
 use std::marker::Model;
@@ -115,6 +116,7 @@ impl Lent {
 
 impl Service for Lent {
     ghost use Rattle.nfs_server.specs.LentAnswers.{IsGiven};
+    ghost use Rattle.nfs_server.specs.Serves.{served_by};
 
     ghost gives = { IsGiven };
 
@@ -122,9 +124,17 @@ impl Service for Lent {
 
     ghost alike_same = { λ l. ((refl, refl, refl), refl) };
 
-    ghost serves = { λ l. l.core.journal.nodes };
+    ghost serves = { λ l. served_by l.core.journal };
 
     ghost room = { λ l. 2 ^ 64 };
+
+    fn epoch(&self) -> u32 {
+        self.leased.core.journal().epoch()
+    }
+
+    fn profile(&self) -> Profile {
+        self.leased.core.journal().policy().profile
+    }
 
     // Neither a core nor its leases need room before they are asked, so there is always enough.
     fn room(&mut self, _questions: usize) -> Result<(), AllocError> {

@@ -3,13 +3,14 @@ ghost use Rattle.std.specs.List.{AllByRecursion};
 ghost use Rattle.std.specs.VecDeque.{deque_capacity, deque_len};
 ghost use Rattle.nfs_server.specs.Batch.{AreAnswered, gathering, goes_on, messages_in, waiting_bytes};
 ghost use Rattle.nfs_server.specs.Exchange.{rules};
+ghost use Rattle.nfs_tree.specs.Exports.{export_seen};
 
 use crate::answered_call::{AnsweredCall, REPLY_LIMIT, answer_call};
 use crate::compound::make_result_room;
 use crate::pending_call::PendingCall;
 use crate::{Clock, Service};
 use nfs_rpc::{RECORD_LIMIT, Records};
-use nfs_tree::Tree;
+use nfs_tree::Export;
 use nfs_xdr::{OPERATION_LIMIT, OpResult};
 use std::alloc::{AllocError, Global};
 use std::collections::VecDeque;
@@ -109,21 +110,21 @@ impl Replies {
         &mut self,
         records: &mut Records,
         service: &mut S,
-        tree: &Tree,
+        export: &Export<'_>,
         clock: &mut C,
     ) -> Result<bool, AllocError>
         requires limits { AllByRecursion (λ message. length message ≤ RECORD_LIMIT)
             records.old.ready }
         requires within { length self.old.gathered.items ≤ GATHER_LIMIT }
         requires written { self.old.answered.items ≡ [] }
-        requires serves { S.serves service.old ≡ tree.now.nodes }
-        ensures ok { OnOk result (AreAnswered (rules tree.now S.gives S.alike C.tells)
+        requires serves { S.serves service.old ≡ export_seen export.now }
+        ensures ok { OnOk result (AreAnswered (rules (export_seen export.now) S.gives S.alike C.tells)
             (gathering service.old clock.old self.old.gathered.items
             (messages_in self.old.pending.items ++ records.old.ready)) []
             (gathering service.new clock.new self.new.gathered.items
             (messages_in self.new.pending.items ++ records.new.ready))) }
         ensures err { OnErr result ((refused : List (List ℕ)) × (refused ≢ [])
-            × AreAnswered (rules tree.now S.gives S.alike C.tells)
+            × AreAnswered (rules (export_seen export.now) S.gives S.alike C.tells)
             (gathering service.old clock.old self.old.gathered.items
             (messages_in self.old.pending.items ++ records.old.ready)) refused
             (gathering service.new clock.new self.new.gathered.items [])) }
@@ -136,7 +137,7 @@ impl Replies {
         ensures limits { AllByRecursion (λ message. length message ≤ RECORD_LIMIT)
             records.new.ready }
         ensures records { records.new ≡ record records.old { ready = records.new.ready } }
-        ensures serves { S.serves service.new ≡ tree.now.nodes }
+        ensures serves { S.serves service.new ≡ export_seen export.now }
     {
         self.take(records)?;
         if self.pending.is_empty() {
@@ -144,7 +145,7 @@ impl Replies {
         }
         self.make_room()?;
         service.begin_batch();
-        let answered = self.answer_batch(service, tree, clock);
+        let answered = self.answer_batch(service, export, clock);
         service.end_batch();
         self.write_answered();
         answered?;
@@ -197,22 +198,22 @@ impl Replies {
     fn answer_batch<S: Service, C: Clock>(
         &mut self,
         service: &mut S,
-        tree: &Tree,
+        export: &Export<'_>,
         clock: &mut C,
     ) -> Result<(), AllocError>
         requires within { length self.old.gathered.items ≤ GATHER_LIMIT }
         requires written { self.old.answered.items ≡ [] }
         requires room { deque_len self.old.answered + deque_len self.old.pending
             ≤ deque_capacity self.old.answered }
-        requires serves { S.serves service.old ≡ tree.now.nodes }
-        ensures ok { OnOk result (AreAnswered (rules tree.now S.gives S.alike C.tells)
+        requires serves { S.serves service.old ≡ export_seen export.now }
+        ensures ok { OnOk result (AreAnswered (rules (export_seen export.now) S.gives S.alike C.tells)
             (gathering service.old clock.old self.old.gathered.items
             (messages_in self.old.pending.items)) []
             (gathering service.new clock.new
             (waiting_bytes self.new.gathered.items self.new.answered.items)
             (messages_in self.new.pending.items))) }
         ensures err { OnErr result ((refused : List (List ℕ)) × (refused ≢ [])
-            × AreAnswered (rules tree.now S.gives S.alike C.tells)
+            × AreAnswered (rules (export_seen export.now) S.gives S.alike C.tells)
             (gathering service.old clock.old self.old.gathered.items
             (messages_in self.old.pending.items)) refused
             (gathering service.new clock.new
@@ -222,7 +223,7 @@ impl Replies {
         ensures few { length (waiting_bytes self.new.gathered.items self.new.answered.items)
             ≤ GATHER_ROOM }
         ensures same { self.new.gathered ≡ self.old.gathered }
-        ensures serves { S.serves service.new ≡ tree.now.nodes }
+        ensures serves { S.serves service.new ≡ export_seen export.now }
     {
         let mut asked = 0;
         let mut waiting = self.gathered.len();
@@ -234,7 +235,7 @@ impl Replies {
             let len = answer_call(
                 pending,
                 service,
-                tree,
+                export,
                 clock,
                 &mut self.answered,
                 &mut self.lists,

@@ -7,6 +7,7 @@ use Rattle.nfs_state.specs.State.{History}
 use Rattle.nfs_tree.specs.declared.policy.Callbacks.TheVariants.{Probe}
 use Rattle.nfs_tree.specs.declared.policy.CloseLocks.TheVariants.{Free}
 use Rattle.nfs_tree.specs.declared.policy.Delegations.TheVariants.{All}
+use Rattle.nfs_tree.specs.declared.profile.Profile.TheVariants.{Plain}
 use Rattle.nfs_words.specs.Sitting.{Words}
 
 -- what a run of threads is known by
@@ -65,6 +66,11 @@ no_start = record {
   nodes = [];
   epoch = 0;
   lease = 0;
-  policy = record { delegations = All; callbacks = Probe; close_locks = Free };
+  policy = record {
+    delegations = All;
+    callbacks = Probe;
+    close_locks = Free;
+    profile = Plain;
+  };
   entries = [];
 }

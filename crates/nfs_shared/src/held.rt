@@ -15,7 +15,8 @@ ghost use Rattle.nfs_state.specs.Entries.{IsFilehandle, resource};
 ghost use Rattle.nfs_state.specs.declared.entry.Call.{Call};
 ghost use Rattle.nfs_state.specs.declared.entry.Entry.TheVariants as entries;
 ghost use Rattle.nfs_words.specs.Desk.{Happens};
-ghost use Rattle.nfs_xdr.specs.Op.{has_entry, opnum_of};
+ghost use Rattle.nfs_tree.specs.Profiles.{has_entry};
+ghost use Rattle.nfs_xdr.specs.Op.{opnum_of};
 ghost use Rattle.nfs_xdr.specs.OpResult.{op_result};
 ghost use Rattle.nfs_xdr.specs.Opnum.{answer_limit};
 
@@ -113,7 +114,7 @@ pub fn call_held<N: Naming>(
     seat: &mut Seat<N>,
     request: Request,
 ) -> (OpResult, Option<Receipt>)
-    requires entry { IsTrue (has_entry request.op) }
+    requires entry { IsTrue (has_entry N.start.policy.profile request.op) }
     requires node { IsFilehandle N.start request.filehandle }
     ensures applies { Applies held.old.server held.new.server request result.0
         (number_given result.1) }
@@ -155,7 +156,7 @@ fn answer_with_room(
     places: &mut Vec<u32>,
     request: Request,
 ) -> (OpResult, Option<Entered>)
-    requires entry { IsTrue (has_entry request.op) }
+    requires entry { IsTrue (has_entry leased.old.core.journal.policy.profile request.op) }
     requires node { IsFilehandle leased.old.core.journal request.filehandle }
     ensures answers { Answers leased.old.core leased.new.core request result.0 result.1 }
     ensures short { length (op_result.encoding result.0) ≤ answer_limit (opnum_of request.op) }

@@ -24,7 +24,8 @@ ghost use Rattle.nfs_state.specs.Stored.{meaning};
 ghost use Rattle.nfs_state.specs.declared.entry.Entry.TheVariants as entries;
 ghost use Rattle.nfs_words.specs.Calls.{FitsTable, Renews, worker_at};
 ghost use Rattle.nfs_words.specs.Desk.{Happens};
-ghost use Rattle.nfs_xdr.specs.Op.{has_entry, opnum_of};
+ghost use Rattle.nfs_tree.specs.Profiles.{has_entry};
+ghost use Rattle.nfs_xdr.specs.Op.{opnum_of};
 ghost use Rattle.nfs_xdr.specs.OpResult.{op_result};
 ghost use Rattle.nfs_xdr.specs.Opnum.{answer_limit};
 
@@ -43,6 +44,7 @@ use nfs_core::{Core, CoreError, Event, Moment, Recall};
 use nfs_leases::{LeasedCore, Renewal, Swept, renewed_client};
 use nfs_owners::ClientState;
 use nfs_state::{Path, Request};
+use nfs_tree::Profile;
 use nfs_words::{LeaseSeat, WordDesk, WordLeases};
 use nfs_xdr::{Callback, ClientId, Op, OpResult, Principal, Refusal, Stateid};
 use std::alloc::{AllocError, Global};
@@ -58,6 +60,7 @@ pub struct Shared<N: Naming> {
     words: Arc<WordLeases, Global>,
     // That of the run, by which a clientid or a stateid names a client of it.
     epoch: u32,
+    profile: Profile,
     held: Mutex<Held<N>>,
     queue: RecallQueue,
 }
@@ -73,7 +76,7 @@ impl<N: Naming> Model for Shared<N> {
     ghost view = { λ s. s.queue };
 
     ghost invariant = { λ s. (s.queue ≡ N.run.queue) × (arc_value s.words ≡ N.run.words)
-        × (s.epoch ≡ N.start.epoch) };
+        × (s.epoch ≡ N.start.epoch) × (s.profile ≡ N.start.policy.profile) };
 }
 
 /// The shared state, and what the threads of a run need for it.
@@ -97,6 +100,7 @@ impl<N: Naming> Shared<N> {
         ensures err { IfErr result (λ c. c ≡ core) }
     {
         let epoch = core.journal().epoch();
+        let profile = core.journal().policy().profile;
         let Opened {
             roll,
             mut writer,
@@ -141,6 +145,7 @@ impl<N: Naming> Shared<N> {
             shared: Shared {
                 words,
                 epoch,
+                profile,
                 held: Mutex::new(held),
                 queue,
             },
@@ -148,6 +153,20 @@ impl<N: Naming> Shared<N> {
             sweeper: Sweeper { share },
             sender,
         })
+    }
+
+    /// The number of the server's run, which is known without the lock.
+    pub fn epoch(&self) -> u32
+        ensures { result ≡ N.start.epoch }
+    {
+        self.epoch
+    }
+
+    /// The profile of the run's tree, which is known without the lock.
+    pub fn profile(&self) -> Profile
+        ensures { result ≡ N.start.policy.profile }
+    {
+        self.profile
     }
 
     /// Takes the lock, for as long as the value lives that is returned.
@@ -181,7 +200,7 @@ impl<N: Naming> Shared<N> {
         op: &Op,
         filehandle: Option<u32>,
     ) -> (OpResult, Option<Receipt>)
-        requires entry { IsTrue (has_entry op.now) }
+        requires entry { IsTrue (has_entry N.start.policy.profile op.now) }
         requires node { IsFilehandle N.start filehandle }
         ensures refused { IsNone result.1 ↔ (result.0 ≡ resource op.now) }
         ensures renews { RenewsFor (renewed_by N.start.epoch op.now) moment seat.old.leases
@@ -423,6 +442,7 @@ impl<N: Naming> Shared<N> {
         let Shared {
             words,
             epoch: _,
+            profile: _,
             held,
             queue,
         } = self;

@@ -6,13 +6,14 @@ use Rattle.std.proofs.Math.ListN.{drop_of_length-le}
 use Rattle.std.proofs.lemmas.Bool.{cases_lt, eq-eqb, le-leb, lt-leb, ne_eqb}
 use Rattle.std.proofs.lemmas.List.{append-nil, drop-replicate, drop-take, drop_all, get_or-map, length-append, length-drop, length-map, length-replicate, length-take, length-take-le, map-set, replicate-append-replicate, take-replicate, take-take, take_all, take_at, take_min}
 use Rattle.std.proofs.lemmas.List.Edits.{map_over_more}
-use Rattle.nfs_state.specs.Files.{CanChange, FileState, RoomyFile, after_write, files_in, read_of, with_bytes, written}
+use Rattle.nfs_state.specs.Files.{CanChange, FileState, RoomyFile, after_change, files_in, read_of, with_bytes, written}
+use Rattle.nfs_state.specs.declared.file_change.FileChange.TheVariants.{Writes}
 use Rattle.nfs_state.specs.Pages.{AreFilledUp, replaced}
 use Rattle.nfs_state.proofs.PageLists.{drop-append, length-replaced}
 use Rattle.nfs_tree.specs.declared.tree.TheConstants.{TEXT_LIMIT}
 
 -- what stands before the block, however many zeros stand there
-filled : (n a b : ℕ) (bytes : List ℕ) → n ≤ length bytes + a → n ≤ length bytes + b → take n (bytes ++ replicate a 0) ≡ take n (bytes ++ replicate b 0)
+pub filled : (n a b : ℕ) (bytes : List ℕ) → n ≤ length bytes + a → n ≤ length bytes + b → take n (bytes ++ replicate a 0) ≡ take n (bytes ++ replicate b 0)
 filled n a b [] enough also = take-replicate n a 0 (omega (arith, enough)) ∙ sym (take-replicate n b 0 (omega (arith, also)))
 filled zero a b (x ∷ bytes) enough also = refl
 filled (suc n) a b (x ∷ bytes) enough also = ap (λ rest. x ∷ rest) (filled n a b bytes (omega (arith, enough)) (omega (arith, also)))
@@ -172,7 +173,7 @@ read_part size offset count len all few inside is =
 
 -- a WRITE of some block changes the file of the node
 pub some_written : (node offset : ℕ) (block : List ℕ) (files : List FileState) → block ≢ []
-    → map (λ f. if f.node == node then after_write offset block f else f) files ≡ with_bytes node offset block files
+    → map (λ f. if f.node == node then after_change (Writes offset block) f else f) files ≡ with_bytes node offset block files
 some_written node offset [] files some = absurd (some refl)
 some_written node offset (x ∷ block) files some = refl
 

@@ -1,6 +1,8 @@
 pub mod Pieces
 pub mod PageLists
+pub mod PageEnds
 pub mod FileChanges
+pub mod ReadyChanges
 pub mod KeptOwners
 pub mod OpenedFiles
 pub mod StoredOwners

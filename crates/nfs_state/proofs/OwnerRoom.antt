@@ -105,6 +105,7 @@ limits_alike (changes.Forgets owner) old new clients states locks has = tt
 limits_alike (changes.Recalls node file_use moment) old new clients states locks has = tt
 limits_alike (changes.Returns node number) old new clients states locks has = tt
 limits_alike (changes.Writes node offset bytes) old new clients states locks has = has
+limits_alike (changes.Cuts node size) old new clients states locks has = has
 limits_alike (changes.MarksPath client path) old new clients states locks has = tt
 
 same_clients : (owner : OwnerChange) (number : ℕ) (old : State) → (with_owner_change owner number old).clients ≡ old.clients

@@ -1,12 +1,12 @@
 -- Lists of pages, and blocks that come in the place of as many bytes.
-use Rattle.std.proofs.Common.{◌≡◌, ℕ, zero, suc, ◌+◌, ◌*◌, ◌-◌, ◌<◌, ◌≤◌, List, [], ◌∷◌, ◌++◌, drop, get_or, length, set, take, refl, sym, ◌∙◌, ap, arith, append_assoc, inl, inr, length-append, length-drop}
-use Rattle.std.specs.Prelude.{min, replicate}
+use Rattle.std.proofs.Common.{◌≡◌, ℕ, zero, suc, ◌+◌, ◌*◌, ◌-◌, ◌%◌, ◌<◌, ◌≤◌, true, List, [], ◌∷◌, ◌++◌, drop, get_or, length, set, take, refl, sym, ◌∙◌, ap, arith, append_assoc, inl, inr, length-append, length-drop}
+use Rattle.std.specs.Prelude.{◌==◌, min, nat_le, replicate}
 use Rattle.std.specs.List.{concat}
 use Rattle.std.proofs.Math.Seq.{drop-append-add, take-add, take-append-add}
-use Rattle.std.proofs.lemmas.Bool.{cases_lt}
+use Rattle.std.proofs.lemmas.Bool.{and_parts, cases_lt, eqb-true, leb-true}
 use Rattle.std.proofs.lemmas.List.{append-nil, drop-append-le, drop-drop, drop-set, drop_all, drop_min, drop_more, get_or-append_right, get_or-drop, get_or-take, get_or_append_left, length-replicate, length-take, length-take-le, replicate-append-replicate, same_lists, take-append-drop, take-append-le, take-take, take_all, take_at, take_min, take_more}
-use Rattle.nfs_state.specs.Pages.{AreFilledUp, AreWhole, replaced, zero_page}
-use Rattle.nfs_state.specs.declared.pages.TheConstants.{PAGE_LEN}
+use Rattle.nfs_state.specs.Pages.{AreFilledUp, AreWhole, is_covered, is_shared, replaced, zero_page}
+use Rattle.nfs_state.specs.declared.pages.TheConstants.{PAGE_LEN, SHARED_LEN}
 
 -- Bytes in pages
 
@@ -57,6 +57,18 @@ page_at pages n d are below =
 pub whole_push : (pages : List (List ℕ)) (page : List ℕ) → AreWhole pages → length page ≡ PAGE_LEN → AreWhole (pages ++ page ∷ [])
 whole_push [] page are whole = (whole, tt)
 whole_push (p ∷ pages) page are whole = (are.0, whole_push pages page are.1 whole)
+
+-- what the tests on pages tell
+pub shared_within : (offset len : ℕ) → is_shared offset len ≡ true → (0 < len) × (offset % PAGE_LEN + len ≤ PAGE_LEN)
+shared_within offset len is =
+    let both = and_parts (nat_le SHARED_LEN len) (nat_le len (PAGE_LEN - offset % PAGE_LEN)) is in
+    let some = leb-true SHARED_LEN len both.0 in
+    (omega (arith, some), omega (arith, some, leb-true len (PAGE_LEN - offset % PAGE_LEN) both.1))
+
+pub covered_whole : (at len : ℕ) → is_covered at len ≡ true → (at ≡ 0) × (PAGE_LEN ≤ len)
+covered_whole at len is =
+    let both = and_parts (at == 0) (nat_le PAGE_LEN len) is in
+    (eqb-true at 0 both.0, leb-true PAGE_LEN len both.1)
 
 -- a part of one page
 pub part_of_page : (pages : List (List ℕ)) (n within offset len : ℕ) (d : List ℕ) → AreWhole pages → n < length pages → offset ≡ n * PAGE_LEN + within → within + len ≤ PAGE_LEN

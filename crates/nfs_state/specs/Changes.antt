@@ -19,7 +19,7 @@ use Rattle.nfs_share.specs.declared.delegation.DelegationKind.{DelegationKind}
 use Rattle.nfs_share.specs.declared.share.Share.{Share}
 use Rattle.nfs_share.specs.Opens.{after_downgrade, is_numbered, is_of_client, open_of, with_each, with_next_seqid, with_opening}
 use Rattle.nfs_share.specs.Opens as opens
-use Rattle.nfs_state.specs.Files.{with_bytes}
+use Rattle.nfs_state.specs.Files.{with_bytes, with_size}
 use Rattle.nfs_state.specs.Owners.{with_confirmation, with_kept_entry, with_record, without_owner}
 use Rattle.nfs_state.specs.State.{State}
 use Rattle.nfs_state.specs.declared.change.Change.{Change}
@@ -133,6 +133,8 @@ with_state_change (changes.Returns node number) old = record old {
 }
 with_state_change (changes.Writes node offset bytes) old =
     record old { files = with_bytes node offset bytes old.files }
+with_state_change (changes.Cuts node size) old =
+    record old { files = with_size node size old.files }
 with_state_change (changes.MarksPath client path) old =
     record old { clients = with_mark client path old.clients }
 

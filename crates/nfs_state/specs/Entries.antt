@@ -7,8 +7,10 @@ use Rattle.nfs_state.specs.declared.entry.Call.{Call}
 use Rattle.nfs_state.specs.declared.entry.Entry.{Entry}
 use Rattle.nfs_state.specs.declared.entry.Entry.TheVariants as entries
 use Rattle.nfs_state.specs.declared.request.Request.{Request}
+use Rattle.nfs_tree.specs.Profiles.{has_entry}
 use Rattle.nfs_tree.specs.Tree.{node_count}
-use Rattle.nfs_xdr.specs.Op.{has_entry, opnum_of}
+use Rattle.nfs_tree.specs.declared.profile.Profile.{Profile}
+use Rattle.nfs_xdr.specs.Op.{opnum_of}
 use Rattle.nfs_xdr.specs.OpResult as results
 use Rattle.nfs_xdr.specs.OpResult.{refusal_of}
 use Rattle.nfs_xdr.specs.Short.{IsShort}
@@ -28,10 +30,11 @@ abbrev pub is_filehandle : ℕ → Option ℕ → Bool
 is_filehandle nodes None = true
 is_filehandle nodes (Some node) = nat_lt node nodes
 
--- The request can be asked where the tree has so many nodes: its operation has an entry in the journal, and its
--- filehandle, if there is one, is that of a node.
-abbrev pub can_be_asked : ℕ → Request → Bool
-can_be_asked nodes request = has_entry request.op && is_filehandle nodes request.filehandle
+-- The request can be asked under this profile, where the tree has so many nodes: its operation has an entry in the
+-- journal, and its filehandle, if there is one, is that of a node.
+abbrev pub can_be_asked : Profile → ℕ → Request → Bool
+can_be_asked profile nodes request =
+    has_entry profile request.op && is_filehandle nodes request.filehandle
 
 -- a request for an operation
 abbrev pub request_of : ℕ → Principal → Op → Option ℕ → Request

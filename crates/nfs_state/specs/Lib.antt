@@ -1,6 +1,7 @@
 pub mod Owners
-pub mod Files
 pub mod Pages
+pub mod FileChange
+pub mod Files
 pub mod State
 pub mod PieceList
 pub mod MemoryCount

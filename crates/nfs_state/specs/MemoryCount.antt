@@ -1,5 +1,6 @@
 -- By how many bytes an entry counts where a run's memory has a bound.
-use Rattle.std.specs.Prelude.{ℕ, List, ◌+◌, ◌-◌, ◌*◌, ◌%◌, ◌==◌, ◌&&◌, length, nat_le, nat_lt, not, if◌then◌else◌}
+use Rattle.std.specs.Prelude.{ℕ, List, ◌+◌, ◌-◌, ◌*◌, ◌%◌, ◌==◌, ◌&&◌, length, nat_lt, not, if◌then◌else◌, Option, Some, None, Result, Ok, Err}
+use Rattle.std.specs.List.{sum_by}
 use Rattle.nfs_forms.specs.declared.answer.Answer.TheVariants as answers
 use Rattle.nfs_forms.specs.declared.claim.Claim.{Claim}
 use Rattle.nfs_forms.specs.declared.claim.Claim.TheVariants as claims
@@ -10,10 +11,17 @@ use Rattle.nfs_forms.specs.declared.open_how.OpenHow.{OpenHow}
 use Rattle.nfs_forms.specs.declared.open_how.OpenHow.TheVariants as hows
 use Rattle.nfs_forms.specs.declared.locker.Locker.{Locker}
 use Rattle.nfs_forms.specs.declared.locker.Locker.TheVariants as lockers
+use Rattle.nfs_forms.specs.declared.status.Refusal.{Refusal}
+use Rattle.nfs_forms.specs.declared.status.Status.{Status}
+use Rattle.nfs_forms.specs.declared.status.Status.TheVariants as statuses
+use Rattle.nfs_operations.specs.declared.readdir.DirectoryEntry.{DirectoryEntry}
 use Rattle.nfs_state.specs.declared.entry.Entry.{Entry}
 use Rattle.nfs_state.specs.declared.entry.Entry.TheVariants as entries
-use Rattle.nfs_state.specs.declared.memory_count.TheConstants.{ENTRY_LEN}
-use Rattle.nfs_state.specs.declared.pages.TheConstants.{PAGE_LEN, SHARED_LEN}
+use Rattle.nfs_state.specs.Pages.{is_covered, is_shared}
+use Rattle.nfs_state.specs.declared.memory_count.TheConstants.{ENTRY_LEN, LISTED_LEN}
+use Rattle.nfs_state.specs.declared.pages.TheConstants.{PAGE_LEN}
+use Rattle.nfs_tree.specs.Setting.{settable_of, size_set}
+use Rattle.nfs_tree.specs.declared.settable.Settable.{Settable}
 use Rattle.nfs_xdr.specs.declared.op.Op.{Op}
 use Rattle.nfs_xdr.specs.declared.op.Op.TheVariants as ops
 use Rattle.nfs_xdr.specs.declared.op_result.OpResult.{OpResult}
@@ -55,6 +63,8 @@ abbrev pub op_len : Op → ℕ
 op_len (ops.Getattr mask) = mask_len mask
 op_len (ops.Lock args) = locker_len args.locker
 op_len (ops.Lockt args) = length args.owner.name
+op_len (ops.Readdir args) = mask_len args.mask
+op_len (ops.Setattr args) = attributes_len args.attributes
 op_len (ops.Open args) = length args.owner.name + claim_len args.claim + how_len args.how
 op_len (ops.Setclientid args) =
     length args.id + length args.callback.address.netid + length args.callback.address.addr
@@ -62,23 +72,42 @@ op_len (ops.Write args) = length args.bytes
 op_len (ops.ReleaseLockowner args) = length args.owner.name
 op_len op = 0
 
--- What a READ takes for so many bytes from the offset on: nothing where they are a part of a page that they share, as
--- do those that stand in one page and aren't few; and otherwise a copy of them.
+-- what a READ takes for so many bytes from the offset on: a copy, unless they are a part of a page that they share
 abbrev pub read_len : ℕ → ℕ → ℕ
-read_len offset len =
-    if nat_le SHARED_LEN len && nat_le len (PAGE_LEN - offset % PAGE_LEN) then 0 else len
+read_len offset len = if is_shared offset len then 0 else len
 
 -- The pages that a WRITE of so many bytes at the offset makes: the first that it touches, and the last, if that is
 -- another one. Of those that it covers whole none is made.
 abbrev pub made_len : ℕ → ℕ → ℕ
 made_len offset len =
     let within = offset % PAGE_LEN in
-    (if within == 0 && nat_le PAGE_LEN len then 0 else PAGE_LEN)
+    (if is_covered within len then 0 else PAGE_LEN)
     + (if nat_lt (PAGE_LEN - within) len && not ((within + len) % PAGE_LEN == 0) then PAGE_LEN else 0)
 
 -- what a WRITE takes for the file
 abbrev pub write_len : ℕ → ℕ → ℕ
 write_len offset len = if len == 0 then 0 else made_len offset len
+
+-- what a size that is set takes for the file: the page in which it ends then, unless it ends with a page
+abbrev pub end_len : Option ℕ → ℕ
+end_len None = 0
+end_len (Some size) = if size % PAGE_LEN == 0 then 0 else PAGE_LEN
+
+-- the size that a SETATTR of these attributes sets, if it sets one
+abbrev pub size_if_set : Result (Option ℕ) Refusal → Option ℕ
+size_if_set (Err refusal) = None
+size_if_set (Ok size) = size
+
+abbrev pub size_asked : Result Settable Refusal → List ℕ → Option ℕ
+size_asked (Err refusal) values = None
+size_asked (Ok asked) values = size_if_set (size_set asked values)
+
+abbrev pub size_of : Fattr → Option ℕ
+size_of attributes = size_asked (settable_of attributes.mask) attributes.values
+
+-- an entry of a directory in a listing: its name, its attributes, and what it takes beside these
+abbrev pub listed_len : DirectoryEntry → ℕ
+listed_len e = LISTED_LEN + length e.name + attributes_len e.attributes
 
 -- what the answer to a READ at the offset takes
 abbrev pub given_len : ℕ → OpResult → ℕ
@@ -86,14 +115,31 @@ given_len offset (results.Read (answers.Done given)) = read_len offset (length g
 given_len offset result = 0
 
 -- what a WRITE of so many bytes at the offset takes for the file, if it was done
-abbrev pub written_len : ℕ → ℕ → OpResult → ℕ
-written_len offset len (results.Write (answers.Done given)) = write_len offset len
-written_len offset len result = 0
+abbrev pub kept_len : ℕ → ℕ → OpResult → ℕ
+kept_len offset len (results.Write (answers.Done given)) = write_len offset len
+kept_len offset len result = 0
 
--- what comes of the operation: what a READ gives, and the pages that a WRITE makes
+-- what a SETATTR of these attributes takes for the file, if it was done
+abbrev pub if_done : Status → ℕ → ℕ
+if_done statuses.Ok len = len
+if_done status len = 0
+
+abbrev pub cut_len : Fattr → OpResult → ℕ
+cut_len attributes (results.Setattr result) = if_done result.status (end_len (size_of attributes))
+cut_len attributes result = 0
+
+-- what the answer to a READDIR takes
+abbrev pub listing_len : OpResult → ℕ
+listing_len (results.Readdir (answers.Done listing)) = sum_by listed_len listing.entries
+listing_len result = 0
+
+-- what comes of the operation: what a READ copies, the pages that a WRITE or a SETATTR makes, and the entries that a
+-- READDIR lists
 abbrev pub outcome_len : Op → OpResult → ℕ
 outcome_len (ops.Read args) result = given_len args.offset result
-outcome_len (ops.Write args) result = written_len args.offset (length args.bytes) result
+outcome_len (ops.Readdir args) result = listing_len result
+outcome_len (ops.Setattr args) result = cut_len args.attributes result
+outcome_len (ops.Write args) result = kept_len args.offset (length args.bytes) result
 outcome_len op result = 0
 
 -- all that an entry counts

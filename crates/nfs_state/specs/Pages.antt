@@ -1,7 +1,7 @@
 -- The bytes of a file in pages of PAGE_LEN bytes each, of which the last may be filled up with zeros.
-use Rattle.std.specs.Prelude.{ℕ, ◌≡◌, ◌+◌, ◌-◌, ◌*◌, ◌/◌, List, ◌++◌, drop, length, replicate, take}
+use Rattle.std.specs.Prelude.{ℕ, ◌≡◌, ◌+◌, ◌-◌, ◌*◌, ◌/◌, ◌%◌, ◌==◌, Bool, ◌&&◌, nat_le, List, ◌++◌, drop, length, replicate, take}
 use Rattle.std.specs.List.{AllByRecursion}
-use Rattle.nfs_state.specs.declared.pages.TheConstants.{PAGE_LEN}
+use Rattle.nfs_state.specs.declared.pages.TheConstants.{PAGE_LEN, SHARED_LEN}
 
 -- each of these pages has all of its bytes
 abbrev pub AreWhole : List (List ℕ) → Type 0
@@ -10,6 +10,14 @@ AreWhole pages = AllByRecursion (λ page. length page ≡ PAGE_LEN) pages
 -- where the page begins in which the byte at the offset stands
 abbrev pub page_start : ℕ → ℕ
 page_start offset = offset / PAGE_LEN * PAGE_LEN
+
+-- so many bytes, from the offset on, are a part of a page that they share: they stand in one page, and aren't few
+abbrev pub is_shared : ℕ → ℕ → Bool
+is_shared offset len = nat_le SHARED_LEN len && nat_le len (PAGE_LEN - offset % PAGE_LEN)
+
+-- so many bytes cover a page whole if they come into it at this place
+abbrev pub is_covered : ℕ → ℕ → Bool
+is_covered at len = at == 0 && nat_le PAGE_LEN len
 
 -- the bytes, with the block in the place of as many of them from the offset on
 abbrev pub replaced : ℕ → List ℕ → List ℕ → List ℕ

@@ -2,6 +2,7 @@
 use Rattle.std.specs.Prelude.{◌≢◌, ◌<◌, ◌≤◌, ◌+◌, ◌-◌, ◌^◌, ⊤, None, Bool, IsFalse, IsTrue, is_some, length}
 use Rattle.nfs_state.specs.declared.change.Change.{Change}
 use Rattle.nfs_state.specs.declared.change.Change.TheVariants as changes
+use Rattle.nfs_state.specs.declared.file_change.FileChange.TheVariants.{Writes, Cuts}
 use Rattle.nfs_state.specs.declared.effect.Effect.{Effect}
 use Rattle.nfs_state.specs.declared.entry.Entry.{Entry}
 use Rattle.nfs_state.specs.declared.owner_change.OwnerChange.{OwnerChange}
@@ -50,7 +51,9 @@ HasRoom (changes.Opens node owner share lent) tables =
     HasRoomAt node tables.opens × (lent ≢ None → HasLendingRoomAt node tables.opens)
 HasRoom (changes.Begins node first) tables = HasLockRoomAt node tables.locks
 HasRoom (changes.Locks node number change) tables = locks.HasRoomFor node number tables.locks
-HasRoom (changes.Writes node offset bytes) tables = HasFileRoom node offset bytes tables.files
+HasRoom (changes.Writes node offset bytes) tables =
+    HasFileRoom node (Writes offset bytes) tables.files
+HasRoom (changes.Cuts node size) tables = HasFileRoom node (Cuts size) tables.files
 HasRoom change tables = ⊤
 
 -- what the entry means for an owner takes no memory
@@ -107,7 +110,8 @@ HasOwnerPlace (owner_changes.Drops name) state = ⊤
 
 -- The numbers that the change gives are left: a client number of a newcomer's slot, a confirm value, and state numbers, two
 -- for an OPEN; a client's record that it adds fits those that are there, the runs of a lock state aren't too many after
--- it, and the bytes that it writes end within the limit of a file. (How many states there may be is judged by the rules.)
+-- it, and the bytes that it writes, or a size that it sets, end within the limit of a file. (How many states there may
+-- be is judged by the rules.)
 abbrev pub IsWithinLimits : Change → State → Type 0
 IsWithinLimits (changes.Clients change) state =
     HasNumbersFor change state.clients × FitsRecords change state.clients
@@ -116,6 +120,7 @@ IsWithinLimits (changes.Begins node first) state = state.last_state < 2 ^ 32 - 1
 IsWithinLimits (changes.Locks node number change) state =
     IsFalse (is_full_for number change (locks_of node state.locks))
 IsWithinLimits (changes.Writes node offset bytes) state = offset + length bytes ≤ TEXT_LIMIT
+IsWithinLimits (changes.Cuts node size) state = size ≤ TEXT_LIMIT
 IsWithinLimits change state = ⊤
 
 -- each open, each lock state and each delegation has a number that was given: at most the last

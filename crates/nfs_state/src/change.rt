@@ -38,6 +38,11 @@ pub enum Change {
         offset: u64,
         bytes: SharedBytes,
     },
+    /// The node's file gets this size: its bytes behind it are gone, and zeros come where there are fewer.
+    Cuts {
+        node: u32,
+        size: u64,
+    },
     /// Whether callbacks reach the client with this number.
     MarksPath {
         client: u32,
@@ -97,6 +102,7 @@ impl Change {
             | Change::Recalls { .. }
             | Change::Returns { .. }
             | Change::Writes { .. }
+            | Change::Cuts { .. }
             | Change::MarksPath { .. }
             | Change::Confirms { .. }
             | Change::Downgrades { .. }

@@ -2,14 +2,19 @@ ghost use Rattle.std.specs.Prelude.{◌≡◌};
 
 use crate::entry::JOURNAL_LIMIT;
 use crate::journal::{LEASE_MAX, LEASE_MIN};
+use crate::memory_count::{ENTRY_LEN, LISTED_LEN};
+use crate::pages::{PAGE_LEN, SHARED_LEN};
 
 /// How many opens, lock states and delegations there can be at a time, together.
 pub const STATE_LIMIT: usize = 65_536;
 
-/// The limits in the rules: on the entries of a journal, the seconds of a lease, and the opens, lock states and
-/// delegations.
+/// The numbers in the rules: the limits on the entries of a journal, the seconds of a lease, and the opens, lock states
+/// and delegations; how many bytes a page of a file has, and a part of one that an answer shares, at least; and how many
+/// an entry of the journal, and one of a listing, count for the bound of the memory, beside what they have of their own.
 pub fn limits_of_the_state()
     ensures journal { JOURNAL_LIMIT ≡ 1000000 }
     ensures lease { (LEASE_MIN ≡ 1) × (LEASE_MAX ≡ 86400) }
     ensures states { STATE_LIMIT ≡ 65536 }
+    ensures pages { (PAGE_LEN ≡ 4096) × (SHARED_LEN ≡ 2048) }
+    ensures memory { (ENTRY_LEN ≡ 320) × (LISTED_LEN ≡ 160) }
 {}

@@ -1,13 +1,19 @@
 ghost use Rattle.std.specs.Prelude.{◌≡◌, ◌+◌, ◌-◌, ◌^◌, ◌<◌, ◌≤◌, ◌⊎◌, IsFalse, IsTrue, min};
-ghost use Rattle.nfs_state.specs.MemoryCount.{IsNoCall, attributes_len, claim_len, create_len, entry_len, how_len, locker_len, given_len, made_len, mask_len, op_len, outcome_len, read_len, write_len, written_len};
+ghost use Rattle.std.specs.List.{sum_by};
+ghost use Rattle.nfs_state.specs.MemoryCount.{IsNoCall, attributes_len, claim_len, create_len, cut_len, end_len, entry_len, how_len, kept_len, listed_len, listing_len, locker_len, given_len, made_len, mask_len, op_len, outcome_len, read_len, size_of, write_len};
 
 use crate::Entry;
-use crate::pages::{PAGE_LEN, SHARED_LEN};
-use nfs_forms::{Answer, Bitmap, Claim, CreateHow, Fattr, Locker, OpenHow};
+use crate::pages::{PAGE_LEN, is_covered, is_shared};
+use nfs_forms::{Answer, Bitmap, Claim, CreateHow, Fattr, Locker, OpenHow, Status};
+use nfs_operations::readdir::DirectoryEntry;
+use nfs_tree::Settable;
 use nfs_xdr::{Op, OpResult};
 
 /// How many bytes an entry counts beside those that its operation and its answer have of their own.
 pub const ENTRY_LEN: u64 = 320;
+
+/// How many bytes an entry of a listing counts beside its name and attributes.
+pub const LISTED_LEN: u64 = 160;
 
 /// How much memory the entries of a journal are counted to take, and how much they may.
 #[derive(Drop)]
@@ -113,6 +119,8 @@ fn op_len(op: &Op) -> u64
             id.saturating_add(address.netid.as_slice().len() as u64)
                 .saturating_add(address.addr.as_slice().len() as u64)
         }
+        Op::Readdir(args) => mask_len(&args.mask),
+        Op::Setattr(args) => attributes_len(&args.attributes),
         Op::Write(args) => args.bytes.as_slice().len() as u64,
         Op::ReleaseLockowner(args) => args.owner.name.as_slice().len() as u64,
         _ => 0,
@@ -175,13 +183,16 @@ fn mask_len(mask: &Bitmap) -> u64
     (mask.as_slice().len() as u64).saturating_mul(4)
 }
 
-// What comes of the operation: what a READ gives, and the pages that a WRITE makes.
+// What comes of the operation: what a READ copies, the pages that a WRITE or a SETATTR makes, and the entries that a
+// READDIR lists.
 fn outcome_len(op: &Op, answer: &OpResult) -> u64
-    ensures { result ≡ outcome_len op.now answer.now }
+    ensures { result ≡ min (outcome_len op.now answer.now) (2 ^ 64 - 1) }
 {
     match op {
         Op::Read(args) => given_len(args.offset, answer),
-        Op::Write(args) => { written_len(args.offset, args.bytes.as_slice().len() as u64, answer) }
+        Op::Readdir(_) => listing_len(answer),
+        Op::Setattr(args) => cut_len(&args.attributes, answer),
+        Op::Write(args) => kept_len(args.offset, args.bytes.as_slice().len() as u64, answer),
         _ => 0,
     }
 }
@@ -199,8 +210,8 @@ fn given_len(offset: u64, answer: &OpResult) -> u64
 }
 
 // What a WRITE of so many bytes at the offset takes for the file, if it was done.
-fn written_len(offset: u64, len: u64, answer: &OpResult) -> u64
-    ensures { result ≡ written_len offset len answer.now }
+fn kept_len(offset: u64, len: u64, answer: &OpResult) -> u64
+    ensures { result ≡ kept_len offset len answer.now }
 {
     match answer {
         OpResult::Write(Answer::Done(_)) => write_len(offset, len),
@@ -208,12 +219,73 @@ fn written_len(offset: u64, len: u64, answer: &OpResult) -> u64
     }
 }
 
-// What a READ takes for so many bytes from the offset on: nothing where they are a part of a page that they share.
+// What a SETATTR of these attributes takes for the file, if it was done.
+fn cut_len(attributes: &Fattr, answer: &OpResult) -> u64
+    ensures { result ≡ cut_len attributes.now answer.now }
+{
+    match answer {
+        OpResult::Setattr(result) => match result.status {
+            Status::Ok => end_len(size_of(attributes)),
+            _ => 0,
+        },
+        _ => 0,
+    }
+}
+
+// The size that a SETATTR of these attributes sets, if it sets one.
+fn size_of(attributes: &Fattr) -> Option<u64>
+    ensures { result ≡ size_of attributes.now }
+{
+    match Settable::of(attributes.mask.as_slice()) {
+        Ok(asked) => asked.size_of(attributes.values.as_slice()).unwrap_or(None),
+        Err(_) => None,
+    }
+}
+
+// What a size that is set takes for the file: the page in which it ends then, unless it ends with a page.
+fn end_len(size: Option<u64>) -> u64
+    ensures { result ≡ end_len size }
+{
+    match size {
+        Some(size) if size % PAGE_LEN as u64 != 0 => PAGE_LEN as u64,
+        _ => 0,
+    }
+}
+
+// What the answer to a READDIR takes.
+fn listing_len(answer: &OpResult) -> u64
+    ensures { result ≡ min (listing_len answer.now) (2 ^ 64 - 1) }
+{
+    match answer {
+        OpResult::Readdir(Answer::Done(listing)) => entries_len(listing.entries.as_slice()),
+        _ => 0,
+    }
+}
+
+fn entries_len(entries: &[DirectoryEntry]) -> u64
+    ensures { result ≡ min (sum_by listed_len entries.now) (2 ^ 64 - 1) }
+{
+    let mut len: u64 = 0;
+    for entry in entries {
+        len = len.saturating_add(listed_len(entry));
+    }
+    len
+}
+
+// An entry of a directory, as it stands in a listing.
+fn listed_len(entry: &DirectoryEntry) -> u64
+    ensures { result ≡ min (listed_len entry.now) (2 ^ 64 - 1) }
+{
+    LISTED_LEN
+        .saturating_add(entry.name.as_slice().len() as u64)
+        .saturating_add(attributes_len(&entry.attributes))
+}
+
+// What a READ takes for so many bytes from the offset on: a copy, unless they are a part of a page that they share.
 fn read_len(offset: u64, len: u64) -> u64
     ensures { result ≡ read_len offset len }
 {
-    let page = PAGE_LEN as u64;
-    if len >= SHARED_LEN as u64 && len <= page - offset % page {
+    if is_shared(offset as usize, len as usize) {
         0
     } else {
         len
@@ -233,7 +305,11 @@ fn made_len(offset: u64, len: u64) -> u64
 {
     let page = PAGE_LEN as u64;
     let within = offset % page;
-    let first = if within == 0 && len >= page { 0 } else { page };
+    let first = if is_covered(within as usize, len as usize) {
+        0
+    } else {
+        page
+    };
     let has_last = len > page - within && (within + len % page) % page != 0;
     first + if has_last { page } else { 0 }
 }

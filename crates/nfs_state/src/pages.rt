@@ -1,16 +1,16 @@
-ghost use Rattle.std.specs.Prelude.{◌≡◌, ◌+◌, ◌-◌, ◌*◌, ◌≤◌, ◌<◌, ◌^◌, ◌++◌, [], IfOk, OnOk, drop, length, take};
+ghost use Rattle.std.specs.Prelude.{◌≡◌, ◌≢◌, ◌%◌, ◌+◌, ◌-◌, ◌*◌, ◌≤◌, ◌<◌, ◌^◌, ◌++◌, [], IfOk, OnOk, drop, length, take};
 ghost use Rattle.std.specs.List.{concat};
-ghost use Rattle.nfs_state.specs.Pages.{AreFilledUp, AreWhole, page_start, replaced, zero_page};
+ghost use Rattle.nfs_state.specs.Pages.{AreFilledUp, AreWhole, is_covered, is_shared, page_start, replaced, zero_page};
 
 use std::alloc::{AllocError, Global};
 use std::marker::Model;
 use xdr::SharedBytes;
 
 /// How many bytes a page has.
-pub const PAGE_LEN: usize = 4_096;
+pub(crate) const PAGE_LEN: usize = 4_096;
 
 /// The fewest bytes of a page that share its memory: fewer are copied, so that they don't keep the page.
-pub const SHARED_LEN: usize = 2_048;
+pub(crate) const SHARED_LEN: usize = 2_048;
 
 /// Bytes in pages, from which they can be read without a copy. A page is never written: another one comes in its place.
 /// Contracts see the list of the bytes.
@@ -61,9 +61,8 @@ impl Pages {
         requires { offset + len ≤ length self.now }
         ensures { IfOk result (λ b. b ≡ take len (drop offset self.now)) }
     {
-        let within = offset % PAGE_LEN;
-        if len >= SHARED_LEN && len <= PAGE_LEN - within {
-            self.pages[offset / PAGE_LEN].part(within, len)
+        if is_shared(offset, len) {
+            self.pages[offset / PAGE_LEN].part(offset % PAGE_LEN, len)
         } else {
             SharedBytes::new(copy_of(alloc, &self.pages, offset, len)?)
         }
@@ -102,11 +101,60 @@ impl Pages {
         let (start, page) = (number * PAGE_LEN, self.pages[number].as_slice());
         let (at, from) = (offset.saturating_sub(start), start.saturating_sub(offset));
         let bytes = block.as_slice();
-        let len = (PAGE_LEN - at).min(bytes.len() - from);
-        if len == PAGE_LEN {
-            return block.part(from, len);
+        let left = bytes.len() - from;
+        if is_covered(at, left) {
+            return block.part(from, PAGE_LEN);
         }
+        let len = (PAGE_LEN - at).min(left);
         page_with(*self.pages.allocator(), page, at, &bytes[from..from + len])
+    }
+
+    /// The page in which the bytes end if there are so many, with zeros behind them, and none if they end with a page.
+    /// Zeros alone stand behind the bytes that are used.
+    pub(crate) fn end_at(
+        &self,
+        zeros: &SharedBytes,
+        used: usize,
+        size: usize,
+    ) -> Result<Pages, AllocError>
+        requires zeros { zeros.now ≡ zero_page }
+        requires used { AreFilledUp (take used self.now) self.now }
+        requires within { size ≤ length self.now }
+        ensures fits { IfOk result (λ end.
+            page_start size + length end ≤ length self.now) }
+        ensures zeros { IfOk result (λ end.
+            AreFilledUp (take size self.now) (take (page_start size) self.now ++ end)) }
+    {
+        let mut pages = Vec::new(*self.pages.allocator());
+        if size % PAGE_LEN == 0 {
+            return Ok(Pages { pages });
+        }
+        pages.push(self.end_page(zeros, used, size)?)?;
+        Ok(Pages { pages })
+    }
+
+    // The page in which the bytes end if there are so many, with zeros behind them: the page that is there if only
+    // zeros stand behind them already, and else another one.
+    fn end_page(
+        &self,
+        zeros: &SharedBytes,
+        used: usize,
+        size: usize,
+    ) -> Result<SharedBytes, AllocError>
+        requires zeros { zeros.now ≡ zero_page }
+        requires used { AreFilledUp (take used self.now) self.now }
+        requires within { size ≤ length self.now }
+        requires part { size % PAGE_LEN ≢ 0 }
+        ensures { IfOk result (λ page. page
+            ≡ drop (page_start size) (take size self.now) ++ drop (size % PAGE_LEN) zero_page) }
+    {
+        let page = &self.pages[size / PAGE_LEN];
+        if used <= size {
+            page.clone()
+        } else {
+            let (first, _) = page.as_slice().split_at(size % PAGE_LEN);
+            page_with(*self.pages.allocator(), zeros.as_slice(), 0, first)
+        }
     }
 
     /// Puts these pages in the place of those from that of the offset on.
@@ -117,6 +165,31 @@ impl Pages {
         let Pages { pages } = pages;
         put_pages(&mut self.pages, offset / PAGE_LEN, pages);
     }
+
+    /// Keeps the pages before that of the offset, and puts these behind them.
+    pub(crate) fn end_with(&mut self, offset: usize, end: Pages)
+        requires { page_start offset + length end ≤ length self.old }
+        ensures { self.new ≡ take (page_start offset) self.old ++ end }
+    {
+        let count = offset / PAGE_LEN + end.pages.len();
+        self.replace(offset, end);
+        self.pages.truncate(count);
+    }
+}
+
+/// Whether so many bytes, from the offset on, are a part of a page that they share: they stand in one page, and aren't
+/// few.
+pub(crate) fn is_shared(offset: usize, len: usize) -> bool
+    ensures { result ≡ is_shared offset len }
+{
+    len >= SHARED_LEN && len <= PAGE_LEN - offset % PAGE_LEN
+}
+
+/// Whether so many bytes cover a page whole if they come into it at this place.
+pub(crate) fn is_covered(at: usize, len: usize) -> bool
+    ensures { result ≡ is_covered at len }
+{
+    at == 0 && len >= PAGE_LEN
 }
 
 /// A page of zeros alone.

@@ -2,6 +2,7 @@ ghost use Rattle.std.specs.Prelude.{◌≡◌, IfOk};
 ghost use Rattle.nfs_state.specs.Entries.{is_filehandle};
 
 use crate::Moment;
+use nfs_tree::Profile;
 use nfs_xdr::{Op, Principal};
 use std::alloc::AllocError;
 
@@ -35,12 +36,12 @@ impl Request {
         })
     }
 
-    /// Whether the request can be asked where the tree has so many nodes: its operation has an entry in the journal, and
-    /// its filehandle, if there is one, is that of a node.
-    pub fn can_be_asked(&self, nodes: u32) -> bool
-        ensures { result ≡ can_be_asked nodes self.now }
+    /// Whether the request can be asked under this profile, where the tree has so many nodes: its operation has an
+    /// entry in the journal, and its filehandle, if there is one, is that of a node.
+    pub fn can_be_asked(&self, profile: Profile, nodes: u32) -> bool
+        ensures { result ≡ can_be_asked profile nodes self.now }
     {
-        self.op.has_entry() && is_filehandle(nodes, self.filehandle)
+        profile.has_entry(&self.op) && is_filehandle(nodes, self.filehandle)
     }
 }
 

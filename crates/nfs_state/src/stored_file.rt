@@ -1,15 +1,17 @@
-ghost use Rattle.std.specs.Prelude.{◌≡◌, ◌↔◌, ◌<◌, ◌≤◌, ◌+◌, ◌-◌, ◌^◌, ◌==◌, IfOk, IsOk, IsTrue, OnOk, Some, length};
+ghost use Rattle.std.specs.Prelude.{◌≡◌, ◌↔◌, ◌<◌, ◌≤◌, ◌+◌, ◌-◌, ◌^◌, ◌==◌, IfOk, IsOk, IsTrue, OnOk, Some, length, take};
 ghost use Rattle.nfs_tree.specs.declared.tree.TheConstants.{TEXT_LIMIT};
-ghost use Rattle.nfs_state.specs.Files.{after_write, first_file, read_of};
-ghost use Rattle.nfs_state.specs.Pages.{AreFilledUp, page_start, replaced, zero_page};
+ghost use Rattle.nfs_state.specs.FileChange.{ComesWith, change_seen, end_of};
+ghost use Rattle.nfs_state.specs.Files.{after_change, after_cut, after_write, first_file, read_of};
+ghost use Rattle.nfs_state.specs.Pages.{AreFilledUp, zero_page};
 
+use crate::file_change::{FileChange, FileChangeRef};
 use crate::pages::Pages;
 use nfs_tree::TEXT_LIMIT;
 use std::alloc::{AllocError, Global};
 use std::marker::Model;
 use xdr::SharedBytes;
 
-/// A file as it is now (RFC 7530, section 5.8.1). Contracts also see the WRITE for which there is room.
+/// A file as it is now (RFC 7530, section 5.8.1). Contracts also see the change for which there is room.
 #[derive(Drop)]
 pub struct StoredFile {
     node: u32,
@@ -17,33 +19,32 @@ pub struct StoredFile {
     pages: Pages,
     size: usize,
     change: u64,
-    ready: Option<ReadyWrite>,
+    ready: Option<ReadyChange>,
 }
 
-// A WRITE for which there is room: the block, where it goes, and the pages that come with it.
+// A change for which there is room, and the pages that come with it.
 #[derive(Drop)]
-struct ReadyWrite {
-    offset: usize,
-    block: SharedBytes,
+struct ReadyChange {
+    change: FileChange,
     pages: Pages,
 }
 
 impl Model for StoredFile {
-    ghost use Rattle.std.specs.Prelude.{◌≡◌, ◌+◌, ◌≤◌, IfSome, length, option_map, take};
+    ghost use Rattle.std.specs.Prelude.{◌≡◌, ◌≤◌, IfSome, length, option_map, take};
+    ghost use Rattle.nfs_state.specs.FileChange.{ComesWith};
     ghost use Rattle.nfs_state.specs.Files.{RoomyFile};
-    ghost use Rattle.nfs_state.specs.Pages.{AreFilledUp, page_start, replaced};
+    ghost use Rattle.nfs_state.specs.Pages.{AreFilledUp};
 
     ghost Value = { RoomyFile };
 
     ghost view = { λ f. record {
       file = record { node = f.node; bytes = take f.size f.pages; change = f.change };
-      ready = option_map (λ w. (w.offset, w.block)) f.ready;
+      ready = option_map (λ w. w.change) f.ready;
     } };
 
     ghost invariant = { λ f. (f.size ≤ length f.pages)
         × AreFilledUp (take f.size f.pages) f.pages
-        × IfSome f.ready (λ w. (w.offset + length w.block ≤ length f.pages)
-        × (replaced (page_start w.offset) w.pages f.pages ≡ replaced w.offset w.block f.pages)) };
+        × IfSome f.ready (λ w. ComesWith f.pages w.change w.pages) };
 }
 
 impl StoredFile {
@@ -73,7 +74,7 @@ impl StoredFile {
         self.node == node
     }
 
-    /// How many writes changed the file (the attribute change).
+    /// How often the file was changed (the attribute change).
     pub fn change(&self) -> u64
         ensures { result ≡ self.now.file.change }
     {
@@ -107,42 +108,53 @@ impl StoredFile {
         Ok((len == left, self.pages.part(alloc, offset, len)?))
     }
 
-    // Whether there is room for the WRITE of the block at this offset.
-    fn is_ready(&self, offset: usize, block: &SharedBytes) -> bool
-        ensures { IsTrue result ↔ (self.now.ready ≡ Some (offset, block.now)) }
+    // Whether there is room for this change.
+    fn is_ready(&self, change: FileChangeRef<'_>) -> bool
+        ensures { IsTrue result ↔ (self.now.ready ≡ Some (change_seen change.entry)) }
     {
         match &self.ready {
-            Some(ready) => ready.offset == offset && ready.block == *block,
+            Some(ready) => ready.change.is(change),
             None => false,
         }
     }
 
-    /// Makes room for the WRITE of the block at this offset: the pages that come with it, and zeros before it where
-    /// there is a gap.
+    /// Makes room for the change: the pages that come with it, and zeros behind the file where it gets longer.
     pub(crate) fn reserve(
         &mut self,
         zeros: &SharedBytes,
-        offset: usize,
-        block: &SharedBytes,
+        change: FileChangeRef<'_>,
     ) -> Result<(), AllocError>
         requires zeros { zeros.now ≡ zero_page }
-        requires limit { offset + length block.now ≤ TEXT_LIMIT }
+        requires limit { end_of (change_seen change) ≤ TEXT_LIMIT }
         ensures same { self.new.file ≡ self.old.file }
-        ensures room { OnOk result (self.new.ready ≡ Some (offset, block.now)) }
-        ensures ready { self.old.ready ≡ Some (offset, block.now) → IsOk result }
+        ensures room { OnOk result (self.new.ready ≡ Some (change_seen change.entry)) }
+        ensures ready { self.old.ready ≡ Some (change_seen change.entry) → IsOk result }
     {
-        if self.is_ready(offset, block) {
+        if self.is_ready(change) {
             return Ok(());
         }
         self.ready = None;
-        self.ready = Some(prepare(&mut self.pages, zeros, offset, block)?);
+        self.ready = Some(prepare(&mut self.pages, zeros, self.size, change)?);
         Ok(())
     }
 
-    /// WRITE of the block at this offset (RFC 7530, section 16.36), for which there has to be room. It takes no memory.
-    pub(crate) fn write(&mut self, offset: usize, block: &SharedBytes)
+    /// Makes the change, for which there has to be room. It takes no memory.
+    pub(crate) fn make(&mut self, change: FileChangeRef<'_>)
+        requires limit { end_of (change_seen change) ≤ TEXT_LIMIT }
+        requires room { self.old.ready ≡ Some (change_seen change) }
+        requires changes { self.old.file.change < 2 ^ 64 - 1 }
+        ensures { self.new.file ≡ after_change (change_seen change.entry) self.old.file }
+    {
+        match change {
+            FileChangeRef::Writes { offset, block } => self.write(offset, block),
+            FileChangeRef::Cuts { size } => self.cut(size),
+        }
+    }
+
+    // WRITE of the block at this offset (RFC 7530, section 16.36), for which there has to be room.
+    fn write(&mut self, offset: usize, block: &SharedBytes)
         requires limit { offset + length block.now ≤ TEXT_LIMIT }
-        requires room { self.old.ready ≡ Some (offset, block.now) }
+        requires room { self.old.ready ≡ Some (FileChange.Writes offset block.now) }
         requires changes { self.old.file.change < 2 ^ 64 - 1 }
         ensures { self.new.file ≡ after_write offset block.now self.old.file }
     {
@@ -150,6 +162,19 @@ impl StoredFile {
         let ready = self.ready.take().unwrap();
         self.pages.replace(offset, ready.pages);
         self.size = self.size.max(offset + block.as_slice().len());
+        self.change += 1;
+    }
+
+    // Sets the size (RFC 7530, section 16.32), for which there has to be room.
+    fn cut(&mut self, size: usize)
+        requires room { self.old.ready ≡ Some (FileChange.Cuts size) }
+        requires changes { self.old.file.change < 2 ^ 64 - 1 }
+        ensures { self.new.file ≡ after_cut size self.old.file }
+    {
+        // There is room.
+        let ready = self.ready.take().unwrap();
+        self.pages.end_with(size, ready.pages);
+        self.size = size;
         self.change += 1;
     }
 }
@@ -167,25 +192,28 @@ fn pages_of(alloc: Global, zeros: &SharedBytes, text: &[u8]) -> Result<Pages, Al
     Ok(pages)
 }
 
-// Makes the pages that come with a WRITE, and adds those of a gap before it.
+// Makes the pages that come with a change of a file that uses so many bytes, and adds zeros where it gets longer.
 fn prepare(
     pages: &mut Pages,
     zeros: &SharedBytes,
-    offset: usize,
-    block: &SharedBytes,
-) -> Result<ReadyWrite, AllocError>
+    used: usize,
+    change: FileChangeRef<'_>,
+) -> Result<ReadyChange, AllocError>
     requires zeros { zeros.now ≡ zero_page }
-    requires limit { offset + length block.now ≤ TEXT_LIMIT }
+    requires used { (used ≤ length pages.old) × AreFilledUp (take used pages.old) pages.old }
+    requires limit { end_of (change_seen change) ≤ TEXT_LIMIT }
     ensures zeros { AreFilledUp pages.old pages.new }
-    ensures write { IfOk result (λ w. (w.offset ≡ offset) × (w.block ≡ block.now)) }
-    ensures fits { OnOk result (offset + length block.now ≤ length pages.new) }
-    ensures pages { IfOk result (λ w. replaced (page_start offset) w.pages pages.new
-        ≡ replaced offset block.now pages.new) }
+    ensures change { IfOk result (λ ready. ready.change ≡ change_seen change.entry) }
+    ensures pages { IfOk result (λ ready.
+        ComesWith pages.new (change_seen change.entry) ready.pages) }
 {
-    pages.grow(zeros, offset + block.as_slice().len())?;
-    Ok(ReadyWrite {
-        offset,
-        block: block.clone()?,
-        pages: pages.after(offset, block)?,
+    pages.grow(zeros, change.end())?;
+    let made = match change {
+        FileChangeRef::Writes { offset, block } => pages.after(offset, block)?,
+        FileChangeRef::Cuts { size } => pages.end_at(zeros, used, size)?,
+    };
+    Ok(ReadyChange {
+        change: change.to_owned()?,
+        pages: made,
     })
 }

@@ -1,11 +1,13 @@
-ghost use Rattle.std.specs.Prelude.{◌≡◌, ◌≤◌, ◌+◌, [], IfOk, IsOk, OnOk, find, length, option_map, if◌then◌else◌, ◌==◌, ◌<◌, ◌^◌, ◌-◌, ◌≢◌};
+ghost use Rattle.std.specs.Prelude.{◌≡◌, ◌≤◌, ◌+◌, [], IfOk, IsOk, OnOk, find, length, map, option_map, if◌then◌else◌, ◌==◌, ◌<◌, ◌^◌, ◌-◌, ◌≢◌};
 ghost use Rattle.std.specs.Option.{option_copied};
-ghost use Rattle.nfs_state.specs.Files.{CanChange, HasFileRoom, HasRoomIn, after_write, bytes_of, file_of, files_in, read_of, with_bytes};
+ghost use Rattle.nfs_state.specs.FileChange.{change_seen, end_of};
+ghost use Rattle.nfs_state.specs.Files.{CanChange, HasFileRoom, HasRoomIn, after_change, bytes_of, file_of, files_in, read_of, with_bytes, with_size};
 ghost use Rattle.nfs_state.specs.Pages.{zero_page};
 ghost use Rattle.nfs_state.specs.State.{initial_files};
 ghost use Rattle.nfs_tree.specs.declared.tree.TheConstants.{TEXT_LIMIT};
 
 use crate::StoredFile;
+use crate::file_change::{FileChange, FileChangeRef};
 use crate::pages::zero_page;
 use nfs_tree::Tree;
 use std::alloc::{AllocError, Global};
@@ -24,6 +26,7 @@ impl Model for StoredFiles {
     ghost use Rattle.std.specs.Prelude.{◌≡◌, List};
     ghost use Rattle.nfs_state.specs.Files.{RoomyFile};
     ghost use Rattle.nfs_state.specs.Pages.{zero_page};
+    ghost use Rattle.nfs_state.specs.State.{initial_files};
 
     ghost Value = { List RoomyFile };
 
@@ -75,32 +78,39 @@ impl StoredFiles {
         }
     }
 
-    /// Makes room for the WRITE of the block at this offset of the node's file.
-    pub(crate) fn reserve(
-        &mut self,
-        node: u32,
-        offset: u64,
-        block: &SharedBytes,
-    ) -> Result<(), AllocError>
-        requires limit { offset + length block.now ≤ TEXT_LIMIT }
+    /// Makes room for the change of the node's file.
+    pub(crate) fn reserve(&mut self, node: u32, change: FileChangeRef<'_>) -> Result<(), AllocError>
+        requires limit { end_of (change_seen change) ≤ TEXT_LIMIT }
         ensures same { files_in self.new ≡ files_in self.old }
-        ensures room { OnOk result (HasFileRoom node offset block.now self.new) }
-        ensures ready { HasFileRoom node offset block.now self.old → IsOk result }
+        ensures room { OnOk result (HasFileRoom node (change_seen change.entry) self.new) }
+        ensures ready { HasFileRoom node (change_seen change.entry) self.old → IsOk result }
     {
-        reserve_in(&mut self.files, &self.zeros, node, offset as usize, block)
+        reserve_in(&mut self.files, &self.zeros, node, change)
     }
 
     /// WRITE of the block at this offset of the node's file (RFC 7530, section 16.36), for which there has to be room.
     /// Zeros fill a gap before it. It takes no memory.
     pub(crate) fn write(&mut self, node: u32, offset: u64, block: &SharedBytes)
         requires limit { offset + length block.now ≤ TEXT_LIMIT }
-        requires room { HasFileRoom node offset block.now self.old }
+        requires room { HasFileRoom node (FileChange.Writes offset block.now) self.old }
         requires changes { CanChange (files_in self.old) }
         ensures { files_in self.new ≡ with_bytes node offset block.now (files_in self.old) }
     {
         if !block.as_slice().is_empty() {
             write_in(&mut self.files, node, offset as usize, block);
         }
+    }
+
+    /// Sets the size of the node's file (RFC 7530, section 16.32), for which there has to be room: the bytes behind it
+    /// are gone, and zeros come where there are fewer. It takes no memory.
+    pub(crate) fn cut(&mut self, node: u32, size: u64)
+        requires limit { size ≤ TEXT_LIMIT }
+        requires room { HasFileRoom node (FileChange.Cuts size) self.old }
+        requires changes { CanChange (files_in self.old) }
+        ensures { files_in self.new ≡ with_size node size (files_in self.old) }
+    {
+        let size = size as usize;
+        change_in(&mut self.files, node, FileChangeRef::Cuts { size });
     }
 }
 
@@ -122,17 +132,16 @@ fn reserve_in(
     files: &mut [StoredFile],
     zeros: &SharedBytes,
     node: u32,
-    offset: usize,
-    block: &SharedBytes,
+    change: FileChangeRef<'_>,
 ) -> Result<(), AllocError>
     requires zeros { zeros.now ≡ zero_page }
-    requires limit { offset + length block.now ≤ TEXT_LIMIT }
+    requires limit { end_of (change_seen change) ≤ TEXT_LIMIT }
     ensures same { files_in files.new ≡ files_in files.old }
-    ensures room { OnOk result (HasFileRoom node offset block.now files.new) }
-    ensures ready { HasFileRoom node offset block.now files.old → IsOk result }
+    ensures room { OnOk result (HasFileRoom node (change_seen change.entry) files.new) }
+    ensures ready { HasFileRoom node (change_seen change.entry) files.old → IsOk result }
 {
     for file in files.iter_mut() {
-        reserve_one(file, zeros, node, offset, block)?;
+        reserve_one(file, zeros, node, change)?;
     }
     Ok(())
 }
@@ -141,17 +150,16 @@ fn reserve_one(
     file: &mut StoredFile,
     zeros: &SharedBytes,
     node: u32,
-    offset: usize,
-    block: &SharedBytes,
+    change: FileChangeRef<'_>,
 ) -> Result<(), AllocError>
     requires zeros { zeros.now ≡ zero_page }
-    requires limit { offset + length block.now ≤ TEXT_LIMIT }
+    requires limit { end_of (change_seen change) ≤ TEXT_LIMIT }
     ensures same { file.new.file ≡ file.old.file }
-    ensures room { OnOk result (HasRoomIn node offset block.now file.new) }
-    ensures ready { HasRoomIn node offset block.now file.old → IsOk result }
+    ensures room { OnOk result (HasRoomIn node (change_seen change.entry) file.new) }
+    ensures ready { HasRoomIn node (change_seen change.entry) file.old → IsOk result }
 {
     if file.is_of(node) {
-        file.reserve(zeros, offset, block)?;
+        file.reserve(zeros, change)?;
     }
     Ok(())
 }
@@ -159,23 +167,34 @@ fn reserve_one(
 fn write_in(files: &mut [StoredFile], node: u32, offset: usize, block: &SharedBytes)
     requires some { block.now ≢ [] }
     requires limit { offset + length block.now ≤ TEXT_LIMIT }
-    requires room { HasFileRoom node offset block.now files.old }
+    requires room { HasFileRoom node (FileChange.Writes offset block.now) files.old }
     requires changes { CanChange (files_in files.old) }
     ensures { files_in files.new ≡ with_bytes node offset block.now (files_in files.old) }
 {
+    change_in(files, node, FileChangeRef::Writes { offset, block });
+}
+
+fn change_in(files: &mut [StoredFile], node: u32, change: FileChangeRef<'_>)
+    requires limit { end_of (change_seen change) ≤ TEXT_LIMIT }
+    requires room { HasFileRoom node (change_seen change) files.old }
+    requires changes { CanChange (files_in files.old) }
+    ensures { files_in files.new
+        ≡ map (λ f. if f.node == node then after_change (change_seen change.entry) f else f)
+        (files_in files.old) }
+{
     for file in files.iter_mut() {
-        write_one(file, node, offset, block);
+        change_one(file, node, change);
     }
 }
 
-fn write_one(file: &mut StoredFile, node: u32, offset: usize, block: &SharedBytes)
-    requires limit { offset + length block.now ≤ TEXT_LIMIT }
-    requires room { HasRoomIn node offset block.now file.old }
+fn change_one(file: &mut StoredFile, node: u32, change: FileChangeRef<'_>)
+    requires limit { end_of (change_seen change) ≤ TEXT_LIMIT }
+    requires room { HasRoomIn node (change_seen change) file.old }
     requires changes { file.old.file.change < 2 ^ 64 - 1 }
     ensures { file.new.file ≡ (if file.old.file.node == node
-        then after_write offset block.now file.old.file else file.old.file) }
+        then after_change (change_seen change.entry) file.old.file else file.old.file) }
 {
     if file.is_of(node) {
-        file.write(offset, block);
+        file.make(change);
     }
 }

@@ -1,6 +1,7 @@
 ghost use Rattle.std.specs.Prelude.{ℕ, ◌≡◌, ◌<◌, ◌≤◌, ◌+◌, ◌-◌, ◌^◌, IfErr, IfOk, IsOk, IsTrue, OnOk, Some, map};
 
 use crate::change::Change;
+use crate::file_change::FileChangeRef;
 use crate::limits::STATE_LIMIT;
 use crate::owner_change::OwnerChange;
 use crate::owner_update::{Keeping, OwnerUpdate};
@@ -168,7 +169,15 @@ impl Tables {
                 node,
                 offset,
                 bytes,
-            } => self.files.reserve(*node, *offset, bytes)?,
+            } => {
+                let (offset, block) = (*offset as usize, bytes);
+                self.files
+                    .reserve(*node, FileChangeRef::Writes { offset, block })?
+            }
+            Change::Cuts { node, size } => {
+                let size = *size as usize;
+                self.files.reserve(*node, FileChangeRef::Cuts { size })?
+            }
             Change::Nothing
             | Change::Confirms { .. }
             | Change::Downgrades { .. }
@@ -306,6 +315,7 @@ impl Tables {
                 offset,
                 bytes,
             } => self.files.write(node, offset, &bytes),
+            Change::Cuts { node, size } => self.files.cut(node, size),
             Change::MarksPath { client, path } => self.clients.mark(client, path),
             Change::Confirms {
                 node,

@@ -11,6 +11,7 @@ use Rattle.nfs_threads.specs.Worker.{AreServed, IsEndOf, Linking, Stand, stand}
 use Rattle.nfs_threads.specs.declared.connection_end.ConnectionEnd.{ConnectionEnd}
 use Rattle.nfs_threads.specs.declared.worker_end.WorkerEnd.{WorkerEnd}
 use Rattle.nfs_threads.proofs.Receipts.{receipts_are_questions}
+use Rattle.nfs_server.specs.Serves.{exported}
 
 -- the parts of the receipts that a desk gained while connections were served
 pub record Gained {L D C : Type 0} (linking : Linking L D C) (tree : Files) (before : Stand L) (connections : List ConnectionEnd) (after : Stand L) : Type 0 where
@@ -31,7 +32,7 @@ parts_of {L = L} linking tree before [] after are = record {
 parts_of linking tree before (one ∷ more) after are =
     let mid = are.0 in
     let is = are.1 in
-    let gains = receipts_are_questions linking.device tree linking.epoch linking.tells (scene is.device before.desk is.clock) (scene is.device' mid.desk is.clock') is.course.0 one.result is.course.1 in
+    let gains = receipts_are_questions linking.device (exported tree linking.served) linking.served.epoch linking.tells (scene is.device before.desk is.clock) (scene is.device' mid.desk is.clock') is.course.0 one.result is.course.1 in
     let rest = parts_of linking tree mid more after are.2 in record {
       parts = gains.receipts ∷ rest.parts;
       are = (mid, (is, gains, refl), rest.are);

@@ -7,7 +7,6 @@ use Rattle.nfs_state.specs.declared.entry.Call.{Call}
 use Rattle.nfs_state.specs.declared.entry.Entry.{Entry}
 use Rattle.nfs_state.specs.declared.entry.Entry.TheVariants as entries
 use Rattle.nfs_state.specs.declared.request.Request.{Request}
-use Rattle.nfs_tree.specs.Tree.{Files}
 use Rattle.nfs_server.specs.Asking.{Operation, Question, Renewal}
 use Rattle.nfs_server.specs.Device.{Device}
 use Rattle.nfs_server.specs.Entries.{AreEntries}
@@ -16,6 +15,7 @@ use Rattle.nfs_threads.specs.Holding.{AreAlikeButRoom, GivenBySeat, Holding, Hol
 use Rattle.nfs_threads.specs.Receipts.{AreOfSeat, GainsReceipts, ReceiptsAreQuestions, entries_of}
 use Rattle.nfs_server.specs.laws.Gaining.{IsGain, course_gains, entries_then}
 use Rattle.nfs_xdr.specs.declared.op_result.OpResult.{OpResult}
+use Rattle.nfs_tree.specs.Exports.{Exported}
 
 -- where seat and receipts are as they were, questions without entries gained nothing
 gains_none : (old new : Holding) (questions : List Question) (answers : List OpResult) → HoldsTheSame old new → AreEntries questions answers [] → GainsReceipts old questions answers new
@@ -73,6 +73,6 @@ gains_more old mid new questions others answers replies first second = record {
 desk_gains : (epoch : ℕ) → IsGain (GivenBySeat epoch) AreAlikeButRoom GainsReceipts
 desk_gains epoch = record { same = λ (h : Holding). refl; stays = gains_alike; one = gains_one epoch; more = gains_more }
 
-pub receipts_are_questions : {D C : Type 0} (device : Device D) (tree : Files) (epoch : ℕ) (tells : C → ℕ → C → Type 0) → ReceiptsAreQuestions device (rules tree (GivenBySeat epoch) AreAlikeButRoom tells)
-receipts_are_questions device tree epoch tells before after course result is =
-    course_gains device (rules tree (GivenBySeat epoch) AreAlikeButRoom tells) GainsReceipts (desk_gains epoch) before course result after is
+pub receipts_are_questions : {D C : Type 0} (device : Device D) (export : Exported) (epoch : ℕ) (tells : C → ℕ → C → Type 0) → ReceiptsAreQuestions device (rules export (GivenBySeat epoch) AreAlikeButRoom tells)
+receipts_are_questions device export epoch tells before after course result is =
+    course_gains device (rules export (GivenBySeat epoch) AreAlikeButRoom tells) GainsReceipts (desk_gains epoch) before course result after is

@@ -1,7 +1,6 @@
 -- What a desk holds, and how it answers as a service.
 use Rattle.std.specs.Prelude.{◌≡◌, ◌≢◌, ℕ, List, [], ◌∷◌, ◌++◌, Option, Some, None}
 use Rattle.nfs_forms.specs.ClientId.{number_in}
-use Rattle.nfs_forms.specs.declared.client_id.ClientId.{ClientId}
 use Rattle.nfs_shared.specs.Renewing.{RenewsAs, RenewsFor, was_renewed}
 use Rattle.nfs_shared.specs.Seats.{Gives, KnowsTheSame, SeatView, with_leases}
 use Rattle.nfs_shared.specs.declared.receipt.Receipt.{Receipt}

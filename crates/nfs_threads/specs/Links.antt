@@ -1,5 +1,5 @@
 -- The links of a listener.
-use Rattle.std.specs.Prelude.{◌≡◌, ℕ, None, Some, IsSome}
+use Rattle.std.specs.Prelude.{◌≡◌, None, Some, IsSome}
 use Rattle.nfs_threads.specs.Sockets.{socket_device}
 use Rattle.nfs_threads.specs.Uptimes.{GoesOn}
 use Rattle.nfs_threads.specs.declared.socket.Socket.{Socket}
@@ -8,6 +8,7 @@ use Rattle.nfs_threads.specs.declared.tcp_links.Entrance.TheVariants as entrance
 use Rattle.nfs_threads.specs.declared.tcp_links.TcpLinks.{TcpLinks}
 use Rattle.nfs_threads.specs.declared.uptime.Uptime.{Uptime}
 use Rattle.nfs_threads.specs.Worker.{Linking}
+use Rattle.nfs_tree.specs.Exports.{Exported}
 
 -- A listener gives one socket, which has no connection yet; a door gives one connection after the other.
 abbrev pub Enters : {R : Type 0} → Entrance → Socket R → Entrance → Type 0
@@ -35,10 +36,10 @@ HasEnded (entrances.Door door) = Unit {0}
 abbrev pub Stops : {R W : Type 0} → TcpLinks R W → TcpLinks R W → Type 0
 Stops old new = HasEnded old.entrance × (new ≡ old)
 
--- what is known of such links, in the run with this epoch
-abbrev pub tcp : {R W : Type 0} → ℕ → Linking (TcpLinks R W) (Socket R) (Uptime R)
-tcp epoch = record {
-  epoch = epoch;
+-- what is known of such links, in the run that serves this
+abbrev pub tcp : {R W : Type 0} → Exported → Linking (TcpLinks R W) (Socket R) (Uptime R)
+tcp served = record {
+  served = served;
   opens = Opens;
   stops = Stops;
   device = socket_device;

@@ -5,6 +5,7 @@ use Rattle.nfs_shared.specs.Seats.{SeatView}
 use Rattle.nfs_shared.specs.declared.receipt.Receipt.{Receipt}
 use Rattle.nfs_server.specs.Connection.{all_exchanges}
 use Rattle.nfs_server.specs.Exchange.{questions_of}
+use Rattle.nfs_server.specs.Serves.{exported}
 use Rattle.nfs_threads.specs.Receipts.{GainsReceipts}
 use Rattle.nfs_threads.specs.Worker.{IsServed, Linking, Stand}
 use Rattle.nfs_threads.specs.declared.connection_end.ConnectionEnd.{ConnectionEnd}
@@ -17,7 +18,7 @@ abbrev pub IsPart : {L D C : Type 0} → Linking L D C → Files → Stand L →
 IsPart linking tree before connection part after =
     (is : IsServed linking tree before connection after)
     × (gains : GainsReceipts before.desk
-    (flat_map (questions_of tree) (all_exchanges is.course.0))
+    (flat_map (questions_of (exported tree linking.served)) (all_exchanges is.course.0))
     (flat_map (λ e. e.answers) (all_exchanges is.course.0)) after.desk)
     × (gains.receipts ≡ part)
 

@@ -42,5 +42,5 @@ ReceiptsAreQuestions {D = D} {C = C} device rules =
     (before after : Scene D Holding C) (course : Course) (result : Result ℕ ServeError)
     → IsCourse device rules before course result after
     → GainsReceipts before.service
-    (flat_map (questions_of rules.tree) (all_exchanges course))
+    (flat_map (questions_of rules.export) (all_exchanges course))
     (flat_map (λ e. e.answers) (all_exchanges course)) after.service

@@ -2,6 +2,7 @@
 use Rattle.std.specs.Prelude.{◌≡◌, ℕ, suc, List, [], ◌∷◌, length, map}
 use Rattle.nfs_core.specs.Safe.{IsSafe}
 use Rattle.nfs_core.specs.Server.{IsLawful, Server}
+use Rattle.nfs_server.specs.Serves.{served_by}
 use Rattle.nfs_shared.specs.Ends.{AllApart, AllInTime, AllStand, receipts_in}
 use Rattle.nfs_shared.specs.Naming.{start_of}
 use Rattle.nfs_shared.specs.Receipts.{calls_in}
@@ -39,7 +40,7 @@ pub record IsRun {R W : Type 0} (links : TcpLinks R W) (tree : Files) (count : �
   pub seats : List SeatView
   pub words : Words
   pub lasts : words.lease ≡ old.journal.lease
-  pub each : AreAccounts (tcp old.journal.epoch) tree links words 0 workers seats
+  pub each : AreAccounts (tcp (served_by old.journal)) tree links words 0 workers seats
   -- the journal began as that of the old core, and is lawful; and what is stored is safe
   pub start : start_of new.journal ≡ start_of old.journal
   pub lawful : IsLawful new

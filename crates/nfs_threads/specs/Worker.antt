@@ -12,11 +12,13 @@ use Rattle.nfs_server.specs.Connection.{HasCourse, scene}
 use Rattle.nfs_server.specs.Device.{Device}
 use Rattle.nfs_server.specs.Exchange.{rules}
 use Rattle.nfs_threads.specs.Holding.{AreAlikeButRoom, GivenBySeat, Holding}
+use Rattle.nfs_server.specs.Serves.{exported}
+use Rattle.nfs_tree.specs.Exports.{Exported}
 
--- What is known of links, and of the run that they are served in: its epoch, what each connection gives, how there may be
--- no further one, and what the calls of their devices and clocks do.
+-- What is known of links, and of the run that they are served in: what it serves, what each connection gives, how there
+-- may be no further one, and what the calls of their devices and clocks do.
 pub record Linking (L D C : Type 0) : Type 1 where
-  pub epoch : ℕ
+  pub served : Exported
   pub opens : L → D → C → L → Type 0
   pub stops : L → L → Type 0
   pub device : Device D
@@ -24,10 +26,10 @@ pub record Linking (L D C : Type 0) : Type 1 where
   pub write_failures : D → ℕ
   pub tells : C → ℕ → C → Type 0
 
-abbrev pub linking : {L D C : Type 0} → ℕ → (L → D → C → L → Type 0) → (L → L → Type 0) → Device D
+abbrev pub linking : {L D C : Type 0} → Exported → (L → D → C → L → Type 0) → (L → L → Type 0) → Device D
     → (D → ℕ) → (D → ℕ) → (C → ℕ → C → Type 0) → Linking L D C
-linking epoch opens stops device read_failures write_failures tells = record {
-  epoch = epoch;
+linking served opens stops device read_failures write_failures tells = record {
+  served = served;
   opens = opens;
   stops = stops;
   device = device;
@@ -55,7 +57,8 @@ pub record IsServed {L D C : Type 0} (linking : Linking L D C) (tree : Files) (b
   pub device' : D
   pub clock' : C
   pub course : HasCourse linking.device
-      (rules tree (GivenBySeat linking.epoch) AreAlikeButRoom linking.tells)
+      (rules (exported tree linking.served) (GivenBySeat linking.served.epoch) AreAlikeButRoom
+      linking.tells)
       (scene device before.desk clock) connection.result (scene device' after.desk clock')
   pub read_failed : IsErrOf connection.result errors.Read
       ↔ linking.read_failures device < linking.read_failures device'

@@ -1,12 +1,14 @@
 ghost use Rattle.std.specs.Prelude.{◌≡◌, [], length, refl};
 ghost use Rattle.nfs_threads.specs.Holding.{AreAlikeButRoom, GivenBySeat};
 ghost use Rattle.nfs_shared.specs.Ends.{IsKept};
+ghost use Rattle.nfs_server.specs.Serves.{served_by};
 
 use nfs_core::Moment;
 use nfs_leases::{Renewal, renewal_answer};
 use nfs_server::Service;
 use nfs_shared::{Hold, Naming, Receipt, Seat, Shared, call_held};
 use nfs_state::Request;
+use nfs_tree::Profile;
 use nfs_xdr::{ClientId, OpResult};
 use std::alloc::{AllocError, Global};
 use std::marker::Model;
@@ -92,9 +94,17 @@ impl<'a, N: Naming, R: Wait> Service for Desk<'a, N, R> {
 
     ghost alike_same = { λ d. refl };
 
-    ghost serves = { λ d. N.start.nodes };
+    ghost serves = { λ d. served_by N.start };
 
     ghost room = { λ d. d.room };
+
+    fn epoch(&self) -> u32 {
+        self.shared.epoch()
+    }
+
+    fn profile(&self) -> Profile {
+        self.shared.profile()
+    }
 
     fn room(&mut self, questions: usize) -> Result<(), AllocError> {
         self.receipts.reserve(questions)

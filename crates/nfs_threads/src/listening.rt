@@ -2,6 +2,7 @@ ghost use Rattle.std.specs.Prelude.{◌≡◌, ◌≤◌, [], ℕ, IfErr, IfOk, 
 ghost use Rattle.std.specs.List.{AllByRecursion};
 ghost use Rattle.nfs_core.specs.Safe.{IsSafe};
 ghost use Rattle.nfs_core.specs.Server.{IsLawful};
+ghost use Rattle.nfs_server.specs.Serves.{served_by};
 ghost use Rattle.nfs_threads.specs.Links.{tcp};
 ghost use Rattle.nfs_threads.specs.Rooms.{HaveRoom};
 ghost use Rattle.nfs_threads.specs.Run.{IsRun, receipts_by_worker};
@@ -208,7 +209,8 @@ fn serve_helped<
     requires unused { AreUnused (seats_of links.items) }
     requires empty { spare.items ≡ [] }
     requires room { length links.items ≤ vec_capacity spare }
-    ensures { AreEndsOf (tcp N.start.epoch) setting.now.tree.now links.entry.items result.0.items }
+    ensures { AreEndsOf (tcp (served_by N.start)) setting.now.tree.now links.entry.items
+        result.0.items }
 {
     thread::scope(
         thread::scope_env(),
@@ -216,8 +218,8 @@ fn serve_helped<
         |scope| -> (Vec<WorkerEnd<N>>, Helpers<N>, bool)
             requires { (N.start.nodes ≡ setting.now.tree.now.nodes) × AreUnused (seats_of links.items)
                 × (spare.items ≡ []) × (length links.items ≤ vec_capacity spare) }
-            ensures { AreEndsOf (tcp N.start.epoch) setting.entry.now.tree.now links.entry.items
-                result.0.items }
+            ensures { AreEndsOf (tcp (served_by N.start)) setting.entry.now.tree.now
+                links.entry.items result.0.items }
         {
             let Helpers { sweeper, sender } = helpers;
             let sweeping = scope.spawn(move || sweep_until(setting, shared, sweeper));
@@ -251,7 +253,7 @@ fn refuse_all<N: Naming, R, W>(
     requires unused { AreUnused (seats_of links.items) }
     requires empty { spare.items ≡ [] }
     requires room { vec_len links ≤ vec_capacity spare }
-    ensures { AreEndsOf (tcp N.start.epoch) tree.now links.entry.items result.items }
+    ensures { AreEndsOf (tcp (served_by N.start)) tree.now links.entry.items result.items }
 {
     let mut all = spare;
     for (_, seat) in links {

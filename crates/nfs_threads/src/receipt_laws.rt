@@ -8,6 +8,8 @@ ghost use Rattle.nfs_threads.specs.Worker.{IsEndOf, linking};
 ghost use Rattle.nfs_threads.specs.declared.worker_end.WorkerEnd.{WorkerEnd};
 ghost use Rattle.nfs_server.specs.Sides.{device_of};
 ghost use Rattle.nfs_tree.specs.Tree.{Files};
+ghost use Rattle.nfs_server.specs.Serves.{served_by};
+ghost use Rattle.nfs_tree.specs.Exports.{Exported};
 
 use crate::Links;
 use nfs_server::{Clock, Duplex, Sink, Source};
@@ -17,11 +19,11 @@ use nfs_shared::Naming;
 /// answers and in order, except those that were answered `NFS4ERR_RESOURCE`; that they bear the place of its seat; and
 /// that their numbers rise.
 pub fn receipts_are_questions<D: Duplex, R: Source, W: Sink, C: Clock>()
-    ensures together { (tree : Files) (epoch : ℕ) → ReceiptsAreQuestions D.device
-        (rules tree (GivenBySeat epoch) AreAlikeButRoom C.tells) }
-    ensures apart { (tree : Files) (epoch : ℕ) → ReceiptsAreQuestions
+    ensures together { (export : Exported) (epoch : ℕ) → ReceiptsAreQuestions D.device
+        (rules export (GivenBySeat epoch) AreAlikeButRoom C.tells) }
+    ensures apart { (export : Exported) (epoch : ℕ) → ReceiptsAreQuestions
         (device_of R.gives R.fails W.takes W.fails)
-        (rules tree (GivenBySeat epoch) AreAlikeButRoom C.tells) }
+        (rules export (GivenBySeat epoch) AreAlikeButRoom C.tells) }
 {}
 
 /// The law that the receipts which a worker gives back are the parts of its connections, one after the other, and that each
@@ -29,11 +31,11 @@ pub fn receipts_are_questions<D: Duplex, R: Source, W: Sink, C: Clock>()
 pub fn receipts_by_connection<N: Naming, L: Links>()
     ensures { (tree : Files) (links : L) (seat : SeatView) (end : WorkerEnd N)
         → IsEndOf
-        (linking N.start.epoch L.opens L.stops L.Device.device L.Device.read_failures
+        (linking (served_by N.start) L.opens L.stops L.Device.device L.Device.read_failures
         L.Device.write_failures L.Clock.tells)
         tree links seat end
         → HasParts
-        (linking N.start.epoch L.opens L.stops L.Device.device L.Device.read_failures
+        (linking (served_by N.start) L.opens L.stops L.Device.device L.Device.read_failures
         L.Device.write_failures L.Clock.tells)
         tree links seat end }
 {}

@@ -3,6 +3,7 @@ ghost use Rattle.nfs_threads.specs.WorkerThread.{AreWorkers};
 ghost use Rattle.nfs_threads.specs.Worker.{AreEndsOf, AreUnused, linking, seats_of};
 ghost use Rattle.nfs_shared.specs.Seats.{SeatView};
 ghost use Rattle.nfs_tree.specs.Tree.{Files};
+ghost use Rattle.nfs_server.specs.Serves.{served_by};
 
 use crate::worker::Common;
 use crate::worker_thread::{Worker, begin, finish};
@@ -28,7 +29,7 @@ pub fn serve_all<N: Naming + Send + Sync, L: Links + Drop + Send, R: Threads + W
     requires tree { N.start.nodes ≡ tree.now.nodes }
     requires unused { AreUnused (seats_of links.items) }
     ensures ends { IfOk result (λ ends. AreEndsOf
-        (linking N.start.epoch L.opens L.stops L.Device.device L.Device.read_failures
+        (linking (served_by N.start) L.opens L.stops L.Device.device L.Device.read_failures
         L.Device.write_failures L.Clock.tells)
         tree.now links.items ends.items) }
     ensures back { IfErr result (λ back. back ≡ links) }
@@ -50,7 +51,7 @@ pub fn serve_all<N: Naming + Send + Sync, L: Links + Drop + Send, R: Threads + W
             requires { (length flags.now ≡ vec_len links) × (N.start.nodes ≡ common.now.tree.now.nodes)
                 × AreUnused (seats_of links.items) }
             ensures ends { IfOk result (λ ends. AreEndsOf
-                (linking N.start.epoch L.opens L.stops L.Device.device L.Device.read_failures
+                (linking (served_by N.start) L.opens L.stops L.Device.device L.Device.read_failures
                 L.Device.write_failures L.Clock.tells)
                 common.entry.now.tree.now links.items ends.items) }
             ensures back { IfErr result (λ back. back ≡ links) }
@@ -77,7 +78,7 @@ fn serve_in<
     requires tree { N.start.nodes ≡ common.now.tree.now.nodes }
     requires unused { AreUnused (seats_of links.items) }
     ensures ends { IfOk result (λ ends. AreEndsOf
-        (linking N.start.epoch L.opens L.stops L.Device.device L.Device.read_failures
+        (linking (served_by N.start) L.opens L.stops L.Device.device L.Device.read_failures
         L.Device.write_failures L.Clock.tells)
         common.now.tree.now links.items ends.items) }
     ensures back { IfErr result (λ back. back ≡ links) }
@@ -120,11 +121,11 @@ fn finish_all<N: Naming, L: Links, R: Threads>(
     requires room { vec_len workers ≤ vec_capacity ends.old }
     ensures { (tree : Files) (links : List (L × SeatView))
         → AreWorkers
-        (linking N.start.epoch L.opens L.stops L.Device.device L.Device.read_failures
+        (linking (served_by N.start) L.opens L.stops L.Device.device L.Device.read_failures
         L.Device.write_failures L.Clock.tells)
         tree links workers.items
         → AreEndsOf
-        (linking N.start.epoch L.opens L.stops L.Device.device L.Device.read_failures
+        (linking (served_by N.start) L.opens L.stops L.Device.device L.Device.read_failures
         L.Device.write_failures L.Clock.tells)
         tree links ends.new.items }
 {

@@ -1,5 +1,6 @@
 ghost use Rattle.std.specs.Prelude.{◌≡◌, ◌<◌, [], false, true, IfOk, IsSome, IsTrue, OnErr, OnOk, vec_capacity, vec_len};
 ghost use Rattle.nfs_threads.specs.Worker.{HasServed, IsEndOf, linking, stand};
+ghost use Rattle.nfs_server.specs.Serves.{served_by};
 
 use crate::{ConnectionEnd, Desk, Links, Shift, WorkerEnd};
 use nfs_server::Buffers;
@@ -31,7 +32,7 @@ pub(crate) struct ServicePromise<N: Naming, L> {
 
 impl<N: Naming, L: Links> Promise<WorkerEnd<N>> for ServicePromise<N, L> {
     ghost kept_by = { λ p end. IsEndOf
-        (linking N.start.epoch L.opens L.stops L.Device.device L.Device.read_failures
+        (linking (served_by N.start) L.opens L.stops L.Device.device L.Device.read_failures
         L.Device.write_failures L.Clock.tells)
         p.tree.value p.links.value p.seat.value end };
 }
@@ -47,7 +48,7 @@ pub(crate) fn work<N: Naming, L: Links + Drop, R: Wait>(
     requires tree { N.start.nodes ≡ common.now.tree.now.nodes }
     requires unused { seat.receipts.given ≡ 0 }
     ensures { IsEndOf
-        (linking N.start.epoch L.opens L.stops L.Device.device L.Device.read_failures
+        (linking (served_by N.start) L.opens L.stops L.Device.device L.Device.read_failures
         L.Device.write_failures L.Clock.tells)
         common.now.tree.now links seat result }
 {
@@ -75,7 +76,7 @@ fn serve_each<N: Naming, L: Links, R: Wait>(
     requires tree { N.start.nodes ≡ common.now.tree.now.nodes }
     requires empty { connections.old.items ≡ [] }
     ensures connections { HasServed
-        (linking N.start.epoch L.opens L.stops L.Device.device L.Device.read_failures
+        (linking (served_by N.start) L.opens L.stops L.Device.device L.Device.read_failures
         L.Device.write_failures L.Clock.tells)
         common.now.tree.now (stand links.old desk.old) connections.new.items result
         (stand links.new desk.new) }

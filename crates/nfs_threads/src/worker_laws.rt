@@ -5,6 +5,7 @@ ghost use Rattle.nfs_shared.specs.Ends.{AreFresh, AreKept};
 ghost use Rattle.nfs_shared.specs.Seats.{SeatView};
 ghost use Rattle.nfs_tree.specs.Tree.{Files};
 ghost use Rattle.nfs_words.specs.Sitting.{Words};
+ghost use Rattle.nfs_server.specs.Serves.{served_by};
 
 use crate::Links;
 use nfs_shared::Naming;
@@ -16,7 +17,7 @@ pub fn workers_keep_receipts<N: Naming, L: Links>()
         (ends : List (WorkerEnd N))
         → AreFresh words count (seats_of links)
         → AreEndsOf
-        (linking N.start.epoch L.opens L.stops L.Device.device L.Device.read_failures
+        (linking (served_by N.start) L.opens L.stops L.Device.device L.Device.read_failures
         L.Device.write_failures L.Clock.tells)
         tree links ends
         → (length (seats_back ends) ≡ count) × AreKept (seats_back ends) (receipts_back ends) }

@@ -3,6 +3,7 @@ ghost use Rattle.nfs_threads.specs.WorkerThread.{IsWorker};
 ghost use Rattle.nfs_threads.specs.Worker.{IsEndOf, linking};
 ghost use Rattle.nfs_shared.specs.Seats.{SeatView};
 ghost use Rattle.nfs_tree.specs.Tree.{Files};
+ghost use Rattle.nfs_server.specs.Serves.{served_by};
 
 use crate::worker::{Common, ServicePromise, work};
 use crate::{Links, WorkerEnd};
@@ -36,7 +37,7 @@ pub(crate) fn begin<
     requires tree { N.start.nodes ≡ common.now.tree.now.nodes }
     requires unused { seat.receipts.given ≡ 0 }
     ensures { IsWorker
-        (linking N.start.epoch L.opens L.stops L.Device.device L.Device.read_failures
+        (linking (served_by N.start) L.opens L.stops L.Device.device L.Device.read_failures
         L.Device.write_failures L.Clock.tells)
         common.now.tree.now links seat result }
 {
@@ -50,7 +51,7 @@ pub(crate) fn begin<
         move || -> WorkerEnd<N>
             requires { (N.start.nodes ≡ common.now.tree.now.nodes) × (seat.receipts.given ≡ 0) }
             ensures { IsEndOf
-                (linking N.start.epoch L.opens L.stops L.Device.device L.Device.read_failures
+                (linking (served_by N.start) L.opens L.stops L.Device.device L.Device.read_failures
                 L.Device.write_failures L.Clock.tells)
                 common.entry.now.tree.now links seat result }
         { work(common, refused, links, seat) },
@@ -68,11 +69,11 @@ pub(crate) fn begin<
 pub(crate) fn finish<N: Naming, L: Links, R: Threads>(rt: &R, worker: Worker<N, L>) -> WorkerEnd<N>
     ensures { (tree : Files) (links : L) (seat : SeatView)
         → IsWorker
-        (linking N.start.epoch L.opens L.stops L.Device.device L.Device.read_failures
+        (linking (served_by N.start) L.opens L.stops L.Device.device L.Device.read_failures
         L.Device.write_failures L.Clock.tells)
         tree links seat worker
         → IsEndOf
-        (linking N.start.epoch L.opens L.stops L.Device.device L.Device.read_failures
+        (linking (served_by N.start) L.opens L.stops L.Device.device L.Device.read_failures
         L.Device.write_failures L.Clock.tells)
         tree links seat result }
 {

@@ -1,8 +1,11 @@
+pub mod Attributes
 pub mod Builds
 pub mod DocumentNodes
+pub mod Cookies
 pub mod Documents
 pub mod Entries
 pub mod Growing
+pub mod Masks
 pub mod Nodes
 pub mod Paths
 pub mod Short

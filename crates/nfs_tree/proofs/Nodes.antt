@@ -1,7 +1,8 @@
 -- The nodes in a list: which are directories, which have a child, and how many there are of each kind.
 use Rattle.std.proofs.Common.{◌≡◌, ℕ, zero, suc, ◌+◌, ◌-◌, ◌<◌, ◌≤◌, ◌==◌, ◌⊎◌, Bool, true, false, not, ltb, List, [], ◌∷◌, ◌++◌, length, get_or, filter, position, slice_get, Option, Some, None, option_map, refl, sym, ap, subst, ◌∙◌, append_assoc, arith, inl, inr, length-append}
-use Rattle.std.specs.Prelude.{◌&&◌}
-use Rattle.std.specs.List.{position_or_len}
+use Rattle.std.specs.Prelude.{codes, ◌&&◌, nat_le, if◌then◌else◌}
+use Rattle.std.specs.List.{list_all, position_or_len}
+use Rattle.std.specs.Str.{bytes_eq}
 use Rattle.std.proofs.lemmas.Bool.{eqb-true}
 use Rattle.std.proofs.lemmas.Bool.Decides.{nat_tests}
 use Rattle.std.proofs.lemmas.List.{append-nil}
@@ -10,7 +11,8 @@ use Rattle.std.proofs.lemmas.List.Quantifiers.{position-Some}
 use Rattle.std.proofs.lemmas.Option.{slice_get_within, slice_get-get_or}
 use Rattle.nfs_tree.specs.declared.node.Node.{Node}
 use Rattle.nfs_tree.specs.declared.node.NodeKind.TheVariants.{Directory}
-use Rattle.nfs_tree.specs.Tree.{is_directory, is_directory_kind, is_directory_node, is_child, child, directories, files, EachFits, IsTree}
+use Rattle.nfs_tree.specs.Tree.{is_directory, is_directory_kind, is_directory_node, is_child, is_name, is_name_byte, child, directories, files, node_at, EachFits, IsTree}
+use Rattle.nfs_tree.specs.declared.path.TheConstants.{NAME_LIMIT}
 
 -- a boolean is true or false
 pub decided : (b : Bool) → (b ≡ true) ⊎ (b ≡ false)
@@ -163,3 +165,30 @@ found_child nodes parent name place tree found =
     let same : node.parent ≡ parent = eqb-true node.parent parent (and_parts (node.parent == parent) _ at.1).0 in
     let there : is_directory nodes node.parent ≡ true = parent_there [] nodes place node tree.each_fits (slice_get-get_or nodes place none at.0) in
     (at.0, ap (is_directory nodes) (sym same) ∙ there)
+
+-- the names of nodes are short
+each_named : (before nodes : List Node) (i : ℕ) (node : Node) → EachFits before nodes → slice_get nodes i ≡ Some node → is_name node.name ≡ true
+each_named before [] i node fits h = cc
+each_named before (x ∷ nodes) zero node fits h =
+    let same : x ≡ node = cc in
+    subst (λ (n : Node). is_name n.name ≡ true) same fits.0.name
+each_named before (x ∷ nodes) (suc i) node fits h = each_named (before ++ x ∷ []) nodes i node fits.1 h
+
+short_name : (name : List ℕ) → is_name name ≡ true → length name ≤ NAME_LIMIT
+short_name name is =
+    let parts = and_parts (not (length name == 0) && nat_le (length name) NAME_LIMIT && list_all is_name_byte name && not (bytes_eq name (codes "."))) _ is in
+    let without = and_parts (not (length name == 0) && nat_le (length name) NAME_LIMIT && list_all is_name_byte name) _ parts.0 in
+    let few = and_parts (not (length name == 0) && nat_le (length name) NAME_LIMIT) _ without.0 in
+    let short : nat_le (length name) NAME_LIMIT ≡ true = (and_parts (not (length name == 0)) _ few.0).1 in
+    grind (arith, nat_tests)
+
+none_some : (node : Node) → None ≡ Some node → ⊥
+none_some node h = cc
+
+at_place : (nodes : List Node) (n : ℕ) (node : Node) (root : Bool) → (n == 0) ≡ root → node_at nodes n ≡ Some node → slice_get nodes (n - 1) ≡ Some node
+at_place nodes n node true root h = absurd (none_some node (sym (ap (λ b. if b then None else slice_get nodes (n - 1)) root) ∙ h))
+at_place nodes n node false root h = sym (ap (λ b. if b then None else slice_get nodes (n - 1)) root) ∙ h
+
+pub named_short : (nodes : List Node) (n : ℕ) (node : Node) → IsTree nodes → Some node ≡ node_at nodes n → length node.name ≤ NAME_LIMIT
+named_short nodes n node tree at =
+    short_name node.name (each_named [] nodes (n - 1) node tree.each_fits (at_place nodes n node (n == 0) refl (sym at)))

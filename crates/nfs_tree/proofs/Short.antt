@@ -1,32 +1,47 @@
 -- The answers of the operations on the tree are those of the operation, and short.
-use Rattle.std.proofs.Common.{◌≡◌, ℕ, Option, Some, None, Result, Ok, Err, List, refl, sym, ap, subst}
+use Rattle.std.proofs.Common.{◌≡◌, ℕ, Option, Some, None, Result, Ok, Err, List, refl, subst}
+use Rattle.std.specs.Prelude.{Bool, true, false, if◌then◌else◌}
+use Rattle.nfs_forms.specs.declared.answer.Answer.TheVariants.{Done, Refused}
 use Rattle.nfs_forms.specs.declared.status.Refusal.{Refusal}
-use Rattle.nfs_tree.specs.Effect.{Effect}
-use Rattle.nfs_tree.specs.Tree.{Files, node_of, resolution}
+use Rattle.nfs_forms.specs.declared.status.Refusal.TheVariants as refusals
+use Rattle.nfs_tree.specs.Effect.{Effect, stays}
+use Rattle.nfs_tree.specs.Exports.{Exported, verifier_of}
+use Rattle.nfs_tree.specs.Tree.{is_directory, node_of, resolution}
 use Rattle.nfs_tree.specs.declared.filehandles.Filehandles.{Filehandles}
+use Rattle.nfs_tree.specs.declared.node.Node.{Node}
 use Rattle.nfs_tree.specs.operations.{effect_of}
+use Rattle.nfs_tree.specs.operations.Commit.{commit_of}
 use Rattle.nfs_tree.specs.operations.Lookup.{lookup_at, lookup_found}
 use Rattle.nfs_tree.specs.operations.Putfh.{putfh_at}
 use Rattle.nfs_tree.specs.operations.Restorefh.{restorefh_of}
 use Rattle.nfs_tree.specs.operations.Savefh.{savefh_of}
 use Rattle.nfs_xdr.specs.Op.{opnum_of}
-use Rattle.nfs_xdr.specs.OpResult as results
+use Rattle.nfs_xdr.specs.OpResult as of_results
 use Rattle.nfs_xdr.specs.Short.{IsShort}
+use Rattle.nfs_xdr.specs.declared.op_result.OpResult.TheVariants as results
 use Rattle.nfs_xdr.specs.declared.op.Op.{Op}
 use Rattle.nfs_xdr.specs.declared.op.Op.TheVariants as ops
 use Rattle.nfs_xdr.specs.declared.opnum.Opnum.{Opnum}
 use Rattle.nfs_xdr.specs.declared.opnum.Opnum.TheVariants as opnums
 
 abbrev pub Answers : Opnum → Effect → Type 0
-Answers o e = IsShort e.answer × (results.opnum_of e.answer ≡ o)
+Answers o e = IsShort e.answer × (of_results.opnum_of e.answer ≡ o)
 
 found_answers : (old : Filehandles) (found : Result ℕ Refusal) → Answers opnums.Lookup (lookup_found old found)
 found_answers old (Err refusal) = (tt, refl)
 found_answers old (Ok node) = (tt, refl)
 
-lookup_answers : (tree : Files) (old : Filehandles) (current : Option ℕ) (name : List ℕ) → Answers opnums.Lookup (lookup_at tree old current name)
-lookup_answers tree old None name = (tt, refl)
-lookup_answers tree old (Some node) name = found_answers old (resolution tree.nodes node name)
+lookup_answers : (nodes : List Node) (old : Filehandles) (current : Option ℕ) (name : List ℕ) → Answers opnums.Lookup (lookup_at nodes old current name)
+lookup_answers nodes old None name = (tt, refl)
+lookup_answers nodes old (Some node) name = found_answers old (resolution nodes node name)
+
+commit_either : (old : Filehandles) (b : Bool) (epoch : ℕ) → Answers opnums.Commit (stays old (results.Commit (if b then Refused refusals.IsDir else Done (verifier_of epoch))))
+commit_either old true epoch = (tt, refl)
+commit_either old false epoch = (tt, refl)
+
+commit_answers : (export : Exported) (old : Filehandles) (current : Option ℕ) → Answers opnums.Commit (stays old (results.Commit (commit_of export current)))
+commit_answers export old None = (tt, refl)
+commit_answers export old (Some node) = commit_either old (is_directory export.nodes node) export.epoch
 
 putfh_answers : (old : Filehandles) (node : Option ℕ) → Answers opnums.Putfh (putfh_at old node)
 putfh_answers old None = (tt, refl)
@@ -46,12 +61,13 @@ some_same made e is = cc
 of_some : (o : Opnum) (made e : Effect) → Answers o made → Some made ≡ Some e → Answers o e
 of_some o made e answers is = subst (Answers o) (some_same made e is) answers
 
-pub effect_answers : (tree : Files) (old : Filehandles) (op : Op) (e : Effect) → effect_of tree old op ≡ Some e → Answers (opnum_of op) e
-effect_answers tree old (ops.Access requested) e is = of_some _ _ e (tt, refl) is
-effect_answers tree old ops.Getfh e is = of_some _ _ e (tt, refl) is
-effect_answers tree old (ops.Lookup name) e is = of_some _ _ e (lookup_answers tree old old.current name) is
-effect_answers tree old (ops.Putfh handle) e is = of_some _ _ e (putfh_answers old (node_of tree.nodes handle)) is
-effect_answers tree old ops.Putrootfh e is = of_some _ _ e (tt, refl) is
-effect_answers tree old ops.Restorefh e is = of_some _ _ e (restorefh_answers old old.saved) is
-effect_answers tree old ops.Savefh e is = of_some _ _ e (savefh_answers old old.current) is
-effect_answers tree old op e is = absurd cc
+pub effect_answers : (export : Exported) (old : Filehandles) (op : Op) (e : Effect) → effect_of export old op ≡ Some e → Answers (opnum_of op) e
+effect_answers export old (ops.Access requested) e is = of_some _ _ e (tt, refl) is
+effect_answers export old (ops.Commit args) e is = of_some _ _ e (commit_answers export old old.current) is
+effect_answers export old ops.Getfh e is = of_some _ _ e (tt, refl) is
+effect_answers export old (ops.Lookup name) e is = of_some _ _ e (lookup_answers export.nodes old old.current name) is
+effect_answers export old (ops.Putfh handle) e is = of_some _ _ e (putfh_answers old (node_of export.nodes handle)) is
+effect_answers export old ops.Putrootfh e is = of_some _ _ e (tt, refl) is
+effect_answers export old ops.Restorefh e is = of_some _ _ e (restorefh_answers old old.saved) is
+effect_answers export old ops.Savefh e is = of_some _ _ e (savefh_answers old old.current) is
+effect_answers export old op e is = absurd cc

@@ -16,6 +16,8 @@ use Rattle.nfs_tree.specs.declared.policy.CloseLocks.TheVariants as close_locks
 use Rattle.nfs_tree.specs.declared.policy.Delegations.{Delegations}
 use Rattle.nfs_tree.specs.declared.policy.Delegations.TheVariants as delegations
 use Rattle.nfs_tree.specs.declared.policy.Policy.{Policy}
+use Rattle.nfs_tree.specs.declared.profile.Profile.{Profile}
+use Rattle.nfs_tree.specs.declared.profile.Profile.TheVariants as profiles
 use Rattle.nfs_tree.specs.declared.tree_error.TreeError.{TreeError}
 use Rattle.nfs_tree.specs.declared.tree_error.TreeError.TheVariants as errors
 
@@ -85,23 +87,38 @@ close_locks_of value = as_str value >>= λ word.
     else if bytes_eq word (codes "refuse") then Some close_locks.Refuse
     else None
 
+abbrev pub profile_of : Data → Option Profile
+profile_of value = as_str value >>= λ word.
+    if bytes_eq word (codes "plain") then Some profiles.Plain
+    else if bytes_eq word (codes "clients") then Some profiles.Clients
+    else None
+
 abbrev pub default_policy : Policy
 default_policy = record {
   delegations = delegations.All;
   callbacks = callbacks.Probe;
   close_locks = close_locks.Free;
+  profile = profiles.Plain;
 }
 
 abbrev pub policy_of : Data → Option Policy
 policy_of value =
-    table_of (codes "delegations" ∷ codes "callbacks" ∷ codes "close_locks" ∷ []) value
+    table_of
+    (codes "delegations" ∷ codes "callbacks" ∷ codes "close_locks" ∷ codes "profile" ∷ []) value
     >>= λ table.
     or_absent delegations.All delegations_of (get_member (codes "delegations") table)
     >>= λ delegations.
     or_absent callbacks.Probe callbacks_of (get_member (codes "callbacks") table) >>= λ callbacks.
     or_absent close_locks.Free close_locks_of (get_member (codes "close_locks") table)
     >>= λ close_locks.
-    Some (record { delegations = delegations; callbacks = callbacks; close_locks = close_locks })
+    or_absent profiles.Plain profile_of (get_member (codes "profile") table) >>= λ profile.
+    Some
+    (record {
+      delegations = delegations;
+      callbacks = callbacks;
+      close_locks = close_locks;
+      profile = profile;
+    })
 
 -- The description of a tree in a TOML document, if it contains one: the entries of directories, followed by those of
 -- files.

@@ -1,5 +1,9 @@
 pub mod Tree
 pub mod Attributes
+pub mod Setting
+pub mod Children
+pub mod Exports
+pub mod Profiles
 pub mod Document
 pub mod Building
 pub mod Leads

@@ -8,8 +8,7 @@ use Rattle.nfs_tree.specs.declared.policy.CloseLocks.{CloseLocks}
 use Rattle.nfs_tree.specs.declared.policy.CloseLocks.TheVariants as locks
 use Rattle.nfs_tree.specs.declared.policy.Delegations.{Delegations}
 use Rattle.nfs_tree.specs.declared.policy.Delegations.TheVariants as delegation
-use Rattle.nfs_tree.specs.declared.policy.Policy.{Policy}
-use Rattle.xdr.specs.Form.{Form, ◌and◌, of, enumeration}
+use Rattle.xdr.specs.Form.{Form, enumeration}
 
 -- enum { none = 0, read = 1, all = 2 }
 abbrev pub number_of_delegations : Delegations → ℕ
@@ -56,9 +55,3 @@ known_close_locks c = refl
 
 unfoldable pub close_locks : Form CloseLocks
 close_locks = enumeration number_of_close_locks all_close_locks known_close_locks
-
--- struct { delegations; callbacks; close_locks; }
-unfoldable pub policy : Form Policy
-policy = of (λ p. record { delegations = p.0; callbacks = p.1.0; close_locks = p.1.1 })
-    (λ p. (p.delegations, (p.callbacks, p.close_locks))) (λ p. refl) (λ p. refl)
-    (delegations and callbacks and close_locks)

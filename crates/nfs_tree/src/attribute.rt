@@ -1,10 +1,8 @@
-ghost use Rattle.std.specs.Prelude.{◌≡◌, ◌^◌, ◌++◌, IfOk, OnOk, if◌then◌else◌};
-ghost use Rattle.nfs_tree.specs.Attributes.{requested_bits, attributes_of, mask_of, number_of, supported_bits, value_requested, value_of, values_of};
-ghost use Rattle.nfs_tree.specs.Tree.{handle_of};
-ghost use Rattle.xdr.specs.Writing.{written_opaque, written_u32, written_u64};
+ghost use Rattle.std.specs.Prelude.{◌≡◌, IfOk, IsOk, get_or};
+ghost use Rattle.nfs_tree.specs.Attributes.{bit_of, common, first_attributes, is_readable, mask_of, readable, second_attributes, supported, words_of};
 
-use crate::{HANDLE_LEN, Tree};
-use nfs_xdr::{Bitmap, Fattr, Values};
+use crate::Profile;
+use nfs_xdr::Bitmap;
 use std::alloc::{AllocError, Global};
 
 /// The attributes that the server supports (RFC 7530, section 5), each with its number.
@@ -24,10 +22,30 @@ pub enum Attribute {
     RdattrError = 11,
     Filehandle = 19,
     Fileid = 20,
+    FilesAvail = 21,
+    FilesFree = 22,
+    FilesTotal = 23,
+    Maxfilesize = 27,
+    Maxname = 29,
+    Maxread = 30,
+    Maxwrite = 31,
+    Mode = 33,
+    Numlinks = 35,
+    Owner = 36,
+    OwnerGroup = 37,
+    SpaceAvail = 42,
+    SpaceFree = 43,
+    SpaceTotal = 44,
+    SpaceUsed = 45,
+    TimeAccess = 47,
+    TimeMetadata = 52,
+    TimeModify = 53,
+    /// The only one that can be set but not read.
+    TimeModifySet = 54,
 }
 
-/// The supported attributes in increasing order of their numbers.
-pub const ATTRIBUTES: [Attribute; 14] = [
+/// Those that can be read under the profile "plain", in increasing order of their numbers.
+const PLAIN_ATTRIBUTES: [Attribute; 14] = [
     Attribute::SupportedAttrs,
     Attribute::Type,
     Attribute::FhExpireType,
@@ -44,158 +62,166 @@ pub const ATTRIBUTES: [Attribute; 14] = [
     Attribute::Fileid,
 ];
 
-/// The word with the bits of all supported attributes.
-const SUPPORTED: u32 = 0x0018_0fff;
+/// Those that can be read under the profile "clients": in the first word of a bitmap.
+const FIRST_ATTRIBUTES: [Attribute; 21] = [
+    Attribute::SupportedAttrs,
+    Attribute::Type,
+    Attribute::FhExpireType,
+    Attribute::Change,
+    Attribute::Size,
+    Attribute::LinkSupport,
+    Attribute::SymlinkSupport,
+    Attribute::NamedAttr,
+    Attribute::Fsid,
+    Attribute::UniqueHandles,
+    Attribute::LeaseTime,
+    Attribute::RdattrError,
+    Attribute::Filehandle,
+    Attribute::Fileid,
+    Attribute::FilesAvail,
+    Attribute::FilesFree,
+    Attribute::FilesTotal,
+    Attribute::Maxfilesize,
+    Attribute::Maxname,
+    Attribute::Maxread,
+    Attribute::Maxwrite,
+];
 
-/// The type of a file (NF4REG).
-const REGULAR_FILE: u32 = 1;
+/// And in the second.
+const SECOND_ATTRIBUTES: [Attribute; 11] = [
+    Attribute::Mode,
+    Attribute::Numlinks,
+    Attribute::Owner,
+    Attribute::OwnerGroup,
+    Attribute::SpaceAvail,
+    Attribute::SpaceFree,
+    Attribute::SpaceTotal,
+    Attribute::SpaceUsed,
+    Attribute::TimeAccess,
+    Attribute::TimeMetadata,
+    Attribute::TimeModify,
+];
 
-/// The type of a directory (NF4DIR).
-const DIRECTORY: u32 = 2;
+/// The bits of those that can only be set: time_access_set, which isn't supported, and time_modify_set.
+const SET_ONLY: u32 = 0x0041_0000;
 
-/// What the attributes of a node are computed from.
-#[derive(Clone, Copy)]
-pub struct Subject {
-    pub node: u32,
-    pub is_directory: bool,
-    /// How many writes changed the file.
-    pub change: u64,
-    /// How many bytes the file has.
-    pub size: u64,
-    /// The lease in seconds.
-    pub lease: u32,
+/// The first two words of a bitmap. All attributes of NFSv4.0 have their bits in these.
+#[derive(Clone, Copy, PartialEq, Eq)]
+pub struct Words {
+    pub first: u32,
+    pub second: u32,
 }
 
 impl Attribute {
-    /// The attribute's bit in the first word of a bitmap.
+    /// The attribute's bit in its word of a bitmap.
     pub fn bit(self) -> u32
-        ensures { result ≡ 2 ^ number_of self }
+        ensures { result ≡ bit_of self }
     {
-        1 << self as u32
+        1 << (self as u32 % 32)
     }
 }
 
-impl Subject {
-    /// The supported attributes of the node among those that a bitmap asks for. Neither the change nor the size matters
-    /// for a directory.
-    pub fn attributes(self, alloc: Global, mask: &[u32]) -> Result<Fattr, AllocError>
-        ensures { IfOk result (λ f. f ≡ attributes_of self mask.now) }
+impl Words {
+    /// The first two words of a bitmap, where one behind its end is 0.
+    pub(crate) fn of(mask: &[u32]) -> Words
+        ensures { result ≡ words_of mask.now }
     {
-        let word = requested_bits(mask);
-        Ok(Fattr {
-            mask: mask_of(alloc, word)?,
-            values: values_of(alloc, self, word, &ATTRIBUTES)?,
-        })
+        Words {
+            first: word_at(mask, 0),
+            second: word_at(mask, 1),
+        }
+    }
+
+    /// The bits that both have.
+    pub(crate) fn common(self, other: Words) -> Words
+        ensures { result ≡ common self other }
+    {
+        Words {
+            first: self.first & other.first,
+            second: self.second & other.second,
+        }
+    }
+
+    /// A bitmap of these words, without a word that is 0 at its end. It takes no memory.
+    pub(crate) fn mask(self, alloc: Global) -> Result<Bitmap, AllocError>
+        ensures mask { IfOk result (λ b. b ≡ mask_of self) }
+        ensures made { IsOk result }
+    {
+        if self.second != 0 {
+            return Bitmap::copy_of(alloc, &[self.first, self.second]);
+        }
+        if self.first != 0 {
+            return Bitmap::copy_of(alloc, &[self.first]);
+        }
+        Bitmap::copy_of(alloc, &[])
+    }
+
+    /// The bits of all attributes that the server supports under the profile "clients".
+    pub(crate) fn supported() -> Words
+        ensures { result ≡ supported }
+    {
+        Words {
+            first: 0xe8f8_0fff,
+            second: 0x0070_bc3a,
+        }
     }
 }
 
-// The supported attributes among those that a bitmap asks for, as a word.
-fn requested_bits(mask: &[u32]) -> u32
-    ensures { result ≡ requested_bits mask.now }
+impl Profile {
+    /// Whether a bitmap can be asked for. Under "clients" it can't if it has the bit of an attribute that can only be
+    /// set.
+    pub fn is_readable(self, mask: &[u32]) -> bool
+        ensures { result ≡ is_readable self mask.now }
+    {
+        match self {
+            Profile::Plain => true,
+            Profile::Clients => word_at(mask, 1) & SET_ONLY == 0,
+        }
+    }
+
+    /// The bits of all attributes that can be read.
+    pub(crate) fn readable(self) -> Words
+        ensures { result ≡ readable self }
+    {
+        match self {
+            Profile::Plain => Words {
+                first: 0x0018_0fff,
+                second: 0,
+            },
+            Profile::Clients => Words {
+                first: 0xe8f8_0fff,
+                second: 0x0030_bc3a,
+            },
+        }
+    }
+
+    /// These attributes in increasing order of their numbers: those in the first word of a bitmap.
+    pub(crate) fn first_attributes(self) -> &'static [Attribute]
+        ensures { result.now ≡ first_attributes self }
+    {
+        match self {
+            Profile::Plain => &PLAIN_ATTRIBUTES,
+            Profile::Clients => &FIRST_ATTRIBUTES,
+        }
+    }
+
+    /// And those in the second.
+    pub(crate) fn second_attributes(self) -> &'static [Attribute]
+        ensures { result.now ≡ second_attributes self }
+    {
+        match self {
+            Profile::Plain => &[],
+            Profile::Clients => &SECOND_ATTRIBUTES,
+        }
+    }
+}
+
+// The word of a bitmap at a place, or 0 behind its end.
+fn word_at(mask: &[u32], place: usize) -> u32
+    ensures { result ≡ get_or mask.now place 0 }
 {
-    match mask.first() {
-        Some(word) => *word & SUPPORTED,
+    match mask.get(place) {
+        Some(word) => *word,
         None => 0,
     }
-}
-
-// A bitmap of this one word, or an empty bitmap if the word is 0.
-fn mask_of(alloc: Global, word: u32) -> Result<Bitmap, AllocError>
-    ensures { IfOk result (λ b. b ≡ mask_of word) }
-{
-    if word == 0 {
-        return Bitmap::copy_of(alloc, &[]);
-    }
-    Bitmap::copy_of(alloc, &[word])
-}
-
-// The values of those of these attributes that the word asks for.
-fn values_of(
-    alloc: Global,
-    subject: Subject,
-    word: u32,
-    attributes: &[Attribute],
-) -> Result<Values, AllocError>
-    ensures { IfOk result (λ v. v ≡ values_of subject word attributes.now) }
-{
-    let mut values = Values::empty(alloc);
-    for attribute in attributes {
-        add_if_requested(&mut values, subject, word, *attribute)?;
-    }
-    Ok(values)
-}
-
-// Adds an attribute's value, if the word asks for it.
-fn add_if_requested(
-    values: &mut Values,
-    subject: Subject,
-    word: u32,
-    attribute: Attribute,
-) -> Result<(), AllocError>
-    ensures { OnOk result (values.new ≡ values.old ++ value_requested subject word attribute) }
-{
-    if word & attribute.bit() == 0 {
-        return Ok(());
-    }
-    add_value(values, subject, attribute)
-}
-
-// Adds an attribute's value.
-fn add_value(values: &mut Values, subject: Subject, attribute: Attribute) -> Result<(), AllocError>
-    ensures { OnOk result (values.new ≡ values.old ++ value_of subject attribute) }
-{
-    match attribute {
-        Attribute::SupportedAttrs => add_supported(values),
-        Attribute::Type => values.add_u32(if subject.is_directory {
-            DIRECTORY
-        } else {
-            REGULAR_FILE
-        }),
-        Attribute::Change => add_of_file(values, subject, subject.change),
-        Attribute::Size => add_of_file(values, subject, subject.size),
-        Attribute::LinkSupport | Attribute::SymlinkSupport | Attribute::NamedAttr => {
-            values.add_u32(0)
-        }
-        Attribute::Fsid => add_fsid(values),
-        Attribute::UniqueHandles => values.add_u32(1),
-        Attribute::LeaseTime => values.add_u32(subject.lease),
-        Attribute::FhExpireType | Attribute::RdattrError => values.add_u32(0),
-        Attribute::Filehandle => add_handle(values, subject.node),
-        Attribute::Fileid => values.add_u64(u64::from(subject.node) + 1),
-    }
-}
-
-// Adds the supported attributes, as a bitmap.
-fn add_supported(values: &mut Values) -> Result<(), AllocError>
-    ensures { OnOk result (values.new
-        ≡ values.old ++ (written_u32 1 ++ written_u32 supported_bits)) }
-{
-    values.add_u32(1)?;
-    values.add_u32(SUPPORTED)
-}
-
-// Adds a number that belongs to a file, or 0 for a directory.
-fn add_of_file(values: &mut Values, subject: Subject, number: u64) -> Result<(), AllocError>
-    ensures { OnOk result (values.new
-        ≡ values.old ++ written_u64 (if subject.is_directory then 0 else number)) }
-{
-    values.add_u64(if subject.is_directory { 0 } else { number })
-}
-
-// Adds the number of the only file system, major and minor.
-fn add_fsid(values: &mut Values) -> Result<(), AllocError>
-    ensures { OnOk result (values.new ≡ values.old ++ (written_u64 1 ++ written_u64 0)) }
-{
-    values.add_u64(1)?;
-    values.add_u64(0)
-}
-
-// Adds the handle of a node, which needs no padding.
-#[tactic(auto, unfolding(xdr::specs::Writing::written_opaque))]
-fn add_handle(values: &mut Values, node: u32) -> Result<(), AllocError>
-    ensures { OnOk result (values.new ≡ values.old ++ written_opaque (handle_of node)) }
-{
-    let handle = Tree::handle_of(node);
-    values.add_u32(HANDLE_LEN as u32)?;
-    values.add(&handle)
 }

@@ -25,7 +25,8 @@ path = \"d/c\"
 impl Tree {
     /// The tree of a TOML document. Its keys are `directory`, an array of tables with a `path`; `file`, an array of
     /// tables with a `path` and an optional `text`; and `policy`, a table with the optional keys `delegations` ("none",
-    /// "read", or "all", the default) and `callbacks` ("probe", the default, or "assume").
+    /// "read", or "all", the default), `callbacks` ("probe", the default, or "assume"), `close_locks` ("free", the
+    /// default, or "refuse") and `profile` ("plain", the default, or "clients").
     ///
     /// Syntax if the text isn't such a document. Otherwise the first entry that can't be added decides, where
     /// directories come before files: Name if its path isn't 1 to `PATH_LIMIT` names; TooMany if its text, the files or

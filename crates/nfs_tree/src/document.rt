@@ -1,12 +1,13 @@
 ghost use Rattle.std.specs.Prelude.{◌≡◌, ◌∷◌, [], codes, map, option_map};
 ghost use Rattle.std.specs.List.{list_any};
 ghost use Rattle.std.specs.Str.{bytes_eq};
-ghost use Rattle.nfs_tree.specs.Document.{Reads, callbacks_of, close_locks_of, delegations_of, document_at, document_of, entries_of, entry_of, has_only, entries_in, or_absent, or_missing, policy_of, table_of};
+ghost use Rattle.nfs_tree.specs.Document.{Reads, callbacks_of, close_locks_of, delegations_of, document_at, document_of, entries_of, entry_of, has_only, entries_in, or_absent, or_missing, policy_of, profile_of, table_of};
 ghost use Rattle.toml.specs.Data.{as_str, get_member};
 ghost use Rattle.toml.specs.View.{items_view, table_view, view};
 
 use crate::{
-    Callbacks, CloseLocks, DEFAULT_POLICY, Delegations, NodeKind, Policy, TreeEntry, TreeError,
+    Callbacks, CloseLocks, DEFAULT_POLICY, Delegations, NodeKind, Policy, Profile, TreeEntry,
+    TreeError,
 };
 use std::alloc::Global;
 use toml::{Table, Value};
@@ -134,7 +135,10 @@ fn read_file(alloc: Global, value: &Value) -> Result<TreeEntry, TreeError>
 fn read_policy(value: &Value) -> Result<Policy, TreeError>
     ensures { Reads result (policy_of (view value.now)) }
 {
-    let Some(table) = table_of(value, &["delegations", "callbacks", "close_locks"]) else {
+    let Some(table) = table_of(
+        value,
+        &["delegations", "callbacks", "close_locks", "profile"],
+    ) else {
         return Err(TreeError::Syntax);
     };
     let delegations = match member(table, "delegations") {
@@ -149,10 +153,15 @@ fn read_policy(value: &Value) -> Result<Policy, TreeError>
         None => CloseLocks::Free,
         Some(word) => read_close_locks(word)?,
     };
+    let profile = match member(table, "profile") {
+        None => Profile::Plain,
+        Some(word) => read_profile(word)?,
+    };
     Ok(Policy {
         delegations,
         callbacks,
         close_locks,
+        profile,
     })
 }
 
@@ -183,6 +192,16 @@ fn read_close_locks(value: &Value) -> Result<CloseLocks, TreeError>
     match value.as_str() {
         Some("free") => Ok(CloseLocks::Free),
         Some("refuse") => Ok(CloseLocks::Refuse),
+        _ => Err(TreeError::Syntax),
+    }
+}
+
+fn read_profile(value: &Value) -> Result<Profile, TreeError>
+    ensures { Reads result (profile_of (view value.now)) }
+{
+    match value.as_str() {
+        Some("plain") => Ok(Profile::Plain),
+        Some("clients") => Ok(Profile::Clients),
         _ => Err(TreeError::Syntax),
     }
 }

@@ -28,7 +28,7 @@ impl Filehandles {
     /// that its name names in the current directory becomes the current one; other operations change nothing.
     pub fn follow(&mut self, tree: &Tree, op: &Op)
         requires nodes { AreNodes tree.now self.old }
-        ensures handles { self.new ≡ handles_after tree.now self.old op.now }
+        ensures handles { self.new ≡ handles_after tree.now.nodes self.old op.now }
         ensures nodes { AreNodes tree.now self.new }
     {
         let Op::Open(open) = op else {
@@ -42,7 +42,7 @@ impl Filehandles {
 
 // The object that the name in the claim names in this node.
 fn claimed_object(tree: &Tree, node: Option<u32>, claim: &Claim) -> Option<u32>
-    ensures object { result ≡ object_named tree.now node (claimed_name claim.now) }
+    ensures object { result ≡ object_named tree.now.nodes node (claimed_name claim.now) }
     ensures within { IfSome result (λ n. n < node_count tree.now.nodes) }
 {
     tree.resolve(node?, claimed_name(claim)?).ok()

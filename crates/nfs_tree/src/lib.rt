@@ -4,20 +4,26 @@
 
 mod attribute;
 mod building;
+mod children;
 mod document;
 mod document_nodes;
+mod export;
 mod filehandles;
 mod limits;
 mod node;
 mod operations;
 mod path;
 mod policy;
+mod profile;
+mod settable;
+mod subject;
 mod tree;
 mod tree_error;
 
-pub use attribute::{ATTRIBUTES, Attribute, Subject};
+pub use attribute::{Attribute, Words};
 pub use building::{DEFAULT_TREE, trees_are_their_entries};
 pub use document::{Document, Listing};
+pub use export::{Export, write_verifier};
 pub use filehandles::Filehandles;
 pub use limits::limits_of_trees;
 pub use node::{Node, NodeKind, TreeEntry};
@@ -26,5 +32,8 @@ pub use operations::{
 };
 pub use path::{NAME_LIMIT, PATH_LIMIT, paths_are_joined_names};
 pub use policy::{Callbacks, CloseLocks, DEFAULT_POLICY, Delegations, Policy};
+pub use profile::Profile;
+pub use settable::{SetTime, Settable};
+pub use subject::Subject;
 pub use tree::{DIRECTORY_LIMIT, FILE_LIMIT, HANDLE_LEN, ROOT, TEXT_LIMIT, Tree};
 pub use tree_error::TreeError;

@@ -1,5 +1,6 @@
-// The operations that need only the tree and the filehandles, one file each.
+// The operations that need only what is exported and the filehandles, one file each.
 ghost use Rattle.std.specs.Prelude.{◌≡◌, ◌≤◌, IsTrue, Some, length};
+ghost use Rattle.nfs_tree.specs.Exports.{export_seen};
 ghost use Rattle.nfs_tree.specs.Filehandles.{AreNodes};
 ghost use Rattle.nfs_tree.specs.operations.{effect_of};
 ghost use Rattle.nfs_xdr.specs.Op.{is_on_tree, opnum_of};
@@ -7,6 +8,7 @@ ghost use Rattle.nfs_xdr.specs.OpResult.{op_result};
 ghost use Rattle.nfs_xdr.specs.Opnum.{answer_limit};
 
 mod access;
+mod commit;
 mod getfh;
 mod lookup;
 mod putfh;
@@ -14,7 +16,7 @@ mod putrootfh;
 mod restorefh;
 mod savefh;
 
-use crate::{Filehandles, Tree};
+use crate::{Export, Filehandles};
 pub use access::{
     ACCESS_DELETE, ACCESS_EXECUTE, ACCESS_EXTEND, ACCESS_LOOKUP, ACCESS_MODIFY, ACCESS_READ,
 };
@@ -23,36 +25,37 @@ use nfs_xdr::{Op, OpResult};
 impl Filehandles {
     /// Runs an operation that needs only the tree and the filehandles (`Op::is_on_tree`), and returns its answer. It
     /// takes no memory.
-    pub fn run(&mut self, tree: &Tree, op: &Op) -> OpResult
+    pub fn run(&mut self, export: &Export<'_>, op: &Op) -> OpResult
         requires on_tree { IsTrue (is_on_tree op.now) }
-        requires nodes { AreNodes tree.now self.old }
-        ensures effect { effect_of tree.now self.old op.now
+        requires nodes { AreNodes export.now.tree.now self.old }
+        ensures effect { effect_of (export_seen export.now) self.old op.now
             ≡ Some (record { answer = result; after = self.new }) }
         ensures short { length (op_result.encoding result) ≤ answer_limit (opnum_of op.now) }
         ensures form { op_result.Fits result }
-        ensures nodes { AreNodes tree.now self.new }
+        ensures nodes { AreNodes export.now.tree.now self.new }
     {
-        let answer = self.answer(tree, op);
+        let answer = self.answer(export, op);
         answer.fits();
         answer
     }
 
     // Runs the operation, by its own function.
-    fn answer(&mut self, tree: &Tree, op: &Op) -> OpResult
+    fn answer(&mut self, export: &Export<'_>, op: &Op) -> OpResult
         requires on_tree { IsTrue (is_on_tree op.now) }
-        requires nodes { AreNodes tree.now self.old }
-        ensures effect { effect_of tree.now self.old op.now
+        requires nodes { AreNodes export.now.tree.now self.old }
+        ensures effect { effect_of (export_seen export.now) self.old op.now
             ≡ Some (record { answer = result; after = self.new }) }
-        ensures nodes { AreNodes tree.now self.new }
+        ensures nodes { AreNodes export.now.tree.now self.new }
     {
         match op {
-            Op::Access(bits) => self.access(tree, *bits),
-            Op::Getfh => self.getfh(tree),
-            Op::Lookup(name) => self.lookup(tree, name.as_slice()),
-            Op::Putfh(handle) => self.putfh(tree, handle.as_slice()),
-            Op::Putrootfh => self.putrootfh(tree),
-            Op::Restorefh => self.restorefh(tree),
-            Op::Savefh => self.savefh(tree),
+            Op::Access(bits) => self.access(export, *bits),
+            Op::Commit(_) => self.commit(export),
+            Op::Getfh => self.getfh(export.tree),
+            Op::Lookup(name) => self.lookup(export.tree, name.as_slice()),
+            Op::Putfh(handle) => self.putfh(export.tree, handle.as_slice()),
+            Op::Putrootfh => self.putrootfh(export.tree),
+            Op::Restorefh => self.restorefh(export.tree),
+            Op::Savefh => self.savefh(export.tree),
             _ => unreachable!(),
         }
     }

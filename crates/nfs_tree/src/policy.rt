@@ -1,8 +1,9 @@
 ghost use Rattle.nfs_tree.specs.PolicyForm as forms;
 ghost use Rattle.xdr.specs.Reading.{Answers};
 
+use crate::Profile;
 use std::alloc::Global;
-use xdr::{Wire, WireError, read_u32, write_three, write_u32};
+use xdr::{Wire, WireError, read_u32, write_u32};
 
 /// Which delegations the server gives.
 #[derive(Clone, Copy, PartialEq, Eq)]
@@ -37,6 +38,7 @@ pub struct Policy {
     pub delegations: Delegations,
     pub callbacks: Callbacks,
     pub close_locks: CloseLocks,
+    pub profile: Profile,
 }
 
 /// The policy if a document doesn't contain one.
@@ -44,6 +46,7 @@ pub const DEFAULT_POLICY: Policy = Policy {
     delegations: Delegations::All,
     callbacks: Callbacks::Probe,
     close_locks: CloseLocks::Free,
+    profile: Profile::Plain,
 };
 
 impl Wire for Delegations {
@@ -107,29 +110,5 @@ impl Wire for CloseLocks {
     #[tactic(auto, unfolding(crate::specs::PolicyForm::close_locks))]
     fn write(&self, out: &mut Vec<u8>) -> Result<(), WireError> {
         write_u32(out, *self as u32)
-    }
-}
-
-impl Wire for Policy {
-    ghost form = { forms.policy };
-
-    #[tactic(auto, unfolding(crate::specs::PolicyForm::policy))]
-    fn read(alloc: Global, bytes: &[u8]) -> Result<(Policy, &[u8]), WireError>
-        ensures { Answers (λ x. (x.0, x.1.now)) result (forms.policy.at bytes.now) }
-    {
-        let (delegations, rest) = Delegations::read(alloc, bytes)?;
-        let (callbacks, rest) = Callbacks::read(alloc, rest)?;
-        let (close_locks, rest) = CloseLocks::read(alloc, rest)?;
-        let policy = Policy {
-            delegations,
-            callbacks,
-            close_locks,
-        };
-        Ok((policy, rest))
-    }
-
-    #[tactic(auto, unfolding(crate::specs::PolicyForm::policy))]
-    fn write(&self, out: &mut Vec<u8>) -> Result<(), WireError> {
-        write_three(out, &self.delegations, &self.callbacks, &self.close_locks)
     }
 }

@@ -1,6 +1,7 @@
 -- What bounds the length of a result where neither its form nor its type does. A new operation has a line here only if
 -- its result has data of any length.
 use Rattle.std.specs.Prelude.{◌≡◌, ◌≤◌, [], length, ⊤}
+use Rattle.nfs_forms.specs.Bitmap.{bitmap}
 use Rattle.nfs_forms.specs.Fattr.{fattr}
 use Rattle.nfs_forms.specs.declared.answer.Answer.{Answer}
 use Rattle.nfs_forms.specs.declared.answer.Answer.TheVariants.{Done, Denied, ClidInUse, Refused}
@@ -10,6 +11,9 @@ use Rattle.nfs_forms.specs.declared.lock_denied.LockDenied.{LockDenied}
 use Rattle.nfs_forms.specs.declared.open_owner.TheConstants.{OWNER_NAME_LIMIT}
 use Rattle.nfs_operations.specs.declared.«open».OpenOk.{OpenOk}
 use Rattle.nfs_operations.specs.declared.read.ReadOk.{ReadOk}
+use Rattle.nfs_operations.specs.declared.readdir.ReaddirOk.{ReaddirOk}
+use Rattle.nfs_operations.specs.declared.setattr.SetattrResult.{SetattrResult}
+use Rattle.nfs_operations.specs.Readdir.{readdir_ok}
 use Rattle.nfs_xdr.specs.declared.op_result.OpResult.{OpResult}
 use Rattle.nfs_xdr.specs.declared.op_result.OpResult.TheVariants as results
 
@@ -29,6 +33,14 @@ SetsNothing answer = answer.attrset ≡ []
 -- READ: no more bytes than a file can have
 abbrev pub AreFewBytes : ReadOk → Type 0
 AreFewBytes answer = length answer.bytes ≤ 65_536
+
+-- READDIR: the entries fit their form, and take no more bytes than READDIR may give behind its status
+abbrev pub AreFewEntries : ReaddirOk → Type 0
+AreFewEntries answer = readdir_ok.Fits answer × (length (readdir_ok.encoding answer) ≤ 65_536)
+
+-- SETATTR: the attributes that were set fit their form, in at most two words
+abbrev pub SetsFew : SetattrResult → Type 0
+SetsFew answer = bitmap.Fits answer.attributes × (length answer.attributes ≤ 2)
 
 -- NFS4ERR_CLID_INUSE: both parts of the address are short
 abbrev pub IsShortAddress : Address → Type 0
@@ -52,5 +64,7 @@ IsShort (results.Lock a) = IsShortAnswer Any HasShortName Any a
 IsShort (results.Lockt a) = IsShortAnswer Any HasShortName Any a
 IsShort (results.Open a) = IsShortAnswer SetsNothing Any Any a
 IsShort (results.Read a) = IsShortAnswer AreFewBytes Any Any a
+IsShort (results.Readdir a) = IsShortAnswer AreFewEntries Any Any a
+IsShort (results.Setattr a) = SetsFew a
 IsShort (results.Setclientid a) = IsShortAnswer Any Any IsShortAddress a
 IsShort r = ⊤

@@ -3,7 +3,7 @@
 ghost use Rattle.std.specs.Prelude.{◌≡◌, ℕ, ◌+◌, ◌^◌, ◌<◌, ◌≤◌, length};
 ghost use Rattle.nfs_xdr.specs.Opnum.{answer_limit};
 ghost use Rattle.nfs_xdr.specs.OpResult.{op_result, opnum_of};
-ghost use Rattle.nfs_xdr.specs.Short.{Any, AreFewAttributes, AreFewBytes, HasShortName, IsShort, IsShortAddress, IsShortAnswer, SetsNothing};
+ghost use Rattle.nfs_xdr.specs.Short.{Any, AreFewAttributes, AreFewBytes, AreFewEntries, HasShortName, IsShort, IsShortAddress, IsShortAnswer, SetsFew, SetsNothing};
 
 use crate::op_result::of_answer;
 use crate::opnum::each_operation;
@@ -14,6 +14,8 @@ use crate::{
 use nfs_operations::access::AccessBits;
 use nfs_operations::open::OpenOk;
 use nfs_operations::read::ReadOk;
+use nfs_operations::readdir::ReaddirOk;
+use nfs_operations::setattr::SetattrResult;
 use nfs_operations::setclientid_confirm::SetclientidConfirm;
 use nfs_operations::write::WriteOk;
 use xdr::Wire;
@@ -211,6 +213,23 @@ impl Bounded for ReadOk {
     fn fits(&self) {}
 }
 
+impl Bounded for ReaddirOk {
+    ghost most = { 65_536 };
+
+    ghost IsShort = { AreFewEntries };
+
+    fn fits(&self) {}
+}
+
+impl Bounded for SetattrResult {
+    ghost most = { 16 };
+
+    ghost IsShort = { SetsFew };
+
+    #[tactic(auto, using(crate::proofs::Refusals::set_len, crate::proofs::Refusals::status_fits), unfolding(nfs_operations::specs::Setattr::result, nfs_forms::specs::Status::status))]
+    fn fits(&self) {}
+}
+
 impl Bounded for WriteOk {
     ghost most = { 16 };
 
@@ -251,7 +270,7 @@ impl<T: Bounded, D: Bounded, C: Bounded> Bounded for Answer<T, D, C> {
 
 impl OpResult {
     /// The law that the result fits its form and the room of its operation, if what its type doesn't bound is short.
-    #[tactic(auto, using(crate::proofs::Refusals::unsupported_fits, crate::proofs::Refusals::unsupported_len), unfolding(crate::specs::OpResult::op_result, crate::specs::Opnum::opnum, xdr::specs::Writing::written_number))]
+    #[tactic(auto, using(crate::proofs::Refusals::unsupported_fits, crate::proofs::Refusals::unsupported_len, crate::proofs::Refusals::read_only_fits, crate::proofs::Refusals::read_only_len), unfolding(crate::specs::OpResult::op_result, crate::specs::Opnum::opnum, xdr::specs::Writing::written_number))]
     pub fn fits(&self)
         requires short { IsShort self.now }
         ensures form { op_result.Fits self.now }
@@ -259,7 +278,7 @@ impl OpResult {
     {
         each_operation!(
             of_answer self, answer => answer.fits();
-            OpResult::Unsupported(_) => {},
+            OpResult::Unsupported(_) | OpResult::ReadOnly(_) => {},
             OpResult::Illegal(answer) => answer.fits(),
         )
     }

@@ -26,4 +26,4 @@ pub use nfs_forms::{
 };
 pub use op::Op;
 pub use op_result::OpResult;
-pub use opnum::{Class, OPNUMS, Opnum, Unsupported};
+pub use opnum::{Class, DirectoryChange, OPNUMS, Opnum, Unsupported};

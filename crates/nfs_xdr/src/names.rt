@@ -56,12 +56,15 @@ impl Op {
             Op::Delegreturn(args) => Names::State(args.stateid),
             Op::Read(args) => Names::State(args.stateid),
             Op::Write(args) => Names::State(args.stateid),
+            Op::Setattr(args) => Names::State(args.stateid),
             Op::Access(_)
+            | Op::Commit(_)
             | Op::Getattr(_)
             | Op::Getfh
             | Op::Lookup(_)
             | Op::Putfh(_)
             | Op::Putrootfh
+            | Op::Readdir(_)
             | Op::Restorefh
             | Op::Savefh
             | Op::Setclientid(_)

@@ -1,18 +1,19 @@
 ghost use Rattle.std.specs.Prelude.{◌≡◌, ◌≤◌, length};
 ghost use Rattle.nfs_xdr.specs.OpResult as results;
 ghost use Rattle.nfs_xdr.specs.declared.opnum.Opnum.TheVariants as opnums;
-ghost use Rattle.nfs_xdr.specs.Opnum.{answer_limit, opnum};
-ghost use Rattle.nfs_xdr.specs.OpResult.{opnum_of, refusal_of, result_case, status_of, unsupported_answer};
+ghost use Rattle.nfs_xdr.specs.Opnum.{answer_limit};
+ghost use Rattle.nfs_xdr.specs.OpResult.{change_case, opnum_of, refusal_of, refused_without_rule, result_case, status_of};
+ghost use Rattle.nfs_xdr.specs.declared.op_result.OpResult.TheVariants as made;
 ghost use Rattle.xdr.specs.Reading.{Gives};
-ghost use Rattle.xdr.specs.Form.{◌and◌};
 ghost use Rattle.xdr.specs.Switch.{case_at};
 ghost use Rattle.xdr.specs.Writing.{Writes};
 
 use crate::opnum::each_operation;
-use crate::{Answer, Opnum, Refusal, Status, Unsupported};
+use crate::{Answer, DirectoryChange, Opnum, Refusal, Status, Unsupported};
 use nfs_operations as of;
+use nfs_operations::setattr::SetattrResult;
 use std::alloc::{AllocError, Global};
-use xdr::{Measure, Wire, WireError, read_constant, write_three, write_two};
+use xdr::{Measure, Wire, WireError, read_constant, read_u32, write_two};
 
 // Matches a result, and evaluates an expression over the answer inside it.
 macro_rules! of_answer {
@@ -37,6 +38,7 @@ macro_rules! opnum_of_result {
             $(OpResult::$X(_) => Opnum::$X,)*
             $(OpResult::$Y(_) => Opnum::$Y,)*
             OpResult::Unsupported(op) => Opnum::Unsupported(*op),
+            OpResult::ReadOnly(change) => Opnum::Unsupported(change.operation()),
             OpResult::Illegal(_) => Opnum::Illegal,
         }
     };
@@ -67,8 +69,19 @@ macro_rules! write_result_of {
             $(OpResult::$X(answer) => write_two($out, &Opnum::$X, answer),)*
             $(OpResult::$Y(answer) => write_two($out, &Opnum::$Y, answer),)*
             OpResult::Unsupported(op) => write_unsupported($out, *op),
+            OpResult::ReadOnly(change) => write_read_only($out, *change),
             OpResult::Illegal(answer) => write_two($out, &Opnum::Illegal, answer),
         }
+    };
+}
+
+// The result of one operation with a rule, refused.
+macro_rules! refused {
+    (Setattr $refusal:expr) => {
+        OpResult::Setattr(SetattrResult::refused($refusal))
+    };
+    ($X:ident $refusal:expr) => {
+        OpResult::$X(Answer::Refused($refusal))
     };
 }
 
@@ -79,9 +92,9 @@ macro_rules! refusal_of_opnum {
         $opnum:expr, $refusal:expr
     ) => {
         match $opnum {
-            $(Opnum::$X => OpResult::$X(Answer::Refused($refusal)),)*
-            $(Opnum::$Y => OpResult::$Y(Answer::Refused($refusal)),)*
-            Opnum::Unsupported(op) => OpResult::Unsupported(op),
+            $(Opnum::$X => refused!($X $refusal),)*
+            $(Opnum::$Y => refused!($Y $refusal),)*
+            Opnum::Unsupported(op) => op.refused($refusal),
             Opnum::Illegal => OpResult::Illegal(Answer::Refused($refusal)),
         }
     };
@@ -97,6 +110,7 @@ macro_rules! copy_of_result {
             $(OpResult::$X(answer) => Ok(OpResult::$X(answer.clone()?)),)*
             $(OpResult::$Y(answer) => Ok(OpResult::$Y(answer.clone()?)),)*
             OpResult::Unsupported(op) => Ok(OpResult::Unsupported(*op)),
+            OpResult::ReadOnly(change) => Ok(OpResult::ReadOnly(*change)),
             OpResult::Illegal(answer) => Ok(OpResult::Illegal(answer.clone()?)),
         }
     };
@@ -107,6 +121,7 @@ macro_rules! copy_of_result {
 pub enum OpResult {
     Access(of::access::Outcome),
     Close(of::close::Outcome),
+    Commit(of::commit::Outcome),
     Delegreturn(of::delegreturn::Outcome),
     Getattr(of::getattr::Outcome),
     Getfh(of::getfh::Outcome),
@@ -120,15 +135,19 @@ pub enum OpResult {
     Putfh(of::putfh::Outcome),
     Putrootfh(of::putrootfh::Outcome),
     Read(of::read::Outcome),
+    Readdir(of::readdir::Outcome),
     Renew(of::renew::Outcome),
     Restorefh(of::restorefh::Outcome),
     Savefh(of::savefh::Outcome),
+    Setattr(of::setattr::Outcome),
     Setclientid(of::setclientid::Outcome),
     SetclientidConfirm(of::setclientid_confirm::Outcome),
     Write(of::write::Outcome),
     ReleaseLockowner(of::release_lockowner::Outcome),
     /// NFS4ERR_NOTSUPP, the result of an operation that this server doesn't implement.
     Unsupported(Unsupported),
+    /// NFS4ERR_ROFS, the other result of such an operation that would change a directory.
+    ReadOnly(DirectoryChange),
     /// The result for an operation that doesn't exist.
     Illegal(Answer<()>),
 }
@@ -158,6 +177,7 @@ impl OpResult {
         each_operation!(
             of_answer self, answer => answer.status();
             OpResult::Unsupported(_) => Status::Refused(Refusal::NotSupp),
+            OpResult::ReadOnly(_) => Status::Refused(Refusal::Rofs),
             OpResult::Illegal(answer) => answer.status(),
         )
     }
@@ -175,8 +195,9 @@ impl OpResult {
 }
 
 impl Opnum {
-    /// The result of the operation if it is refused with this status. An unsupported operation has only one result.
-    #[tactic(auto, using(crate::proofs::Refusals::unsupported_fits, crate::proofs::Refusals::unsupported_len, crate::proofs::Refusals::refusal_fits), unfolding(crate::specs::OpResult::op_result, crate::specs::Opnum::opnum, nfs_forms::specs::Answer::answer, nfs_forms::specs::Status::status, xdr::specs::Writing::written_number))]
+    /// The result of the operation if it is refused with this status. An operation without a rule is refused with
+    /// NFS4ERR_ROFS where it would change a directory and that is the status, and otherwise with NFS4ERR_NOTSUPP.
+    #[tactic(auto, using(crate::proofs::Refusals::refused_fits, crate::proofs::Refusals::refused_len, crate::proofs::Refusals::refusal_fits), unfolding(nfs_operations::specs::Setattr::result, crate::specs::OpResult::op_result, crate::specs::Opnum::opnum, nfs_forms::specs::Answer::answer, nfs_forms::specs::Status::status, xdr::specs::Writing::written_number))]
     pub fn refusal(self, refusal: Refusal) -> OpResult
         ensures value { result ≡ refusal_of self refusal }
         ensures form { results.op_result.Fits result }
@@ -190,16 +211,49 @@ impl Opnum {
 // The number of NFS4ERR_NOTSUPP.
 const NOT_SUPPORTED: u32 = 10004;
 
+// The number of NFS4ERR_ROFS.
+const READ_ONLY: u32 = 30;
+
+impl Unsupported {
+    // The result of the operation if it is refused with this status.
+    fn refused(self, refusal: Refusal) -> OpResult
+        ensures { result ≡ refused_without_rule self refusal }
+    {
+        if refusal != Refusal::Rofs {
+            return OpResult::Unsupported(self);
+        }
+        match self.change() {
+            Some(change) => OpResult::ReadOnly(change),
+            None => OpResult::Unsupported(self),
+        }
+    }
+}
+
 fn read_unsupported(op: Unsupported, bytes: &[u8]) -> Result<(OpResult, &[u8]), WireError>
     ensures { Gives (λ x. (x.0, x.1.now)) result
         (case_at (result_case (opnums.Unsupported op)) bytes.now) }
 {
-    let (_, rest) = read_constant(bytes, NOT_SUPPORTED)?;
-    match op {
-        Unsupported::Setattr => {
-            read_constant(rest, 0).map(|(_, rest)| (OpResult::Unsupported(op), rest))
+    match op.change() {
+        Some(change) => read_refused_change(change, bytes),
+        None => {
+            read_constant(bytes, NOT_SUPPORTED).map(|(_, rest)| (OpResult::Unsupported(op), rest))
         }
-        _ => Ok((OpResult::Unsupported(op), rest)),
+    }
+}
+
+#[tactic(auto, unfolding(xdr::specs::Reading::value_at))]
+fn read_refused_change(
+    change: DirectoryChange,
+    bytes: &[u8],
+) -> Result<(OpResult, &[u8]), WireError>
+    ensures { Gives (λ x. (x.0, x.1.now)) result
+        (case_at (change_case change) bytes.now) }
+{
+    let (number, rest) = read_u32(bytes)?;
+    match number {
+        READ_ONLY => Ok((OpResult::ReadOnly(change), rest)),
+        NOT_SUPPORTED => Ok((OpResult::Unsupported(change.operation()), rest)),
+        _ => Err(WireError::Short),
     }
 }
 
@@ -218,24 +272,30 @@ impl Wire for OpResult {
     }
 }
 
+// Writes NFS4ERR_NOTSUPP.
 fn write_unsupported(out: &mut Vec<u8>, op: Unsupported) -> Result<(), WireError>
     ensures { Writes out.old out.new result
-        ((opnum and unsupported_answer op).encoding (opnums.Unsupported op, (tt, tt)))
-        ((opnum and unsupported_answer op).Fits (opnums.Unsupported op, (tt, tt))) }
+        (results.op_result.encoding (made.Unsupported op))
+        (results.op_result.Fits (made.Unsupported op)) }
 {
-    match op {
-        Unsupported::Setattr => write_three(out, &Opnum::Unsupported(op), &NOT_SUPPORTED, &0u32),
-        _ => write_three(out, &Opnum::Unsupported(op), &NOT_SUPPORTED, &()),
-    }
+    write_two(out, &Opnum::Unsupported(op), &NOT_SUPPORTED)
+}
+
+// Writes NFS4ERR_ROFS.
+fn write_read_only(out: &mut Vec<u8>, change: DirectoryChange) -> Result<(), WireError>
+    ensures { Writes out.old out.new result
+        (results.op_result.encoding (made.ReadOnly change))
+        (results.op_result.Fits (made.ReadOnly change)) }
+{
+    write_two(out, &Opnum::Unsupported(change.operation()), &READ_ONLY)
 }
 
 impl Measure for OpResult {
-    #[tactic(auto, unfolding(crate::specs::OpResult::op_result, crate::specs::Opnum::opnum, xdr::specs::Writing::written_number))]
+    #[tactic(auto, using(crate::proofs::Refusals::unsupported_len, crate::proofs::Refusals::read_only_len), unfolding(crate::specs::OpResult::op_result, crate::specs::Opnum::opnum, xdr::specs::Writing::written_number))]
     fn written_len(&self) -> usize {
         each_operation!(
             of_answer self, answer => 4 + answer.written_len();
-            OpResult::Unsupported(Unsupported::Setattr) => 12,
-            OpResult::Unsupported(_) => 8,
+            OpResult::Unsupported(_) | OpResult::ReadOnly(_) => 8,
             OpResult::Illegal(answer) => 4 + answer.written_len(),
         )
     }

@@ -2,7 +2,7 @@
 
 ghost use Rattle.std.specs.Prelude.{◌≡◌};
 ghost use Rattle.nfs_xdr.specs.Opnum as opnums;
-ghost use Rattle.nfs_xdr.specs.Opnum.{answer_limit, class_of, number_of, number_of_unsupported, opnum_of, room_of};
+ghost use Rattle.nfs_xdr.specs.Opnum.{answer_limit, change_of, class_of, number_of, number_of_unsupported, operation_of, opnum_of, room_of};
 ghost use Rattle.xdr.specs.Reading.{Answers};
 
 use std::alloc::Global;
@@ -16,6 +16,7 @@ macro_rules! each_operation {
             [
                 Access = 3 OnTree,
                 Close = 4 OnState,
+                Commit = 5 OnTree,
                 Delegreturn = 8 OnState,
                 Getattr = 9 OnState,
                 Lock = 12 OnState,
@@ -27,7 +28,9 @@ macro_rules! each_operation {
                 OpenDowngrade = 21 OnState,
                 Putfh = 22 OnTree,
                 Read = 25 OnState,
+                Readdir = 26 OnState,
                 Renew = 30 OnLeases,
+                Setattr = 34 OnState,
                 Setclientid = 35 OnState,
                 SetclientidConfirm = 36 OnState,
                 Write = 38 OnState,
@@ -49,7 +52,6 @@ pub(crate) use each_operation;
 /// The operations of NFSv4.0 that this server doesn't implement, with their numbers.
 #[derive(Clone, Copy, PartialEq, Eq)]
 pub enum Unsupported {
-    Commit = 5,
     Create = 6,
     Delegpurge = 7,
     Link = 11,
@@ -57,12 +59,10 @@ pub enum Unsupported {
     Nverify = 17,
     Openattr = 19,
     Putpubfh = 23,
-    Readdir = 26,
     Readlink = 27,
     Remove = 28,
     Rename = 29,
     Secinfo = 33,
-    Setattr = 34,
     Verify = 37,
 }
 
@@ -72,6 +72,42 @@ impl Unsupported {
     {
         self as u32
     }
+
+    /// Which change of a directory the operation would be, if it is one.
+    pub fn change(self) -> Option<DirectoryChange>
+        ensures { result ≡ change_of self }
+    {
+        match self {
+            Unsupported::Create => Some(DirectoryChange::Create),
+            Unsupported::Link => Some(DirectoryChange::Link),
+            Unsupported::Remove => Some(DirectoryChange::Remove),
+            Unsupported::Rename => Some(DirectoryChange::Rename),
+            _ => None,
+        }
+    }
+}
+
+/// Those of them that would change a directory.
+#[derive(Clone, Copy, PartialEq, Eq)]
+pub enum DirectoryChange {
+    Create,
+    Link,
+    Remove,
+    Rename,
+}
+
+impl DirectoryChange {
+    /// The operation that would change the directory.
+    pub fn operation(self) -> Unsupported
+        ensures { result ≡ operation_of self }
+    {
+        match self {
+            DirectoryChange::Create => Unsupported::Create,
+            DirectoryChange::Link => Unsupported::Link,
+            DirectoryChange::Remove => Unsupported::Remove,
+            DirectoryChange::Rename => Unsupported::Rename,
+        }
+    }
 }
 
 /// The operations of NFSv4.0 (nfs_opnum4).
@@ -79,6 +115,7 @@ impl Unsupported {
 pub enum Opnum {
     Access,
     Close,
+    Commit,
     Delegreturn,
     Getattr,
     Getfh,
@@ -92,9 +129,11 @@ pub enum Opnum {
     Putfh,
     Putrootfh,
     Read,
+    Readdir,
     Renew,
     Restorefh,
     Savefh,
+    Setattr,
     Setclientid,
     SetclientidConfirm,
     Write,
@@ -146,7 +185,7 @@ const FIRST_NUMBER: u32 = 3;
 pub const OPNUMS: [Opnum; 38] = [
     Opnum::Access,
     Opnum::Close,
-    Opnum::Unsupported(Unsupported::Commit),
+    Opnum::Commit,
     Opnum::Unsupported(Unsupported::Create),
     Opnum::Unsupported(Unsupported::Delegpurge),
     Opnum::Delegreturn,
@@ -167,7 +206,7 @@ pub const OPNUMS: [Opnum; 38] = [
     Opnum::Unsupported(Unsupported::Putpubfh),
     Opnum::Putrootfh,
     Opnum::Read,
-    Opnum::Unsupported(Unsupported::Readdir),
+    Opnum::Readdir,
     Opnum::Unsupported(Unsupported::Readlink),
     Opnum::Unsupported(Unsupported::Remove),
     Opnum::Unsupported(Unsupported::Rename),
@@ -175,7 +214,7 @@ pub const OPNUMS: [Opnum; 38] = [
     Opnum::Restorefh,
     Opnum::Savefh,
     Opnum::Unsupported(Unsupported::Secinfo),
-    Opnum::Unsupported(Unsupported::Setattr),
+    Opnum::Setattr,
     Opnum::Setclientid,
     Opnum::SetclientidConfirm,
     Opnum::Unsupported(Unsupported::Verify),
@@ -213,7 +252,7 @@ impl Opnum {
         ensures { result ≡ answer_limit self }
     {
         match self {
-            Opnum::Read => 67_572,
+            Opnum::Read | Opnum::Readdir => 67_572,
             _ => 2_036,
         }
     }

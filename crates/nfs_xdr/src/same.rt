@@ -3,9 +3,12 @@
 ghost use Rattle.std.specs.Prelude.{◌≡◌, ◌≢◌, MatchBool};
 
 use crate::opnum::each_operation;
-use crate::{Address, Answer, Bitmap, Fattr, FileHandle, LockDenied, Op, OpResult, Stateid};
+use crate::{
+    Address, Answer, Bitmap, Fattr, FileHandle, LockDenied, Op, OpResult, Stateid, Verifier,
+};
 use nfs_operations::access::AccessBits;
 use nfs_operations::close::Close;
+use nfs_operations::commit::Commit;
 use nfs_operations::delegreturn::Delegreturn;
 use nfs_operations::lock::Lock;
 use nfs_operations::lockt::Lockt;
@@ -14,8 +17,10 @@ use nfs_operations::open::{Open, OpenOk};
 use nfs_operations::open_confirm::OpenConfirm;
 use nfs_operations::open_downgrade::OpenDowngrade;
 use nfs_operations::read::{Read, ReadOk};
+use nfs_operations::readdir::{Readdir, ReaddirOk};
 use nfs_operations::release_lockowner::ReleaseLockowner;
 use nfs_operations::renew::Renew;
+use nfs_operations::setattr::{Setattr, SetattrResult};
 use nfs_operations::setclientid::Setclientid;
 use nfs_operations::setclientid_confirm::SetclientidConfirm;
 use nfs_operations::write::{Write, WriteOk};
@@ -47,6 +52,7 @@ macro_rules! is_same_answer {
             $((OpResult::$X(answer), OpResult::$X(other)) => answer.is_same(other),)*
             $((OpResult::$Y(answer), OpResult::$Y(other)) => answer.is_same(other),)*
             (OpResult::Unsupported(op), OpResult::Unsupported(other)) => op == other,
+            (OpResult::ReadOnly(change), OpResult::ReadOnly(other)) => change == other,
             (OpResult::Illegal(answer), OpResult::Illegal(other)) => answer.is_same(other),
             _ => false,
         }
@@ -118,6 +124,12 @@ impl Same for Open {
     }
 }
 
+impl Same for ReaddirOk {
+    fn is_same(&self, other: &ReaddirOk) -> bool {
+        self.is_same(other)
+    }
+}
+
 // All others are the same where they are equal.
 
 impl Same for u32 {
@@ -152,6 +164,12 @@ impl Same for Bytes {
 
 impl Same for Close {
     fn is_same(&self, other: &Close) -> bool {
+        self == other
+    }
+}
+
+impl Same for Commit {
+    fn is_same(&self, other: &Commit) -> bool {
         self == other
     }
 }
@@ -216,6 +234,12 @@ impl Same for ReadOk {
     }
 }
 
+impl Same for Readdir {
+    fn is_same(&self, other: &Readdir) -> bool {
+        self == other
+    }
+}
+
 impl Same for ReleaseLockowner {
     fn is_same(&self, other: &ReleaseLockowner) -> bool {
         self == other
@@ -224,6 +248,18 @@ impl Same for ReleaseLockowner {
 
 impl Same for Renew {
     fn is_same(&self, other: &Renew) -> bool {
+        self == other
+    }
+}
+
+impl Same for Setattr {
+    fn is_same(&self, other: &Setattr) -> bool {
+        self == other
+    }
+}
+
+impl Same for SetattrResult {
+    fn is_same(&self, other: &SetattrResult) -> bool {
         self == other
     }
 }
@@ -242,6 +278,12 @@ impl Same for SetclientidConfirm {
 
 impl Same for Stateid {
     fn is_same(&self, other: &Stateid) -> bool {
+        self == other
+    }
+}
+
+impl Same for Verifier {
+    fn is_same(&self, other: &Verifier) -> bool {
         self == other
     }
 }

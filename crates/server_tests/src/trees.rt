@@ -1,7 +1,7 @@
 //! What no answer of the program shows yet of a tree: the bytes of a file, and the attributes of a file that was written
 //! to.
 
-use nfs_tree::{DEFAULT_TREE, Subject, Tree};
+use nfs_tree::{DEFAULT_TREE, Profile, Subject, Tree};
 use std::alloc::{AllocError, Global};
 use std::test::Fail;
 
@@ -27,6 +27,8 @@ fn has_attributes(alloc: Global, node: u32, mask: u32, values: &[u32]) -> Result
         change: 2,
         size: 7,
         lease: 90,
+        nodes: tree.len(),
+        profile: Profile::Plain,
     };
     let attributes = subject.attributes(alloc, &[mask])?;
     let is_mask = attributes.mask.as_slice() == [mask & 0x0018_0fff].as_slice();

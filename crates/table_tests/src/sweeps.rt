@@ -1,7 +1,8 @@
 //! A sweep between whose look and closing a worker renews the lease. Its other answers are in rows.
 
 ghost use Rattle.std.specs.Prelude.{IfSome, IsTrue};
-ghost use Rattle.nfs_xdr.specs.Op.{has_entry};
+ghost use Rattle.nfs_tree.specs.Profiles.{has_entry};
+ghost use Rattle.nfs_tree.specs.declared.profile.Profile.{Profile};
 
 use crate::renewing::Renewing;
 use nfs_core::Core;
@@ -35,7 +36,7 @@ fn setclientid(alloc: Global, id: &[u8]) -> Option<Setclientid> {
 
 /// SETCLIENTID of this id, which is asked for once more where memory was refused.
 fn introduction(alloc: Global, id: &[u8]) -> Option<Op>
-    ensures { IfSome result (λ op. IsTrue (has_entry op)) }
+    ensures { IfSome result (λ op. (profile : Profile) → IsTrue (has_entry profile op)) }
 {
     let arguments = match setclientid(alloc, id) {
         None => setclientid(alloc, id)?,
@@ -67,7 +68,7 @@ fn started(alloc: Global, seeds: Seeds) -> Option<LeasedCore<Renewing>> {
 
 /// The answer to the operation at the moment 100, which is asked once more where memory was refused.
 fn answer_to<B: LeaseBook>(leased: &mut LeasedCore<B>, op: &Op) -> OpResult
-    requires entry { IsTrue (has_entry op.now) }
+    requires entry { (profile : Profile) → IsTrue (has_entry profile op.now) }
 {
     match answer_once(leased, op) {
         (answer, true) => answer,
@@ -77,7 +78,7 @@ fn answer_to<B: LeaseBook>(leased: &mut LeasedCore<B>, op: &Op) -> OpResult
 
 /// The answer to the operation at the moment 100, and whether it has an entry.
 fn answer_once<B: LeaseBook>(leased: &mut LeasedCore<B>, op: &Op) -> (OpResult, bool)
-    requires entry { IsTrue (has_entry op.now) }
+    requires entry { (profile : Profile) → IsTrue (has_entry profile op.now) }
 {
     let moment = Moment::new(100).unwrap();
     let Ok(request) = Request::of_copy(moment, Principal::AuthSys(1), op, None) else {
@@ -89,7 +90,7 @@ fn answer_once<B: LeaseBook>(leased: &mut LeasedCore<B>, op: &Op) -> (OpResult, 
 
 /// The client with this id becomes live.
 fn come<B: LeaseBook>(rt: &impl Abort, leased: &mut LeasedCore<B>, introduction: &Op)
-    requires entry { IsTrue (has_entry introduction.now) }
+    requires entry { (profile : Profile) → IsTrue (has_entry profile introduction.now) }
 {
     let Some(args) = introduce(leased, introduction) else {
         panic!(rt; "no client");
@@ -102,7 +103,7 @@ fn introduce<B: LeaseBook>(
     leased: &mut LeasedCore<B>,
     introduction: &Op,
 ) -> Option<SetclientidConfirm>
-    requires entry { IsTrue (has_entry introduction.now) }
+    requires entry { (profile : Profile) → IsTrue (has_entry profile introduction.now) }
 {
     introduced(&answer_to(leased, introduction))
 }

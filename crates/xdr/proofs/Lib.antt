@@ -1,2 +1,4 @@
 pub mod ReadingLists
 pub mod WritingLists
+pub mod ReadingChains
+pub mod MeasuringChains

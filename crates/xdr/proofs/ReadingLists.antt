@@ -28,7 +28,7 @@ goes_on f front count i bytes value beyond total lt read so_far =
     let one : each_at f (count - i) bytes ≡ joined (one_and value (each_at f (count - (i + 1)) beyond)) = rw (k, read) refl in
     one_more front value (each_at f (count - (i + 1)) beyond) ∙ ap (and_then front) (sym one) ∙ so_far
 
-tells : {A : Type 0} (e : WireError) (r : Read A) → r ≡ Err e → Fails e r
+pub tells : {A : Type 0} (e : WireError) (r : Read A) → r ≡ Err e → Fails e r
 tells errors.Memory r is = tt
 tells errors.Short r is = is
 tells errors.TooLong r is = is

@@ -2,14 +2,15 @@
 -- are built from the ones below, so that the form of a record reads like its declaration in XDR.
 use Rattle.std.specs.Prelude.{◌≡◌, ℕ, ◌^◌, ◌<◌, ◌≤◌, ◌==◌, Bool, Option, Some, List, [], ◌++◌, length, Ok}
 use Rattle.std.specs.List.{All, find}
-use Rattle.xdr.specs.Layout.{◌⨾◌, Nothing, Number, U32, Flag, Fixed, Opaque, Many, NO_LIMIT}
-use Rattle.xdr.specs.Reading.{Read, Reads, ◌then◌, as_value, some_at, number_at, flag_at, fixed_at, opaque_at, many_at, value_at, constant_at}
-use Rattle.xdr.specs.Writing.{written_number, written_u32, written_flag, written_opaque, written_many}
+use Rattle.xdr.specs.Layout.{◌⨾◌, Nothing, Number, U32, Flag, Fixed, Opaque, Many, Chain, NO_LIMIT}
+use Rattle.xdr.specs.Reading.{Read, Reads, ◌then◌, as_value, some_at, number_at, flag_at, fixed_at, opaque_at, many_at, chain_at, value_at, constant_at}
+use Rattle.xdr.specs.Writing.{written_number, written_u32, written_flag, written_opaque, written_many, written_chain}
 use Rattle.xdr.specs.laws.Reads.{reads_nothing, reads_number, reads_constant, reads_flag, reads_fixed, reads_opaque, reads_then, reads_as}
 use Rattle.xdr.specs.laws.Spells.{nothing_is_encoded, number_is_encoded, flag_is_encoded, fixed_is_encoded, opaque_is_encoded, both_are_encoded}
 use Rattle.xdr.specs.laws.Subsets.{reads_some}
 use Rattle.xdr.specs.laws.Enumerations.{reads_value}
 use Rattle.xdr.specs.laws.Lists.{reads_many, many_are_encoded}
+use Rattle.xdr.specs.laws.Chains.{reads_chain, chain_is_encoded}
 
 pub record Form (A : Type 0) : Type 1 where
   -- which bytes encode a value, with any padding
@@ -102,6 +103,17 @@ many limit f = record {
   reads = reads_many limit f.layout f.at f.reads;
   encodes = λ values fits. many_are_encoded limit f.layout f.encoding f.Fits f.encodes values fits.0
       fits.1 fits.2;
+}
+
+-- a linked list, as struct { A value; list *next; } has it: values, each behind a TRUE, and a FALSE behind the last
+abbrev pub chain : {A : Type 0} → Form A → Form (List A)
+chain f = record {
+  layout = Chain f.layout;
+  at = chain_at f.at;
+  encoding = written_chain f.encoding;
+  Fits = All f.Fits;
+  reads = reads_chain f.layout f.at f.reads;
+  encodes = chain_is_encoded f.layout f.encoding f.Fits f.encodes;
 }
 
 -- a value of the first form, and then one of the second

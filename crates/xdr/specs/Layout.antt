@@ -1,5 +1,5 @@
 -- Which bytes encode a value (RFC 4506). Numbers are big-endian.
-use Rattle.std.specs.Prelude.{◌≡◌, ℕ, ◌-◌, ◌^◌, ◌%◌, ◌≤◌, Bool, List, [], ◌∷◌, ◌++◌, length, if◌then◌else◌}
+use Rattle.std.specs.Prelude.{◌≡◌, ℕ, ◌-◌, ◌^◌, ◌%◌, ◌≤◌, Bool, true, false, Option, Some, None, List, [], ◌∷◌, ◌++◌, length, if◌then◌else◌}
 use Rattle.byteorder.specs.Endian.{big_number}
 
 -- the front of the bytes matches the first layout, and the back matches the second
@@ -55,3 +55,13 @@ Each P (value ∷ values) = P value ⨾ Each P values
 -- a count of at most the limit, and that many values
 abbrev pub Many : {A : Type 0} → ℕ → (A → List ℕ → Type 0) → List A → List ℕ → Type 0
 Many limit P values = λ bytes. (length values ≤ limit) × (U32 (length values) ⨾ Each P values) bytes
+
+-- a value behind a TRUE, or a FALSE alone
+abbrev pub Link : {A : Type 0} → (A → List ℕ → Type 0) → Option A → List ℕ → Type 0
+Link P None = Flag false
+Link P (Some value) = Flag true ⨾ P value
+
+-- a linked list: values, each behind a TRUE, and a FALSE behind the last
+abbrev pub Chain : {A : Type 0} → (A → List ℕ → Type 0) → List A → List ℕ → Type 0
+Chain P [] = Link P None
+Chain P (value ∷ values) = Link P (Some value) ⨾ Chain P values

@@ -94,6 +94,29 @@ unfoldable pub many_at : {A : Type 0} → ℕ → (List ℕ → Read A) → List
 many_at limit f bytes =
     number_at 4 bytes >>= λ n. if nat_lt limit n.0 then Err errors.TooLong else each_at f n.0 n.1
 
+-- a value behind a TRUE, or a FALSE alone
+abbrev pub link_of : {A : Type 0} → (List ℕ → Read A) → Bool → List ℕ → Read (Option A)
+link_of f true rest = as_value Some f rest
+link_of f false rest = Ok (None, rest)
+
+unfoldable pub link_at : {A : Type 0} → (List ℕ → Read A) → List ℕ → Read (Option A)
+link_at f bytes = flag_at bytes >>= λ more. link_of f more.0 more.1
+
+-- the value of a link and those behind it, or none behind the last
+abbrev pub or_end : {A : Type 0} → Option A → (List ℕ → Read (List A)) → List ℕ → Read (List A)
+or_end None more rest = Ok ([], rest)
+or_end (Some value) more rest = as_value (λ values. value ∷ values) more rest
+
+-- a linked list of fewer values than `most`
+unfoldable pub chain_below : {A : Type 0} → (List ℕ → Read A) → ℕ → List ℕ → Read (List A)
+chain_below f zero bytes = Err errors.Short
+chain_below f (suc most) bytes =
+    link_at f bytes >>= λ link. or_end link.0 (chain_below f most) link.1
+
+-- a linked list, which has fewer values than bytes, as each value is behind a TRUE
+unfoldable pub chain_at : {A : Type 0} → (List ℕ → Read A) → List ℕ → Read (List A)
+chain_at f bytes = chain_below f (length bytes) bytes
+
 -- the bytes begin with some that match the layout, and `rest` follows
 abbrev pub Begins : (List ℕ → Type 0) → List ℕ → List ℕ → Type 0
 Begins layout bytes rest = (front : List ℕ) × (bytes ≡ front ++ rest) × layout front

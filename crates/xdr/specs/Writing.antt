@@ -1,5 +1,5 @@
 -- The one encoding of a value, in which all padding is zero.
-use Rattle.std.specs.Prelude.{◌≡◌, ℕ, ◌+◌, ◌<◌, ◌≤◌, List, [], ◌∷◌, ◌++◌, Bool, length, take, if◌then◌else◌, Result, vec_len, vec_capacity, OnOk, OnErr, IsErrOf}
+use Rattle.std.specs.Prelude.{◌≡◌, ℕ, ◌+◌, ◌<◌, ◌≤◌, List, [], ◌∷◌, ◌++◌, Bool, true, false, length, take, if◌then◌else◌, Result, vec_len, vec_capacity, OnOk, OnErr, IsErrOf}
 use Rattle.std.specs.Global.{Vec}
 use Rattle.std.specs.List.{flat_map}
 use Rattle.xdr.specs.declared.wire_error.WireError.{WireError}
@@ -29,6 +29,14 @@ written_opaque bytes = written_u32 (length bytes) ++ (bytes ++ zeros (padding_of
 -- a count, and that many values
 abbrev pub written_many : {A : Type 0} → (A → List ℕ) → List A → List ℕ
 written_many f values = written_u32 (length values) ++ flat_map f values
+
+-- a value behind a TRUE
+abbrev pub written_link : {A : Type 0} → (A → List ℕ) → A → List ℕ
+written_link f value = written_flag true ++ f value
+
+-- a linked list: values, each behind a TRUE, and a FALSE behind the last
+abbrev pub written_chain : {A : Type 0} → (A → List ℕ) → List A → List ℕ
+written_chain f values = flat_map (written_link f) values ++ written_flag false
 
 -- What a writer did to the bytes written so far. At Ok the encoding follows them, and the value fits its form. TooLong
 -- is returned only if the value doesn't fit, and Memory only if there was no room for the encoding. After an error the

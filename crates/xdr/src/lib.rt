@@ -3,6 +3,7 @@
 
 mod basic;
 mod bytes;
+mod chain;
 mod fields;
 mod laws;
 mod many;
@@ -18,6 +19,7 @@ pub use basic::{
     read_u64, write_fixed, write_flag, write_opaque, write_u32, write_u64,
 };
 pub use bytes::{Bytes, BytesInPlace, NO_LIMIT};
+pub use chain::{chain_len, read_chain, write_chain};
 pub use fields::{write_five, write_four, write_three, write_two};
 pub use laws::written_is_read_again;
 pub use many::{read_few, read_many, write_many};

@@ -1,9 +1,8 @@
 -- WRITE (RFC 7530, section 16.36): puts bytes into a file.
-use Rattle.std.specs.Prelude.{ℕ, ◌+◌, ◌==◌, nat_lt, [], ◌∷◌, ◌++◌, length, Option, Some, Result, Ok, Err, if◌then◌else◌}
+use Rattle.std.specs.Prelude.{ℕ, ◌+◌, ◌==◌, nat_lt, length, Option, Some, Result, Ok, Err, if◌then◌else◌}
 use Rattle.nfs_forms.specs.declared.answer.Answer.TheVariants.{Done}
 use Rattle.nfs_forms.specs.declared.stable_how.StableHow.TheVariants.{FileSync}
 use Rattle.nfs_forms.specs.declared.status.Refusal.TheVariants as refusals
-use Rattle.nfs_forms.specs.declared.verifier.Verifier.{Verifier}
 use Rattle.nfs_operations.specs.declared.write.Write.{Write}
 use Rattle.nfs_operations.specs.declared.write.WriteOk.{WriteOk}
 use Rattle.nfs_rules.specs.Transfers.{file_for, refused}
@@ -14,14 +13,9 @@ use Rattle.nfs_state.specs.State.{State, History}
 use Rattle.nfs_state.specs.declared.change.Change.{Change}
 use Rattle.nfs_state.specs.declared.change.Change.TheVariants.{Nothing, Writes}
 use Rattle.nfs_state.specs.declared.request.Request.{Request}
+use Rattle.nfs_tree.specs.Exports.{verifier_of}
 use Rattle.nfs_tree.specs.declared.tree.TheConstants.{TEXT_LIMIT}
 use Rattle.nfs_xdr.specs.declared.op_result.OpResult.TheVariants as results
-use Rattle.xdr.specs.Writing.{written_u32}
-
--- What tells a client that the server was started anew, so that what wasn't on stable storage yet may be lost: the
--- number of the server's run, and four zeros.
-abbrev pub verifier_of : ℕ → Verifier
-verifier_of epoch = record { 0 = written_u32 epoch ++ 0 ∷ 0 ∷ 0 ∷ 0 ∷ [] }
 
 -- All bytes are written, and are on stable storage as far as this server has one, whatever was asked for.
 abbrev pub answer_of : History → Write → WriteOk

@@ -44,12 +44,15 @@ fn attributes(
     let Some(node) = filehandle else {
         return Ok(Answer::Refused(Refusal::NoFileHandle));
     };
+    if !store.journal.policy().profile.is_readable(mask.as_slice()) {
+        return Ok(Answer::Refused(Refusal::Inval));
+    }
     let found = subject_of(store, node).attributes(alloc, mask.as_slice())?;
     Ok(Answer::Done(found))
 }
 
-// The node with the size and the change number that its file has now.
-fn subject_of(store: &Store, node: u32) -> Subject
+/// The node with the size and the change number that its file has now.
+pub(super) fn subject_of(store: &Store, node: u32) -> Subject
     ensures { result ≡ subject_of store.now.journal.history (state_of store.now.tables) node }
 {
     let (change, size) = store.tables.change_and_size(node);
@@ -59,5 +62,7 @@ fn subject_of(store: &Store, node: u32) -> Subject
         change,
         size,
         lease: store.journal.lease(),
+        nodes: store.journal.tree().len(),
+        profile: store.journal.policy().profile,
     }
 }

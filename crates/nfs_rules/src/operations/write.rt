@@ -1,15 +1,15 @@
 ghost use Rattle.std.specs.Prelude.{◌≡◌, ◌+◌, ◌<◌, ◌^◌, IfOk, length, nat_lt};
 ghost use Rattle.nfs_tree.specs.declared.tree.TheConstants.{TEXT_LIMIT};
 ghost use Rattle.nfs_rules.specs.Deciding.{Decides};
-ghost use Rattle.nfs_rules.specs.operations.Write.{answer_of, change_by, rule, verifier_of};
+ghost use Rattle.nfs_rules.specs.operations.Write.{answer_of, change_by, rule};
 ghost use Rattle.nfs_state.specs.Room.{state_of};
 
 use crate::decision::Decision;
 use crate::transfer::{Transfer, file_for};
-use nfs_forms::{StableHow, Verifier};
+use nfs_forms::StableHow;
 use nfs_operations::write::{Write, WriteOk};
 use nfs_state::{Change, Effect, Journal, Request, Shortage, Store};
-use nfs_tree::TEXT_LIMIT;
+use nfs_tree::{TEXT_LIMIT, write_verifier};
 use nfs_xdr::{Answer, Op, OpResult, Refusal};
 use std::alloc::AllocError;
 
@@ -62,16 +62,6 @@ fn answer_of(journal: &Journal, args: &Write) -> WriteOk
     WriteOk {
         count: args.bytes.as_slice().len() as u32,
         committed: StableHow::FileSync,
-        verifier: verifier_of(journal.epoch()),
+        verifier: write_verifier(journal.epoch()),
     }
-}
-
-// The number of the server's run, and four zeros.
-#[tactic(auto, unfolding(xdr::specs::Writing::written_number))]
-fn verifier_of(epoch: u32) -> Verifier
-    ensures { result ≡ verifier_of epoch }
-{
-    let mut verifier = [0; 8];
-    verifier[..4].copy_from_slice(&epoch.to_be_bytes());
-    Verifier(verifier)
 }

@@ -44,28 +44,28 @@ ready_alike {S = S} alike same old ready (calls.Answer xid reply) made = subst (
 
 -- exchanges that follow one another
 exchanges_gain : {S C : Type 0} (rules : Rules S C) (Gains : S → List Question → List OpResult → S → Type 0) (gain : IsGain rules.gives rules.alike Gains) (s new : S) (c after : C) (es : List Exchange)
-    → AreExchanged rules s c es new after → Gains s (flat_map (questions_of rules.tree) es) (flat_map (λ (e : Exchange). e.answers) es) new
+    → AreExchanged rules s c es new after → Gains s (flat_map (questions_of rules.export) es) (flat_map (λ (e : Exchange). e.answers) es) new
 exchanges_gain {S = S} rules Gains gain s new c after [] are =
     subst (λ (x : S). Gains s [] [] x) (sym are.0) (gain.stays s s (gain.same s))
 exchanges_gain rules Gains gain s new c after (e ∷ es) are =
     let mid = are.0 in
     let one = are.2 in
-    let questions = questions_of rules.tree e in
-    let others = flat_map (questions_of rules.tree) es in
+    let questions = questions_of rules.export e in
+    let others = flat_map (questions_of rules.export) es in
     let replies = flat_map (λ (x : Exchange). x.answers) es in
     let here = gain.more s one.0 mid [] questions [] e.answers (gain.stays s one.0 (ready_alike rules.alike gain.same s one.0 e.call one.2)) (asked_gain rules.gives rules.alike Gains gain one.0 mid questions e.answers one.3) in
     let all = gain.more s mid new questions others e.answers replies here (exchanges_gain rules Gains gain mid new are.1 after es are.3) in
-    subst (λ (q : List Question). Gains s q (flat_map (λ (x : Exchange). x.answers) (e ∷ es)) new) (sym (flat_map-cons (questions_of rules.tree) e es))
+    subst (λ (q : List Question). Gains s q (flat_map (λ (x : Exchange). x.answers) (e ∷ es)) new) (sym (flat_map-cons (questions_of rules.export) e es))
     (subst (λ (a : List OpResult). Gains s (questions ++ others) a new) (sym (flat_map-cons (λ (x : Exchange). x.answers) e es)) all)
 
 -- a whole connection
 pub course_gains : {D S C : Type 0} (device : Device D) (rules : Rules S C) (Gains : S → List Question → List OpResult → S → Type 0) (gain : IsGain rules.gives rules.alike Gains) (before : Scene D S C) (course : Course) (result : Result ℕ ServeError) (after : Scene D S C)
     → IsCourse device rules before course result after
-    → Gains before.service (flat_map (questions_of rules.tree) (all_exchanges course)) (flat_map (λ (e : Exchange). e.answers) (all_exchanges course)) after.service
+    → Gains before.service (flat_map (questions_of rules.export) (all_exchanges course)) (flat_map (λ (e : Exchange). e.answers) (all_exchanges course)) after.service
 course_gains device rules Gains gain before course result after is =
     let led = course_exchanged device rules gain.same before course result after is in
     let es = all_exchanges course in
-    let questions = flat_map (questions_of rules.tree) es in
+    let questions = flat_map (questions_of rules.export) es in
     let answers = flat_map (λ (e : Exchange). e.answers) es in
     let all = gain.more before.service led.0 after.service questions [] answers [] (exchanges_gain rules Gains gain before.service led.0 before.clock after.clock es led.1) (gain.stays led.0 after.service led.2) in
     subst (λ (q : List Question). Gains before.service q answers after.service) (append-nil questions)

@@ -1,8 +1,9 @@
 -- PUTFH (RFC 7530, section 16.20): the given filehandle replaces the current one.
 use Rattle.std.specs.Prelude.{ℕ, List, Option, Some, None}
 use Rattle.nfs_tree.specs.declared.filehandles.Filehandles.{Filehandles}
+use Rattle.nfs_tree.specs.declared.node.Node.{Node}
 use Rattle.nfs_tree.specs.Effect.{Effect, stays, moves_to}
-use Rattle.nfs_tree.specs.Tree.{Files, node_of}
+use Rattle.nfs_tree.specs.Tree.{node_of}
 use Rattle.nfs_forms.specs.declared.answer.Answer.TheVariants.{Done, Refused}
 use Rattle.nfs_xdr.specs.declared.op_result.OpResult.TheVariants as results
 use Rattle.nfs_forms.specs.declared.status.Refusal.TheVariants as refusals
@@ -12,5 +13,5 @@ abbrev pub putfh_at : Filehandles → Option ℕ → Effect
 putfh_at old None = stays old (results.Putfh (Refused refusals.BadHandle))
 putfh_at old (Some node) = moves_to old node (results.Putfh (Done tt))
 
-abbrev pub putfh : Files → Filehandles → List ℕ → Effect
-putfh tree old handle = putfh_at old (node_of tree.nodes handle)
+abbrev pub putfh : List Node → Filehandles → List ℕ → Effect
+putfh nodes old handle = putfh_at old (node_of nodes handle)

@@ -1,8 +1,9 @@
 ghost use Rattle.std.specs.Prelude.{◌≡◌};
-ghost use Rattle.nfs_tree.specs.operations.Access.{access, access_of};
+ghost use Rattle.nfs_tree.specs.Exports.{export_seen};
+ghost use Rattle.nfs_tree.specs.operations.Access.{access, access_of, directory_access};
 ghost use Rattle.nfs_tree.specs.Tree.{is_directory};
 
-use crate::{Filehandles, Tree};
+use crate::{Export, Filehandles, Profile};
 use nfs_operations::access::AccessBits;
 use nfs_xdr::{Answer, OpResult, Refusal};
 
@@ -26,17 +27,28 @@ const ALL_ACCESS: u32 = ACCESS_READ
     | ACCESS_DELETE
     | ACCESS_EXECUTE;
 
-const DIRECTORY_ACCESS: u32 = ACCESS_READ | ACCESS_LOOKUP;
-
 const FILE_ACCESS: u32 = ACCESS_READ | ACCESS_MODIFY | ACCESS_EXTEND;
 
-impl Tree {
+impl Profile {
+    // What may be done to a directory.
+    fn directory_access(self) -> u32
+        ensures { result ≡ directory_access self }
+    {
+        match self {
+            Profile::Plain => ACCESS_READ | ACCESS_LOOKUP,
+            Profile::Clients => ACCESS_READ | ACCESS_LOOKUP | ACCESS_MODIFY,
+        }
+    }
+}
+
+impl Export<'_> {
     /// What ACCESS answers for a node: those of the requested bits that the server knows, and those that it allows.
     pub fn access(&self, node: u32, bits: u32) -> AccessBits
-        ensures { result ≡ access_of (is_directory self.now.nodes node) bits }
+        ensures { result
+            ≡ access_of self.now.profile (is_directory self.now.tree.now.nodes node) bits }
     {
-        let allowed = if self.is_directory(node) {
-            DIRECTORY_ACCESS
+        let allowed = if self.tree.is_directory(node) {
+            self.profile.directory_access()
         } else {
             FILE_ACCESS
         };
@@ -50,12 +62,12 @@ impl Tree {
 impl Filehandles {
     /// ACCESS (RFC 7530, section 16.1): returns which of the requested access rights the client has on the current
     /// object.
-    pub(crate) fn access(&self, tree: &Tree, requested: u32) -> OpResult
+    pub(crate) fn access(&self, export: &Export<'_>, requested: u32) -> OpResult
         ensures effect { record { answer = result; after = self.now }
-            ≡ access tree.now self.now requested }
+            ≡ access (export_seen export.now) self.now requested }
     {
         match self.current {
-            Some(node) => OpResult::Access(Answer::Done(tree.access(node, requested))),
+            Some(node) => OpResult::Access(Answer::Done(export.access(node, requested))),
             None => OpResult::Access(Answer::Refused(Refusal::NoFileHandle)),
         }
     }

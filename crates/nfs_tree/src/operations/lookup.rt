@@ -11,7 +11,7 @@ impl Filehandles {
     pub(crate) fn lookup(&mut self, tree: &Tree, name: &[u8]) -> OpResult
         requires nodes { AreNodes tree.now self.old }
         ensures effect { record { answer = result; after = self.new }
-            ≡ lookup tree.now self.old name.now }
+            ≡ lookup tree.now.nodes self.old name.now }
         ensures nodes { AreNodes tree.now self.new }
     {
         let Some(node) = self.current else {

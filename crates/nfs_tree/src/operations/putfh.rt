@@ -10,7 +10,7 @@ impl Filehandles {
     pub(crate) fn putfh(&mut self, tree: &Tree, handle: &[u8]) -> OpResult
         requires nodes { AreNodes tree.now self.old }
         ensures effect { record { answer = result; after = self.new }
-            ≡ putfh tree.now self.old handle.now }
+            ≡ putfh tree.now.nodes self.old handle.now }
         ensures nodes { AreNodes tree.now self.new }
     {
         match tree.node_of(handle) {

@@ -5,6 +5,7 @@ use Rattle.nfs_rpc.specs.declared.records.TheConstants.{RECORD_LIMIT}
 use Rattle.nfs_xdr.specs.OpResult.{op_result}
 use Rattle.nfs_tree.specs.Filehandles.{AreNodes}
 use Rattle.nfs_server.specs.Folding.{asker_of, start}
+use Rattle.nfs_tree.specs.Exports.{export_seen}
 use Rattle.nfs_server.proofs.Folding.{Completes}
 use Rattle.nfs_server.proofs.compound.answer_operations.Given as goal
 
@@ -16,8 +17,8 @@ invariant-loop-op g l = record {
   size : l.size ≡ l.head + length (flat_map op_result.encoding l.results.items);
   within : l.size ≤ max l.head (RECORD_LIMIT - 12);
   form : All op_result.Fits l.results.items;
-  serves : g.S.Service.serves l.service ≡ l.context.tree.now.nodes;
-  nodes : AreNodes l.context.tree.now l.handles;
+  serves : g.S.Service.serves l.service ≡ export_seen l.context.export.now;
+  nodes : AreNodes l.context.export.now.tree.now l.handles;
 }
 
 abbrev pub decreases-loop-op : goal.decreases-loop-op

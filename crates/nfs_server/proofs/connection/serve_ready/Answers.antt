@@ -9,10 +9,11 @@ use Rattle.nfs_server.specs.PendingCall.{PendingView}
 use Rattle.nfs_server.proofs.Batching.{same_then, serves_more, serves_part}
 use Rattle.nfs_server.proofs.Serving.{HasServed, ends_all, ends_cut, ends_refused, ends_so, error_is, left_so, serves_none, serves_sent}
 use Rattle.nfs_server.proofs.connection.serve_ready.Goals as goal
+use Rattle.nfs_tree.specs.Exports.{export_seen}
 
 pub loop-device-init : goal.loop-device-init
 loop-device-init g c =
-    let by = rules c.args.tree.now g.S.Service.gives g.S.Service.alike g.C.Clock.tells in
+    let by = rules (export_seen c.args.export.now) g.S.Service.gives g.S.Service.alike g.C.Clock.tells in
     let start = scene c.args.device.now c.args.service.now c.args.clock.now in
     let ready = c.args.records.now.ready in
     let waiting = c.args.replies.now.gathered.items in
@@ -29,7 +30,7 @@ loop-device-init g c =
 
 pub returns-in-Ok-false-clause-served : goal.returns-in-Ok-false-clause-served
 returns-in-Ok-false-clause-served g c =
-    let by = rules c.args.tree.now g.S.Service.gives g.S.Service.alike g.C.Clock.tells in
+    let by = rules (export_seen c.args.export.now) g.S.Service.gives g.S.Service.alike g.C.Clock.tells in
     let start = scene c.args.device.now c.args.service.now c.args.clock.now in
     let now = c.loop-device in
     let new = c.answer_some.new in
@@ -42,7 +43,7 @@ returns-in-Ok-false-clause-served g c =
 pub returns-in_err-send-in-Err-clause-served : goal.returns-in_err-send-in-Err-clause-served
 returns-in_err-send-in-Err-clause-served g c =
     let p = err_from_is_err_and c.from_residual.result c.from_residual.ensures.1 in
-    let by = rules c.args.tree.now g.S.Service.gives g.S.Service.alike g.C.Clock.tells in
+    let by = rules (export_seen c.args.export.now) g.S.Service.gives g.S.Service.alike g.C.Clock.tells in
     let start = scene c.args.device.now c.args.service.now c.args.clock.now in
     let now = c.loop-device in
     let new = c.answer_some.new in
@@ -55,7 +56,7 @@ returns-in_err-send-in-Err-clause-served g c =
 
 pub returns-in-Err-clause-served : goal.returns-in-Err-clause-served
 returns-in-Err-clause-served g c =
-    let by = rules c.args.tree.now g.S.Service.gives g.S.Service.alike g.C.Clock.tells in
+    let by = rules (export_seen c.args.export.now) g.S.Service.gives g.S.Service.alike g.C.Clock.tells in
     let start = scene c.args.device.now c.args.service.now c.args.clock.now in
     let now = c.loop-device in
     let new = c.answer_some.new in
@@ -66,7 +67,7 @@ returns-in-Err-clause-served g c =
 
 pub loop-device-preserved-in-Continue-branch-2 : goal.loop-device-preserved-in-Continue-branch-2
 loop-device-preserved-in-Continue-branch-2 g c =
-    let by = rules c.args.tree.now g.S.Service.gives g.S.Service.alike g.C.Clock.tells in
+    let by = rules (export_seen c.args.export.now) g.S.Service.gives g.S.Service.alike g.C.Clock.tells in
     let start = scene c.args.device.now c.args.service.now c.args.clock.now in
     let messages = c.args.records.now.ready in
     let now = c.loop-device in
@@ -89,7 +90,7 @@ loop-device-preserved-in-Continue-branch-2 g c =
 pub returns-in_err-send-clause-served : goal.returns-in_err-send-clause-served
 returns-in_err-send-clause-served g c =
     let p = err_from_is_err_and c.from_residual-in_err-send.result c.from_residual-in_err-send.ensures.1 in
-    let by = rules c.args.tree.now g.S.Service.gives g.S.Service.alike g.C.Clock.tells in
+    let by = rules (export_seen c.args.export.now) g.S.Service.gives g.S.Service.alike g.C.Clock.tells in
     let start = scene c.args.device.now c.args.service.now c.args.clock.now in
     let messages = c.args.records.now.ready in
     let now = c.loop-device in
@@ -103,7 +104,7 @@ returns-in_err-send-clause-served g c =
 
 pub loop-device-preserved : goal.loop-device-preserved
 loop-device-preserved g c =
-    let by = rules c.args.tree.now g.S.Service.gives g.S.Service.alike g.C.Clock.tells in
+    let by = rules (export_seen c.args.export.now) g.S.Service.gives g.S.Service.alike g.C.Clock.tells in
     let start = scene c.args.device.now c.args.service.now c.args.clock.now in
     let now = c.loop-device in
     let new = c.answer_some.new in

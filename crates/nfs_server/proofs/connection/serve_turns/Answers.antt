@@ -8,10 +8,11 @@ use Rattle.nfs_server.specs.Exchange.{rules}
 use Rattle.nfs_server.proofs.Courses.{starts, ends_failed, ends_idle, ends_too_long, more_served, no_read_failed, ready_within, some_piece, still_stream, write_failed}
 use Rattle.nfs_server.proofs.Serving.{error_is}
 use Rattle.nfs_server.proofs.connection.serve_turns.Goals as goal
+use Rattle.nfs_tree.specs.Exports.{export_seen}
 
 pub loop-records-init : goal.loop-records-init
 loop-records-init g c = record {
-  under_way = starts g.D.Duplex.device (rules c.args.tree.now g.S.Service.gives g.S.Service.alike g.C.Clock.tells) (scene c.args.device.now c.args.service.now c.args.clock.now) c.new-records.result c.new-records.ensures.empty;
+  under_way = starts g.D.Duplex.device (rules (export_seen c.args.export.now) g.S.Service.gives g.S.Service.alike g.C.Clock.tells) (scene c.args.device.now c.args.service.now c.args.clock.now) c.new-records.result c.new-records.ensures.empty;
   sound = c.new-records.ensures.sound;
   goes = c.new-records.ensures.empty.goes;
   room = c.requires.room;
@@ -29,18 +30,18 @@ returns-in-Ok-eq0-clause-course g c =
     let none : device.gives c.loop-records.device [] c.read.new.self =
     subst (λ (n : ℕ). device.gives c.loop-records.device (take n c.read.new.buffer) c.read.new.self) c.in-Ok-eq0.field-0-test c.in-Ok-eq0.ensures.gives in
     let u = c.loop-records.invariant.under_way in
-    ends_idle device (rules c.args.tree.now g.S.Service.gives g.S.Service.alike g.C.Clock.tells) (scene c.args.device.now c.args.service.now c.args.clock.now) (scene c.loop-records.device c.loop-records.service c.loop-records.clock)
+    ends_idle device (rules (export_seen c.args.export.now) g.S.Service.gives g.S.Service.alike g.C.Clock.tells) (scene c.args.device.now c.args.service.now c.args.clock.now) (scene c.loop-records.device c.loop-records.service c.loop-records.clock)
     c.loop-records.records [] (Ok c.rest.result) c.read.new.self u c.loop-records.invariant.sound ((refl, refl, none), refl, c.rest.ensures.value _ u.keeps)
 
 pub returns-in-Err-clause-course : goal.returns-in-Err-clause-course
 returns-in-Err-clause-course g c =
-    ends_idle g.D.Duplex.device (rules c.args.tree.now g.S.Service.gives g.S.Service.alike g.C.Clock.tells) (scene c.args.device.now c.args.service.now c.args.clock.now) (scene c.loop-records.device c.loop-records.service c.loop-records.clock)
+    ends_idle g.D.Duplex.device (rules (export_seen c.args.export.now) g.S.Service.gives g.S.Service.alike g.C.Clock.tells) (scene c.args.device.now c.args.service.now c.args.clock.now) (scene c.loop-records.device c.loop-records.service c.loop-records.clock)
     c.loop-records.records [] (Err errors.Read) c.read.new.self c.loop-records.invariant.under_way c.loop-records.invariant.sound (refl, refl, refl, c.in-Err.ensures.fails)
 
 pub returns-then-count-fed-clause-course : goal.returns-then-count-fed-clause-course
 returns-then-count-fed-clause-course g c =
     let piece = take c.in-Ok.count c.read.new.buffer in
-    ends_idle g.D.Duplex.device (rules c.args.tree.now g.S.Service.gives g.S.Service.alike g.C.Clock.tells) (scene c.args.device.now c.args.service.now c.args.clock.now) (scene c.loop-records.device c.loop-records.service c.loop-records.clock)
+    ends_idle g.D.Duplex.device (rules (export_seen c.args.export.now) g.S.Service.gives g.S.Service.alike g.C.Clock.tells) (scene c.args.device.now c.args.service.now c.args.clock.now) (scene c.loop-records.device c.loop-records.service c.loop-records.clock)
     c.loop-records.records piece (Err errors.TooMuch) c.read.new.self c.loop-records.invariant.under_way c.loop-records.invariant.sound
     ((refl, refl, c.in-Ok.ensures.gives), λ within. omega (arith, within, length-take c.in-Ok.count c.read.new.buffer, c.loop-records.invariant.under_way.fed, c.fed.ensures.value, c.in-Ok.ensures.within, c.if-count-fed.true))
 
@@ -50,7 +51,7 @@ returns-in_err-feed-clause-course g c =
     let p = err_from_is_err_and c.from_residual.result c.from_residual.ensures.1 in
     let memory : c.from_residual.result ≡ Err errors.Memory = p.1 ∙ ap (λ (e : ServeError). Err e) (p.2 ∙ error_is c.in_err-feed.field-0.0 errors.Memory c.in_err-feed.ensures.memory) in
     rw memory
-    (ends_idle g.D.Duplex.device (rules c.args.tree.now g.S.Service.gives g.S.Service.alike g.C.Clock.tells) (scene c.args.device.now c.args.service.now c.args.clock.now) (scene c.loop-records.device c.loop-records.service c.loop-records.clock)
+    (ends_idle g.D.Duplex.device (rules (export_seen c.args.export.now) g.S.Service.gives g.S.Service.alike g.C.Clock.tells) (scene c.args.device.now c.args.service.now c.args.clock.now) (scene c.loop-records.device c.loop-records.service c.loop-records.clock)
     c.loop-records.records piece (Err errors.Memory) c.read.new.self c.loop-records.invariant.under_way c.loop-records.invariant.sound (inr (inl (
       (refl, refl, c.in-Ok.ensures.gives),
       omega (arith, length-take c.in-Ok.count c.read.new.buffer, c.loop-records.invariant.under_way.fed, c.loop-records.invariant.sound.bounded, c.fed.ensures.value, c.in-Ok.ensures.within, c.if-count-fed.false),
@@ -66,7 +67,7 @@ pub returns-in_err-serve_ready-clause-course : goal.returns-in_err-serve_ready-c
 returns-in_err-serve_ready-clause-course g c =
     let piece = take c.in-Ok.count c.read.new.buffer in
     let p = err_from_is_err_and c.from_residual-in_err-serve_ready.result c.from_residual-in_err-serve_ready.ensures.1 in
-    ends_failed {T = Unit {0}} g.D.Duplex.device (rules c.args.tree.now g.S.Service.gives g.S.Service.alike g.C.Clock.tells) (scene c.args.device.now c.args.service.now c.args.clock.now) (scene c.loop-records.device c.loop-records.service c.loop-records.clock)
+    ends_failed {T = Unit {0}} g.D.Duplex.device (rules (export_seen c.args.export.now) g.S.Service.gives g.S.Service.alike g.C.Clock.tells) (scene c.args.device.now c.args.service.now c.args.clock.now) (scene c.loop-records.device c.loop-records.service c.loop-records.clock)
     c.loop-records.records c.feed.new.records piece c.in_err-serve_ready.field-0.0 c.from_residual-in_err-serve_ready.result (scene c.serve_ready.new.device c.serve_ready.new.service c.serve_ready.new.clock)
     (p.1 ∙ ap (λ (e : ServeError). Err e) p.2) c.in_err-serve_ready.ensures.errors c.loop-records.invariant.sound (record {
       mid = c.read.new.self;
@@ -93,7 +94,7 @@ returns-in_err-serve_ready-clause-write_failed g c =
 pub returns-then-is_too_long-clause-course : goal.returns-then-is_too_long-clause-course
 returns-then-is_too_long-clause-course g c =
     let piece = take c.in-Ok.count c.read.new.buffer in
-    ends_too_long {T = Unit {0}} g.D.Duplex.device (rules c.args.tree.now g.S.Service.gives g.S.Service.alike g.C.Clock.tells) (scene c.args.device.now c.args.service.now c.args.clock.now) (scene c.loop-records.device c.loop-records.service c.loop-records.clock)
+    ends_too_long {T = Unit {0}} g.D.Duplex.device (rules (export_seen c.args.export.now) g.S.Service.gives g.S.Service.alike g.C.Clock.tells) (scene c.args.device.now c.args.service.now c.args.clock.now) (scene c.loop-records.device c.loop-records.service c.loop-records.clock)
     c.loop-records.records c.feed.new.records c.serve_ready.new.records piece tt (scene c.serve_ready.new.device c.serve_ready.new.service c.serve_ready.new.clock) c.loop-records.invariant.sound (record {
       mid = c.read.new.self;
       under_way = c.loop-records.invariant.under_way;
@@ -108,7 +109,7 @@ pub loop-records-preserved : goal.loop-records-preserved
 loop-records-preserved g c =
     let piece = take c.in-Ok.count c.read.new.buffer in
     record {
-      under_way = more_served {T = Unit {0}} g.D.Duplex.device (rules c.args.tree.now g.S.Service.gives g.S.Service.alike g.C.Clock.tells) (scene c.args.device.now c.args.service.now c.args.clock.now) (scene c.loop-records.device c.loop-records.service c.loop-records.clock)
+      under_way = more_served {T = Unit {0}} g.D.Duplex.device (rules (export_seen c.args.export.now) g.S.Service.gives g.S.Service.alike g.C.Clock.tells) (scene c.args.device.now c.args.service.now c.args.clock.now) (scene c.loop-records.device c.loop-records.service c.loop-records.clock)
           c.loop-records.records c.feed.new.records c.serve_ready.new.records piece tt (scene c.serve_ready.new.device c.serve_ready.new.service c.serve_ready.new.clock) (record {
             mid = c.read.new.self;
             under_way = c.loop-records.invariant.under_way;

@@ -1,5 +1,6 @@
 -- The receipt is for the entry that the call made, and the register has it.
 use Rattle.std.proofs.Common.{◌≡◌, ◌∙◌, ◌++◌, ◌∷◌, [], length, List, ℕ, Option, Some, ap, refl, sym, subst, arith, length-append}
+use Rattle.std.specs.Prelude.{IsTrue}
 use Rattle.nfs_core.specs.Entered.{Answers, IsEntered, number_entered}
 use Rattle.nfs_core.specs.Recalls.{RecallsLeft}
 use Rattle.nfs_core.specs.Server.{Enters, Server}
@@ -20,12 +21,17 @@ use Rattle.nfs_shared.specs.Roll.{list_of}
 use Rattle.nfs_shared.specs.declared.receipt.Receipt.{Receipt}
 use Rattle.nfs_state.specs.Entries.{IsFilehandle, entry_of}
 use Rattle.nfs_state.specs.State.{History}
+use Rattle.nfs_tree.specs.Profiles.{has_entry}
 use Rattle.nfs_state.specs.declared.entry.Call.{Call}
 use Rattle.nfs_state.specs.declared.entry.Entry.{Entry}
 use Rattle.nfs_state.specs.declared.entry.Entry.TheVariants as entries
 use Rattle.nfs_words.specs.Calls.{FitsTable}
 use Rattle.nfs_words.specs.Desk.{Happens}
 use Rattle.nfs_words.specs.Sitting.{Sitting}
+
+pub answer_with_room-answer-requires-clause-entry : goal.answer_with_room-answer-requires-clause-entry
+answer_with_room-answer-requires-clause-entry g c =
+    subst (λ (j : History). IsTrue (has_entry j.policy.profile c.args.request.op)) (sym c.held.invariant.2) c.requires.entry
 
 pub answer_with_room-answer-requires-clause-node : goal.answer_with_room-answer-requires-clause-node
 answer_with_room-answer-requires-clause-node g c =

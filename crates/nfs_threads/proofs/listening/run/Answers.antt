@@ -1,4 +1,4 @@
-use Rattle.std.proofs.Common.{◌≤◌, ℕ, List, ap, length, subst, sym, vec_capacity, ◌∙◌}
+use Rattle.std.proofs.Common.{◌≤◌, List, ap, length, subst, sym, vec_capacity, ◌∙◌}
 use Rattle.std.proofs.lemmas.List.{length-map}
 use Rattle.nfs_shared.specs.Ends.{AllApart, AllStand, AreFresh, receipts_in}
 use Rattle.nfs_shared.specs.Naming.{OpenedView}
@@ -6,6 +6,7 @@ use Rattle.nfs_shared.specs.Seats.{SeatView}
 use Rattle.nfs_shared.specs.declared.receipt.Receipt.{Receipt}
 use Rattle.nfs_threads.proofs.Accounts.{accounts_of}
 use Rattle.nfs_state.specs.State.{History}
+use Rattle.nfs_server.specs.Serves.{served_by}
 use Rattle.nfs_threads.specs.Links.{tcp}
 use Rattle.nfs_threads.specs.Rooms.{HaveRoom}
 use Rattle.nfs_threads.specs.Run.{AreAccounts}
@@ -58,8 +59,8 @@ returns-clause-served g c =
       seats = seats_back all;
       words = g.N.Naming.run.words;
       lasts = sym (ap (λ (o : OpenedView). o.words.lease) c.requires.beginning.run) ∙ c.requires.beginning.lease;
-      each = subst (λ (epoch : ℕ). AreAccounts (tcp epoch) c.args.setting.now.tree.now c.args.links.now g.N.Naming.run.words 0 accounts (seats_back all)) (ap (λ (h : History). h.epoch) (sym c.requires.beginning.start))
-          (accounts_of (tcp g.N.Naming.start.epoch) c.args.setting.now.tree.now c.args.links.now g.N.Naming.run.words g.N.Naming.run.workers links all accounts fresh c.link_all.ensures.same c.serve_helped-ends.ensures c.end-core.ensures.shifts receipts);
+      each = subst (λ (h : History). AreAccounts (tcp (served_by h)) c.args.setting.now.tree.now c.args.links.now g.N.Naming.run.words 0 accounts (seats_back all)) (sym c.requires.beginning.start)
+          (accounts_of (tcp (served_by g.N.Naming.start)) c.args.setting.now.tree.now c.args.links.now g.N.Naming.run.words g.N.Naming.run.workers links all accounts fresh c.link_all.ensures.same c.serve_helped-ends.ensures c.end-core.ensures.shifts receipts);
       start = c.end-core.ensures.start ∙ sym c.requires.beginning.start;
       lawful = c.end-core.ensures.lawful;
       safe = c.end-core.ensures.safe;

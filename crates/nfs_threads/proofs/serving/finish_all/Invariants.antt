@@ -6,6 +6,7 @@ use Rattle.nfs_threads.specs.WorkerThread.{AreWorkers}
 use Rattle.nfs_threads.specs.Worker.{linking}
 use Rattle.nfs_threads.proofs.Workers.{Completes}
 use Rattle.nfs_threads.proofs.serving.finish_all.Given as goal
+use Rattle.nfs_server.specs.Serves.{served_by}
 
 -- The workers that are left are those of some links; what is done of these is, after what is done so far, what is done
 -- of all links.
@@ -16,6 +17,6 @@ invariant-loop-worker g l = record {
   count : length (into_iter_items l.worker-iterator) ≡ into_iter_len l.worker-iterator;
   room : vec_len l.ends + into_iter_len l.worker-iterator ≤ vec_capacity l.ends;
   completes : (tree : Files) (links : List (g.row.L.Denot × SeatView))
-      → AreWorkers (linking g.N.Naming.start.epoch g.L.Links.opens g.L.Links.stops g.L.Device.Duplex.device g.L.Device.Duplex.read_failures g.L.Device.Duplex.write_failures g.L.Clock.Clock.tells) tree links l.fn.workers.items
-      → Completes (linking g.N.Naming.start.epoch g.L.Links.opens g.L.Links.stops g.L.Device.Duplex.device g.L.Device.Duplex.read_failures g.L.Device.Duplex.write_failures g.L.Clock.Clock.tells) tree links (into_iter_items l.worker-iterator) l.ends.items;
+      → AreWorkers (linking (served_by g.N.Naming.start) g.L.Links.opens g.L.Links.stops g.L.Device.Duplex.device g.L.Device.Duplex.read_failures g.L.Device.Duplex.write_failures g.L.Clock.Clock.tells) tree links l.fn.workers.items
+      → Completes (linking (served_by g.N.Naming.start) g.L.Links.opens g.L.Links.stops g.L.Device.Duplex.device g.L.Device.Duplex.read_failures g.L.Device.Duplex.write_failures g.L.Clock.Clock.tells) tree links (into_iter_items l.worker-iterator) l.ends.items;
 }

@@ -3,6 +3,7 @@ use Rattle.std.specs.Vec.Iter.{into_iter_items, into_iter_len}
 use Rattle.nfs_threads.specs.WorkerThread.{AreWorkers}
 use Rattle.nfs_threads.specs.Worker.{AreUnused, linking, seats_of}
 use Rattle.nfs_threads.proofs.serving.serve_in.Given as goal
+use Rattle.nfs_server.specs.Serves.{served_by}
 
 -- whatever are workers of the links that are left are, after those so far, workers of all links
 abbrev pub invariant-loop-link : goal.invariant-loop-link
@@ -16,6 +17,6 @@ invariant-loop-link g l = record {
   all : vec_len l.workers + into_iter_len l.link-iterator ≡ vec_len l.fn.links;
   room : vec_len l.workers + into_iter_len l.link-iterator ≤ vec_capacity l.workers;
   completes : (more : List _)
-      → AreWorkers (linking g.N.Naming.start.epoch g.L.Links.opens g.L.Links.stops g.L.Device.Duplex.device g.L.Device.Duplex.read_failures g.L.Device.Duplex.write_failures g.L.Clock.Clock.tells) l.common.tree.now (into_iter_items l.link-iterator) more
-      → AreWorkers (linking g.N.Naming.start.epoch g.L.Links.opens g.L.Links.stops g.L.Device.Duplex.device g.L.Device.Duplex.read_failures g.L.Device.Duplex.write_failures g.L.Clock.Clock.tells) l.common.tree.now l.fn.links.items (l.workers.items ++ more);
+      → AreWorkers (linking (served_by g.N.Naming.start) g.L.Links.opens g.L.Links.stops g.L.Device.Duplex.device g.L.Device.Duplex.read_failures g.L.Device.Duplex.write_failures g.L.Clock.Clock.tells) l.common.tree.now (into_iter_items l.link-iterator) more
+      → AreWorkers (linking (served_by g.N.Naming.start) g.L.Links.opens g.L.Links.stops g.L.Device.Duplex.device g.L.Device.Duplex.read_failures g.L.Device.Duplex.write_failures g.L.Clock.Clock.tells) l.common.tree.now l.fn.links.items (l.workers.items ++ more);
 }

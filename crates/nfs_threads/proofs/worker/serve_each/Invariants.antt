@@ -1,8 +1,9 @@
 use Rattle.nfs_threads.specs.Worker.{linking, stand}
 use Rattle.nfs_threads.proofs.Each.{Completes}
 use Rattle.nfs_threads.proofs.worker.serve_each.Given as goal
+use Rattle.nfs_server.specs.Serves.{served_by}
 
 abbrev pub invariant-loop : goal.invariant-loop
 invariant-loop g l =
-    Completes (linking g.N.Naming.start.epoch g.L.Links.opens g.L.Links.stops g.L.Device.Duplex.device g.L.Device.Duplex.read_failures g.L.Device.Duplex.write_failures g.L.Clock.Clock.tells)
+    Completes (linking (served_by g.N.Naming.start) g.L.Links.opens g.L.Links.stops g.L.Device.Duplex.device g.L.Device.Duplex.read_failures g.L.Device.Duplex.write_failures g.L.Clock.Clock.tells)
     l.common.tree.now (stand l.fn.links l.fn.desk) l.connections.items (stand l.links l.desk)

@@ -5,10 +5,11 @@ use Rattle.nfs_server.specs.Exchange.{rules, written_for}
 use Rattle.nfs_server.specs.PendingCall.{PendingView}
 use Rattle.nfs_server.proofs.Batching.{answered_more, answered_none, answered_until, asked_then, on_err, some_left, waiting-more, waiting-none, waits_few}
 use Rattle.nfs_server.proofs.replies.Replies.answer_batch.Goals as goal
+use Rattle.nfs_tree.specs.Exports.{export_seen}
 
 pub loop-self-init : goal.loop-self-init
 loop-self-init g c =
-    let by = rules c.args.tree.now g.S.Service.gives g.S.Service.alike g.C.Clock.tells in
+    let by = rules (export_seen c.args.export.now) g.S.Service.gives g.S.Service.alike g.C.Clock.tells in
     let gathered = c.args.self.now.gathered.items in
     let none = waiting-none gathered c.args.self.now.answered.items c.requires.written in
     let first = gathering c.args.service.now c.args.clock.now gathered (messages_in c.args.self.now.pending.items) in
@@ -33,12 +34,12 @@ loop-self-preserved g c =
     let now = c.loop-self.self in
     let left = c.pop_front.new.self.items in
     let answered = c.answer_call.new.answered.items in
-    let by = rules c.args.tree.now g.S.Service.gives g.S.Service.alike g.C.Clock.tells in
+    let by = rules (export_seen c.args.export.now) g.S.Service.gives g.S.Service.alike g.C.Clock.tells in
     let first = gathering c.args.service.now c.args.clock.now c.args.self.now.gathered.items (messages_in c.args.self.now.pending.items) in
     let mid = gathering c.loop-self.service c.loop-self.clock (waiting_bytes now.gathered.items now.answered.items) (messages_in now.pending.items) in
     let after = gathering c.answer_call.new.service c.answer_call.new.clock (waiting_bytes now.gathered.items answered) (messages_in left) in
     let one = c.in_ok-len.ensures.ok in
-    let bytes = written_for c.args.tree.now one.0 in
+    let bytes = written_for (export_seen c.args.export.now) one.0 in
     let popped : now.pending.items ≡ c.in-Some.pending ∷ left = c.in-Some.ensures.items in
     let shorter = ap (λ (ps : List PendingView). length ps) popped in
     let more : waiting_bytes now.gathered.items answered ≡ waiting_bytes now.gathered.items now.answered.items ++ bytes =
@@ -60,7 +61,7 @@ loop-self-preserved g c =
 pub returns-in_err-len-clause-err : goal.returns-in_err-len-clause-err
 returns-in_err-len-clause-err g c =
     let now = c.loop-self.self in
-    let by = rules c.args.tree.now g.S.Service.gives g.S.Service.alike g.C.Clock.tells in
+    let by = rules (export_seen c.args.export.now) g.S.Service.gives g.S.Service.alike g.C.Clock.tells in
     let first = gathering c.args.service.now c.args.clock.now c.args.self.now.gathered.items (messages_in c.args.self.now.pending.items) in
     let mid = gathering c.loop-self.service c.loop-self.clock (waiting_bytes now.gathered.items now.answered.items) (messages_in now.pending.items) in
     let refused = c.in_err-len.ensures.err in

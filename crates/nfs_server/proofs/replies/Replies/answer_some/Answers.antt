@@ -6,10 +6,11 @@ use Rattle.std.proofs.Common.{rules as steps}
 use Rattle.nfs_server.specs.PendingCall.{PendingView}
 use Rattle.nfs_server.proofs.Batching.{answered_same, on_err, refused_at_once, refused_with, some_pending}
 use Rattle.nfs_server.proofs.replies.Replies.answer_some.Goals as goal
+use Rattle.nfs_tree.specs.Exports.{export_seen}
 
 pub returns-in_err-take-clause-err : goal.returns-in_err-take-clause-err
 returns-in_err-take-clause-err g c =
-    let by = rules c.args.tree.now g.S.Service.gives g.S.Service.alike g.C.Clock.tells in
+    let by = rules (export_seen c.args.export.now) g.S.Service.gives g.S.Service.alike g.C.Clock.tells in
     let left = messages_in c.args.self.now.pending.items ++ c.args.records.now.ready in
     on_err c.from_residual.result _ (
       left,
@@ -19,12 +20,12 @@ returns-in_err-take-clause-err g c =
 
 pub returns-then-is_empty-clause-ok : goal.returns-then-is_empty-clause-ok
 returns-then-is_empty-clause-ok g c =
-    answered_same (rules c.args.tree.now g.S.Service.gives g.S.Service.alike g.C.Clock.tells) c.args.service.now c.args.clock.now c.args.self.now.gathered.items c.take.new.self.gathered.items
+    answered_same (rules (export_seen c.args.export.now) g.S.Service.gives g.S.Service.alike g.C.Clock.tells) c.args.service.now c.args.clock.now c.args.self.now.gathered.items c.take.new.self.gathered.items
     (messages_in c.args.self.now.pending.items ++ c.args.records.now.ready) (messages_in c.take.new.self.pending.items ++ c.take.new.records.ready) c.take.ensures.same c.in_ok-take.ensures.ok
 
 pub returns-in_err-make_room-clause-err : goal.returns-in_err-make_room-clause-err
 returns-in_err-make_room-clause-err g c =
-    let by = rules c.args.tree.now g.S.Service.gives g.S.Service.alike g.C.Clock.tells in
+    let by = rules (export_seen c.args.export.now) g.S.Service.gives g.S.Service.alike g.C.Clock.tells in
     let left = messages_in c.args.self.now.pending.items ++ c.args.records.now.ready in
     let some : c.take.new.self.pending.items ≢ [] = search steps in
     on_err c.from_residual-in_err-make_room.result _ (
@@ -35,7 +36,7 @@ returns-in_err-make_room-clause-err g c =
 
 pub returns-in_err-answered-clause-err : goal.returns-in_err-answered-clause-err
 returns-in_err-answered-clause-err g c =
-    let by = rules c.args.tree.now g.S.Service.gives g.S.Service.alike g.C.Clock.tells in
+    let by = rules (export_seen c.args.export.now) g.S.Service.gives g.S.Service.alike g.C.Clock.tells in
     let took = c.make_room.new.self in
     let ready = c.take.new.records.ready in
     let batch = c.answer_batch-answered.new in

@@ -3,7 +3,7 @@ use Rattle.std.specs.Prelude.{IfOk, min}
 use Rattle.std.proofs.lemmas.List.{length-drop, length-take-le}
 use Rattle.nfs_state.specs.Pages.{replaced}
 use Rattle.nfs_state.specs.declared.pages.TheConstants.{PAGE_LEN}
-use Rattle.nfs_state.proofs.PageLists.{length-concat, page_at, whole_at, whole_page, window}
+use Rattle.nfs_state.proofs.PageLists.{covered_whole, length-concat, page_at, whole_at, whole_page, window}
 use Rattle.nfs_state.proofs.pages.Pages.page_after.Goals as goal
 
 pub index-requires : goal.index-requires
@@ -32,20 +32,22 @@ page_with-requires c =
     omega (arith, c.min-len.ensures, c.saturating_sub-from.ensures, c.requires.before, ap length c.as_slice-bytes.ensures, length-drop from bytes) in
     omega (arith, many, c.min-len.ensures, c.saturating_sub-at.ensures, c.requires.behind, length-take-le ((from + len) - from) (drop from bytes) fits)
 
-pub returns-then-len-eq-PAGE_LEN : goal.returns-then-len-eq-PAGE_LEN
-returns-then-len-eq-PAGE_LEN c =
+pub returns-then-is_covered : goal.returns-then-is_covered
+returns-then-is_covered c =
     let pages = c.self.inside.pages.items in
     let all = c.args.self.now in
     let block = c.args.block.now in
     let offset = c.args.offset in
     let start = c.args.number * PAGE_LEN in
+    let bytes = c.as_slice-bytes.result.now in
+    let from = c.saturating_sub-from.result in
     let inside : start + PAGE_LEN ≤ length all =
     omega (arith, c.requires.before, c.requires.within, ap length c.self.view_is, length-concat pages c.self.invariant) in
-    let len_is : c.min-len.result ≡ min (PAGE_LEN - (offset - start)) (length block - (start - offset)) =
-    omega (arith, c.min-len.ensures, c.saturating_sub-at.ensures, c.saturating_sub-from.ensures, ap length c.as_slice-bytes.ensures) in
-    let part_is : take c.min-len.result (drop c.saturating_sub-from.result block) ≡ take (min (PAGE_LEN - (offset - start)) (length block - (start - offset))) (drop (start - offset) block) =
-    λ i. take (len_is i) (drop (c.saturating_sub-from.ensures i) block) in
-    let all_of_it : min (PAGE_LEN - (offset - start)) (length block - (start - offset)) ≡ PAGE_LEN = sym len_is ∙ c.if-len-eq-PAGE_LEN.true in
+    let known = covered_whole c.saturating_sub-at.result (length bytes - from) (sym c.is_covered.ensures ∙ c.if-is_covered.true) in
+    let all_of_it : min (PAGE_LEN - (offset - start)) (length block - (start - offset)) ≡ PAGE_LEN =
+    omega (arith, known, c.saturating_sub-at.ensures, c.saturating_sub-from.ensures, ap length c.as_slice-bytes.ensures) in
+    let part_is : take PAGE_LEN (drop from block) ≡ take (min (PAGE_LEN - (offset - start)) (length block - (start - offset))) (drop (start - offset) block) =
+    λ i. take (sym all_of_it i) (drop (c.saturating_sub-from.ensures i) block) in
     subst (λ (xs : List ℕ). IfOk c.part.result (λ (page : List ℕ). page ≡ xs))
     (part_is ∙ whole_page start PAGE_LEN offset block all c.requires.within inside c.requires.before c.requires.behind all_of_it)
     c.part.ensures

@@ -1,5 +1,6 @@
-use Rattle.std.proofs.Common.{◌∙◌, ap, arith, length, sym}
-use Rattle.nfs_state.specs.Pages.{page_start, replaced}
+use Rattle.std.proofs.Common.{subst, sym}
+use Rattle.nfs_state.specs.FileChange.{ComesWith}
+use Rattle.nfs_state.specs.declared.file_change.FileChange.{FileChange}
 use Rattle.nfs_state.proofs.FileChanges.{grown}
 use Rattle.nfs_state.proofs.stored_file.StoredFile.reserve.Goals as goal
 
@@ -12,8 +13,5 @@ invariant_of-self-2 c =
     let more = grown f.size f.pages new c.self.invariant.1 c.self.invariant.0 is.zeros in (
       more.0,
       more.1,
-      (
-        omega (arith, is.fits, is.write.0, ap length is.write.1),
-        (λ i. replaced (page_start (is.write.0 i)) w.pages new) ∙ is.pages ∙ (λ i. replaced (sym is.write.0 i) (sym is.write.1 i) new),
-      ),
+      subst (λ (change : FileChange). ComesWith new change w.pages) (sym is.change) is.pages,
     )

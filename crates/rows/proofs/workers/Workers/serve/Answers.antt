@@ -1,7 +1,8 @@
 use Rattle.nfs_threads.specs.Worker.{linking}
 use Rattle.rows.proofs.ManyLinks.{served}
 use Rattle.rows.proofs.workers.Workers.serve.Goals as goal
+use Rattle.nfs_server.specs.Serves.{served_by}
 
 pub returns : goal.returns
 returns g c =
-    served (linking g.N.Naming.start.epoch g.L.Links.opens g.L.Links.stops g.L.Device.Duplex.device g.L.Device.Duplex.read_failures g.L.Device.Duplex.write_failures g.L.Clock.Clock.tells) c.args.self.now.tree.now c.args.links.items c.in-Ok.ends.items c.receipts_by_connection.ensures c.in-Ok.ensures.ends
+    served (linking (served_by g.N.Naming.start) g.L.Links.opens g.L.Links.stops g.L.Device.Duplex.device g.L.Device.Duplex.read_failures g.L.Device.Duplex.write_failures g.L.Clock.Clock.tells) c.args.self.now.tree.now c.args.links.items c.in-Ok.ends.items c.receipts_by_connection.ensures c.in-Ok.ensures.ends

@@ -1,0 +1,19 @@
+-- COMMIT (RFC 7530, section 16.3): its arguments say which bytes of the file are to be in stable storage; its result is
+-- a verifier of this start of the server.
+use Rattle.std.proofs.Common.{refl}
+use Rattle.nfs_operations.specs.declared.commit.Commit.{Commit}
+use Rattle.nfs_forms.specs.declared.verifier.Verifier.{Verifier}
+use Rattle.nfs_forms.specs.Answer.{PlainAnswer, plain_answer}
+use Rattle.nfs_forms.specs.Verifier.{verifier}
+use Rattle.xdr.specs.Form.{Form, ◌and◌, of, u32, u64}
+
+-- struct COMMIT4args { offset4 offset; count4 count; };
+unfoldable pub arguments : Form Commit
+arguments =
+    of (λ p. record { offset = p.0; count = p.1 }) (λ a. (a.offset, a.count))
+    (λ p. refl) (λ a. refl) (u64 and u32)
+
+-- union COMMIT4res switch (nfsstat4 status) { case NFS4_OK: COMMIT4resok resok4; default: void; };
+-- struct COMMIT4resok { verifier4 writeverf; };
+abbrev pub result : Form (PlainAnswer Verifier)
+result = plain_answer verifier

@@ -1,0 +1,46 @@
+-- READDIR (RFC 7530, section 16.24): its arguments say behind which entry of the directory the listing begins, how long
+-- the answer may be, and which attributes of each entry are asked for; its result is entries, and whether they are the
+-- last ones. No limit is given for names, and none for the entries.
+use Rattle.std.proofs.Common.{refl}
+use Rattle.nfs_operations.specs.declared.readdir.DirectoryEntry.{DirectoryEntry}
+use Rattle.nfs_operations.specs.declared.readdir.Readdir.{Readdir}
+use Rattle.nfs_operations.specs.declared.readdir.ReaddirOk.{ReaddirOk}
+use Rattle.nfs_forms.specs.Answer.{PlainAnswer, plain_answer}
+use Rattle.nfs_forms.specs.Bitmap.{bitmap}
+use Rattle.nfs_forms.specs.Fattr.{fattr}
+use Rattle.nfs_forms.specs.Verifier.{verifier}
+use Rattle.xdr.specs.Form.{Form, ◌and◌, of, bytes as opaque_bytes, chain, flag, u32, u64}
+
+-- struct READDIR4args
+--   { nfs_cookie4 cookie; verifier4 cookieverf; count4 dircount; count4 maxcount; bitmap4 attr_request; };
+unfoldable pub arguments : Form Readdir
+arguments =
+    of (λ p. record {
+      cookie = p.0;
+      verifier = p.1.0;
+      dircount = p.1.1.0;
+      maxcount = p.1.1.1.0;
+      mask = p.1.1.1.1;
+    })
+    (λ a. (a.cookie, (a.verifier, (a.dircount, (a.maxcount, a.mask))))) (λ p. refl) (λ a. refl)
+    (u64 and verifier and u32 and u32 and bitmap)
+
+-- struct entry4 { nfs_cookie4 cookie; component4 name; fattr4 attrs; entry4 *nextentry; };
+-- without the link to the next one
+unfoldable pub entry : Form DirectoryEntry
+entry =
+    of (λ p. record { cookie = p.0; name = p.1.0; attributes = p.1.1 })
+    (λ e. (e.cookie, (e.name, e.attributes))) (λ p. refl) (λ e. refl)
+    (u64 and opaque_bytes and fattr)
+
+-- struct READDIR4resok { verifier4 cookieverf; dirlist4 reply; };
+-- struct dirlist4 { entry4 *entries; bool eof; };
+unfoldable pub readdir_ok : Form ReaddirOk
+readdir_ok =
+    of (λ p. record { verifier = p.0; entries = p.1.0; eof = p.1.1 })
+    (λ a. (a.verifier, (a.entries, a.eof))) (λ p. refl) (λ a. refl)
+    (verifier and chain entry and flag)
+
+-- union READDIR4res switch (nfsstat4 status) { case NFS4_OK: READDIR4resok resok4; default: void; };
+abbrev pub result : Form (PlainAnswer ReaddirOk)
+result = plain_answer readdir_ok

@@ -1,0 +1,184 @@
+ghost use Rattle.std.specs.Prelude.{◌≡◌, []};
+ghost use Rattle.nfs_operations.specs.Setattr as forms;
+ghost use Rattle.nfs_operations.specs.Setattr.{refused};
+ghost use Rattle.nfs_forms.specs.Bitmap.{bitmap};
+
+use nfs_forms::{Bitmap, Fattr, Refusal, Stateid, Status};
+use std::alloc::{AllocError, Global};
+use std::marker::Model;
+use xdr::{Measure, NO_LIMIT, Wire, WireError, write_many, write_two};
+
+/// The attributes that a file is to have, and by which right its size (RFC 7530, section 16.32).
+pub type Arguments = Setattr;
+
+/// The arguments of SETATTR.
+#[derive(Clone, PartialEq, Drop)]
+pub struct Setattr {
+    /// An open, a lock state or a delegation, or a special stateid.
+    pub stateid: Stateid,
+    /// The attributes, and their new values.
+    pub attributes: Fattr,
+}
+
+/// A status, and with each status the attributes that were set.
+pub type Outcome = SetattrResult;
+
+/// What SETATTR answers.
+#[derive(Clone, PartialEq, Drop)]
+pub struct SetattrResult {
+    pub status: Status,
+    pub attributes: AttributesSet,
+}
+
+impl SetattrResult {
+    /// The result where nothing was set, for this reason.
+    pub fn refused(refusal: Refusal) -> SetattrResult
+        ensures { result ≡ refused refusal }
+    {
+        SetattrResult {
+            status: Status::Refused(refusal),
+            attributes: AttributesSet::none(),
+        }
+    }
+
+    pub fn status(&self) -> Status
+        ensures { result ≡ self.now.status }
+    {
+        self.status
+    }
+}
+
+/// Which attributes were set: a bitmap, for which no allocator is needed where it is empty. Contracts see the list of
+/// its words.
+#[derive(Drop)]
+pub struct AttributesSet {
+    // None for the empty bitmap.
+    bitmap: Option<Bitmap>,
+}
+
+impl Model for AttributesSet {
+    ghost use Rattle.std.specs.Prelude.{List, ℕ, [], unwrap_or};
+
+    ghost Value = { List ℕ };
+
+    ghost view = { λ a. unwrap_or a.bitmap [] };
+}
+
+impl AttributesSet {
+    /// No attribute.
+    pub fn none() -> AttributesSet
+        ensures { result ≡ [] }
+    {
+        AttributesSet { bitmap: None }
+    }
+
+    /// The attributes of this bitmap.
+    pub fn new(bitmap: Bitmap) -> AttributesSet
+        ensures { result ≡ bitmap }
+    {
+        AttributesSet {
+            bitmap: Some(bitmap),
+        }
+    }
+
+    /// The words of the bitmap.
+    pub fn as_slice(&self) -> &[u32]
+        ensures { result.now ≡ self.now }
+    {
+        match &self.bitmap {
+            None => &[],
+            Some(bitmap) => bitmap.as_slice(),
+        }
+    }
+}
+
+impl PartialEq for AttributesSet {
+    ghost use Rattle.std.specs.Str.{bytes_eq};
+    ghost use Rattle.std.specs.Cmp.Rules.{comparing};
+    ghost use Rattle.std.proofs.Common.{rules};
+
+    ghost eq = { bytes_eq };
+
+    ghost laws = { Prim.search (comparing, rules) };
+
+    fn eq(&self, other: &AttributesSet) -> bool {
+        self.as_slice() == other.as_slice()
+    }
+}
+
+impl Clone for AttributesSet {
+    ghost is_clone = { λ x y. y ≡ x };
+
+    fn clone(&self) -> Result<AttributesSet, AllocError> {
+        match &self.bitmap {
+            None => Ok(AttributesSet::none()),
+            Some(bitmap) => Ok(AttributesSet::new(bitmap.clone()?)),
+        }
+    }
+}
+
+impl Wire for Setattr {
+    ghost form = { forms.arguments };
+
+    #[tactic(auto, unfolding(crate::specs::Setattr::arguments))]
+    fn read(alloc: Global, bytes: &[u8]) -> Result<(Setattr, &[u8]), WireError> {
+        let (stateid, rest) = Stateid::read(alloc, bytes)?;
+        let (attributes, rest) = Fattr::read(alloc, rest)?;
+        let arguments = Setattr {
+            stateid,
+            attributes,
+        };
+        Ok((arguments, rest))
+    }
+
+    #[tactic(auto, unfolding(crate::specs::Setattr::arguments))]
+    fn write(&self, out: &mut Vec<u8>) -> Result<(), WireError> {
+        write_two(out, &self.stateid, &self.attributes)
+    }
+}
+
+impl Wire for AttributesSet {
+    ghost form = { bitmap };
+
+    fn read(alloc: Global, bytes: &[u8]) -> Result<(AttributesSet, &[u8]), WireError> {
+        let (bitmap, rest) = Bitmap::read(alloc, bytes)?;
+        Ok((AttributesSet::new(bitmap), rest))
+    }
+
+    fn write(&self, out: &mut Vec<u8>) -> Result<(), WireError> {
+        write_many(out, self.as_slice(), NO_LIMIT)
+    }
+}
+
+impl Wire for SetattrResult {
+    ghost form = { forms.result };
+
+    #[tactic(auto, unfolding(crate::specs::Setattr::result))]
+    fn read(alloc: Global, bytes: &[u8]) -> Result<(SetattrResult, &[u8]), WireError> {
+        let (status, rest) = Status::read(alloc, bytes)?;
+        let (attributes, rest) = AttributesSet::read(alloc, rest)?;
+        Ok((SetattrResult { status, attributes }, rest))
+    }
+
+    #[tactic(auto, unfolding(crate::specs::Setattr::result))]
+    fn write(&self, out: &mut Vec<u8>) -> Result<(), WireError> {
+        write_two(out, &self.status, &self.attributes)
+    }
+}
+
+impl Measure for AttributesSet {
+    #[tactic(auto, unfolding(xdr::specs::Writing::written_number))]
+    fn written_len(&self) -> usize {
+        match &self.bitmap {
+            None => 4,
+            Some(bitmap) => bitmap.written_len(),
+        }
+    }
+}
+
+impl Measure for SetattrResult {
+    #[tactic(auto, unfolding(crate::specs::Setattr::result, nfs_forms::specs::Status::status, xdr::specs::Writing::written_number))]
+    fn written_len(&self) -> usize {
+        4 + self.attributes.written_len()
+    }
+}

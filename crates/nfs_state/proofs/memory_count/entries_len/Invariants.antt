@@ -1,0 +1,11 @@
+use Rattle.std.proofs.Common.{◌≡◌, ◌-◌, take}
+use Rattle.std.specs.Prelude.{◌^◌, min}
+use Rattle.std.specs.List.{sum_by}
+use Rattle.nfs_state.specs.MemoryCount.{listed_len}
+use Rattle.nfs_state.proofs.memory_count.entries_len.Given as goal
+
+-- what the entries visited so far count
+abbrev pub invariant-loop-entry : goal.invariant-loop-entry
+invariant-loop-entry l = record {
+  counted : l.len ≡ min (sum_by listed_len (take l.entry-index l.entries)) (2 ^ 64 - 1);
+}

@@ -1,0 +1,40 @@
+ghost use Rattle.std.specs.Prelude.{◌≡◌};
+ghost use Rattle.nfs_tree.specs.Profiles.{has_entry, refusal};
+
+use nfs_xdr::{Class, Op, Opnum, Refusal};
+
+/// For whom the server is: which operations and attributes there are.
+#[derive(Clone, Copy, PartialEq, Eq)]
+pub enum Profile {
+    /// What a client needs to open, lock, read and write files whose names it knows.
+    Plain,
+    /// What programs and operating systems use besides: listings, more attributes, COMMIT, and SETATTR of a size.
+    Clients,
+}
+
+impl Profile {
+    /// What an operation is answered under this profile whatever its arguments are, if it is refused.
+    pub fn refusal(self, opnum: Opnum) -> Option<Refusal>
+        ensures { result ≡ refusal self opnum }
+    {
+        match (self, opnum) {
+            (Profile::Plain, Opnum::Commit | Opnum::Readdir | Opnum::Setattr) => {
+                Some(Refusal::NotSupp)
+            }
+            (Profile::Plain, Opnum::Unsupported(_)) => Some(Refusal::NotSupp),
+            (Profile::Clients, Opnum::Unsupported(op)) => match op.change() {
+                Some(_) => Some(Refusal::Rofs),
+                None => Some(Refusal::NotSupp),
+            },
+            _ => None,
+        }
+    }
+
+    /// Whether every answer of the operation except NFS4ERR_RESOURCE is an entry of the journal: it works on the state,
+    /// and isn't refused under this profile.
+    pub fn has_entry(self, op: &Op) -> bool
+        ensures { result ≡ has_entry self op.now }
+    {
+        op.opnum().class() == Class::OnState && self.refusal(op.opnum()).is_none()
+    }
+}

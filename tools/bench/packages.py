@@ -1,0 +1,8 @@
+"""Where the packages of the folder above are found by the scripts of this one."""
+import os
+import sys
+
+
+def make_known() -> None:
+    """Makes the packages known to a script of this folder."""
+    sys.path.insert(0, os.path.dirname(os.path.dirname(os.path.abspath(__file__))))

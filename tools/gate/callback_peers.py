@@ -1,0 +1,132 @@
+"""What may be where a client is called back: listeners that answer oddly, and addresses where no call comes to an end,
+or none is made."""
+import random
+import select
+import socket
+import time
+from collections import namedtuple
+from contextlib import contextmanager, nullcontext
+from functools import partial
+
+from nfs4.callback_listener import Heard, Listener, accept, keep_silent, reply_to, reset, universal_address
+from nfs4.messages import call, words
+from nfs4.wire import Callback, PROG_UNAVAIL, REPLY, Status, accepted, record
+
+# What a client gives beside the address.
+CALLBACK_PROGRAM, IDENT = 0x40000000, 7
+
+
+def callback_at(address):
+    """What a client gives to the server so that it is called at this address."""
+    return Callback(CALLBACK_PROGRAM, b"tcp", universal_address(address).encode(), IDENT)
+
+
+# Odd answers, to any call or to a recall.
+
+def refuse(heard):
+    """The program isn't there."""
+    heard.reply(accepted(heard.call.xid, PROG_UNAVAIL))
+
+
+def accept_null(heard, answer=keep_silent):
+    """Answers CB_NULL OK, and a recall in another way."""
+    (accept if heard.call.recall is None else answer)(heard)
+
+
+def deny_handle(heard):
+    """The client doesn't know the file."""
+    heard.reply(reply_to(heard.call, Status.BADHANDLE))
+
+
+def answer_in_pieces(heard):
+    """An acceptance in fragments of three bytes, of which each byte comes alone."""
+    body = reply_to(heard.call)
+    ends = range(3, len(body) + 3, 3)
+    fragments = [words((end >= len(body)) << 31 | len(body[end - 3:end])) + body[end - 3:end] for end in ends]
+    for byte in b"".join(fragments):
+        heard.send(bytes([byte]))
+        time.sleep(0.002)
+
+
+def answer_without_end(heard):
+    """A record of a gigabyte, for as long as anybody takes more of it."""
+    try:
+        heard.stream.sendall(words(1 << 31 | 1 << 30) + accepted(heard.call.xid, 0))
+        for _ in range(1 << 14):
+            heard.stream.sendall(bytes(1 << 16))
+    except OSError:
+        pass
+
+
+class Resetting(Listener):
+    """Resets each connection at once."""
+
+    def attend(self, stream, peer):
+        reset(stream)
+
+
+def garbage():
+    """Bytes that are no reply, or one to another call."""
+    return {
+        "of another protocol": b"HTTP/1.1 400 Bad Request\r\n\r\n", "at random": random.Random(1).randbytes(3000),
+        "of an empty record": record(b""), "of zeros": bytes(5000), "of a call": call(1, 0),
+        "of another xid": record(accepted(0xFFFFFFFF, 0)), "of half a reply": record(words(1, REPLY))}
+
+
+# Addresses where nobody accepts. Each gives the callback to it, for as long as it is there.
+
+@contextmanager
+def nobody():
+    """An address where nobody listens."""
+    with socket.socket() as bound:
+        bound.bind(("127.0.0.1", 0))
+        yield callback_at(bound.getsockname())
+
+
+@contextmanager
+def full_listener():
+    """One that never accepts, with as many connections waiting as there may be: the next one doesn't come through."""
+    waiting = []
+    with socket.create_server(("127.0.0.1", 0), backlog=0) as listening:
+        try:
+            while not waiting or select.select([], [waiting[-1]], [], 0.5)[1]:
+                waiting.append(socket.socket())
+                waiting[-1].setblocking(False)
+                waiting[-1].connect_ex(listening.getsockname())
+            yield callback_at(listening.getsockname())
+        finally:
+            for stream in waiting:
+                stream.close()
+
+
+class BadPeer(namedtuple("BadPeer", "name place mark takes_connection", defaults=(False, False))):
+    """A peer by what it does. It is there while its place is entered, which is made for the port of the server, and
+    gives a listener or a callback. A callback there marks the path *up* or *down*, or not at all (None); it may be one
+    of the server's own connections."""
+
+    @property
+    def is_unanswered(self):
+        return self.mark is None
+
+
+def bad_peers():
+    """Each kind of peer that a server has to stand."""
+    def answers(name, answer, mark=False, kind=Listener):
+        return BadPeer(name, lambda port: kind(answer), mark)
+
+    def is_at(name, callback):
+        return BadPeer(name, lambda port: nullcontext(callback))
+    yield answers("accepts, and never answers", keep_silent, mark=None)
+    yield BadPeer("never accepts", lambda port: full_listener(), mark=None)
+    yield answers("resets at once", keep_silent, kind=Resetting)
+    yield answers("resets behind the call", lambda heard: reset(heard.stream))
+    yield answers("closes behind the call", lambda heard: heard.stream.close())
+    yield answers("refuses the program", refuse)
+    for kind, data in garbage().items():
+        yield answers(f"answers garbage {kind}", partial(Heard.send, data=data))
+    yield answers("answers without end", answer_without_end)
+    yield answers("answers in pieces", answer_in_pieces, mark=True)
+    yield BadPeer("is the server", lambda port: nullcontext(callback_at(("127.0.0.1", port))), takes_connection=True)
+    yield is_at("has port 0", callback_at(("127.0.0.1", 0)))
+    yield is_at("has no address", Callback(CALLBACK_PROGRAM, b"", b"", IDENT))
+    yield BadPeer("doesn't listen", lambda port: nobody())

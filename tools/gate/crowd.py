@@ -1,0 +1,92 @@
+"""Peers of a server, which come one at a time or as a crowd of 64: clients, and what sends garbage, never reads, resets
+or stops within a record."""
+import random
+
+from model.server import Server
+from nfs4.client import FILES, Client, expect, Wrong
+from nfs4.messages import COMPOUND, GETATTR, NULL, PUTROOTFH, call, compound, reply, words
+from nfs4.wire import opaque, record
+
+# The connections of the crowd: clients, with their rounds, and ten of each other kind.
+MOST, GOOD, OTHERS, ROUNDS = 64, 24, 10, 12
+
+
+def garbage():
+    """Bytes that are no NFS, and what is odd in other ways."""
+    draw = random.Random(1)
+    return [
+        b"\x7f" + draw.randbytes(4095), b"GET / HTTP/1.1\r\nHost: localhost\r\n\r\n", b"\xff" * 1000,
+        b"\x16\x03\x01\x02\x00\x01\x00\x01\xfc\x03\x03" + draw.randbytes(505), words(0x80040001),
+        b"".join(record(draw.randbytes(draw.randrange(200))) for _ in range(40)), bytes(100000),
+        call(1, COMPOUND, draw.randbytes(100)), call(2, COMPOUND, words(0, 0, 64) + draw.randbytes(400)),
+        call(3, NULL) + reply(4) + record(b"") + call(5, 2) + b"\0" * 3]
+
+
+def send_garbage(peer, data):
+    """It gets the replies that the model gives, which ask for no state, and the end of its connection."""
+    with peer:
+        peer.send(data)
+        peer.finish()
+        expect(f"replies to {data[:40]}", peer.receive_all(), Server().converse(data)[0])
+
+
+def never_read(peer, over=None, seconds=0.3, full=None):
+    """Sends calls with long replies until no more is taken, says so, and waits. Each has the state as well."""
+    tag = 100000
+    arguments = opaque(bytes(tag)) + words(0, 2, PUTROOTFH, GETATTR, 0)
+    with peer:
+        peer.fill(call(1, COMPOUND, arguments, uid=MOST), seconds)
+        if full is not None:
+            full.set()
+        wait_for(over)
+
+
+def reset(peer, way):
+    """Resets at once, after a reply, within a record, or behind calls whose replies it doesn't read."""
+    if way == 1:
+        peer.send(call(1, NULL))
+        expect("a reply before a reset", peer.receive(), reply(1))
+    elif way == 2:
+        peer.send(call(1, NULL)[:20])
+    elif way == 3:
+        peer.send(compound(1, words(PUTROOTFH), words(GETATTR, 0), uid=MOST) * 100)
+    peer.reset()
+
+
+def stop_within(peer, way, over=None):
+    """After a call that is answered, sends a part of a record; then it says that nothing more comes, or closes; at
+    once, or at the end."""
+    with peer:
+        peer.send(call(1, NULL))
+        expect("a reply before half a record", peer.receive(), reply(1))
+        peer.send(call(2, NULL)[:4 + 4 * way])
+        if way % 2:
+            wait_for(over)
+        if way % 4 < 2:
+            peer.finish()
+            expect("after half a record", peer.receive_all(), b"")
+
+
+def wait_for(over):
+    if over is not None and not over.wait(60):
+        raise Wrong("the clients don't come to an end")
+
+
+def be_client(peer, uid):
+    client = Client(peer, uid, epoch=7)
+    client.introduce()
+    for turn in range(ROUNDS):
+        client.round(list(FILES)[(uid + turn) % len(FILES)])
+    return client
+
+
+def crowd(peers, over):
+    """What is done on each of the connections, in a mixed order."""
+    jobs = [lambda peer, uid=uid: be_client(peer, uid) for uid in range(GOOD)]
+    jobs += [lambda peer, data=data: send_garbage(peer, data) for data in garbage()]
+    jobs += [lambda peer: never_read(peer, over)] * OTHERS
+    jobs += [lambda peer, way=way: reset(peer, way % 4) for way in range(OTHERS)]
+    jobs += [lambda peer, way=way: stop_within(peer, way, over) for way in range(OTHERS)]
+    places = list(range(MOST))
+    random.Random(2).shuffle(places)
+    return [(lambda job=job, place=place: job(peers[place])) for job, place in zip(jobs, places)]

@@ -1,0 +1,311 @@
+"""Who stands on both sides of `tools/between` when it is tried: a client that sends a call again where its connection
+ended, and asks again where it is put off (RFC 7530, sections 3.1.1 and 9.1.7); peers and clients that each don't do so
+in one way; and a relay to a server, which keeps the calls that pass, and may change what is answered."""
+import threading
+import time
+
+from nfs4.callback_listener import Listener
+from nfs4.client import Client, VERIFIER, done, Wrong
+from nfs4.messages import (CLOSE, LOCK, NFS4_OK, PUTFH, PUTROOTFH, READ, WRITE, confirmation, handle, lookup, results,
+                           setclientid, split, words, xid)
+from nfs4.served import REPLY_PATIENCE, Peer, is_silent
+from nfs4.wire import FILE_SYNC4, OTHER_STATUSES, Status, opaque, record, split_records, u64
+
+GRACE, DELAY, RESOURCE = OTHER_STATUSES["GRACE"], int(Status.DELAY), int(Status.RESOURCE)
+PUT_OFF = GRACE, DELAY, RESOURCE
+# The seconds between two attempts, and those behind which a reply isn't there soon.
+PAUSE, SOON = 0.05, 1.5
+
+
+class GaveUp(Exception):
+    """A client goes on no further, as it is meant to."""
+
+
+def in_one_fragment(data):
+    """A record with its body in one fragment."""
+    return record(split_records(data)[0][0])
+
+
+def with_xid(data, number):
+    """A record of one fragment, by another xid."""
+    return data[:4] + words(number) + data[8:]
+
+
+# Peers: each is a client's connection to a server, also where it takes several, one after the other.
+
+class Resender:
+    """Sends a call again, by the same bytes and over a new connection, where the old one ended before its reply came.
+    `again` is how often it did."""
+
+    def __init__(self, address):
+        self.address, self.peer, self.sent, self.again = address, None, b"", 0
+
+    def __enter__(self):
+        return self
+
+    def __exit__(self, *_):
+        if self.peer is not None:
+            self.peer.socket.close()
+
+    def send(self, data):
+        self.sent = data
+        if self.peer is None:
+            self.peer = Peer(self.address)
+        self.peer.send(data)
+
+    def receive(self):
+        """The reply, in one fragment."""
+        until = time.monotonic() + REPLY_PATIENCE
+        while not split(got := self.peer.receive())[0]:
+            if time.monotonic() > until:
+                raise TimeoutError("no connection brings a reply")
+            self.peer.socket.close()
+            self.peer = None
+            self.send_again()
+        return in_one_fragment(got)
+
+    def send_again(self):
+        self.again += 1
+        time.sleep(PAUSE if self.again > 1 else 0)
+        self.send(self.sent)
+
+
+class GivingUp(Resender):
+    """Sends nothing again."""
+
+    def send_again(self):
+        raise GaveUp
+
+
+class Late(Resender):
+    """Sends a call again only when a lease of a second has passed."""
+
+    def send_again(self):
+        time.sleep(1.2)
+        super().send_again()
+
+
+class Renumbering(Resender):
+    """Sends a call again by another xid."""
+
+    def receive(self):
+        return with_xid(super().receive(), int.from_bytes(xid(self.sent), "big") & 0xFFFF)
+
+    def send_again(self):
+        self.sent = with_xid(self.sent, int.from_bytes(xid(self.sent), "big") + 0x10000)
+        super().send_again()
+
+
+class Hurrying(Resender):
+    """Sends a call again, over the same connection, where its reply isn't there soon."""
+
+    def receive(self):
+        if not is_silent(self.peer.socket, SOON):
+            return super().receive()
+        self.peer.send(self.sent)
+        got = super().receive()
+        # Both are answered.
+        self.peer.receive()
+        return got
+
+
+class Impatient(Resender):
+    """Ends a connection where a reply isn't there soon, and sends its call again over another one."""
+
+    def receive(self):
+        if is_silent(self.peer.socket, SOON):
+            self.leave()
+            self.peer = None
+            # Until the end is seen, which comes by another way than what is sent again.
+            time.sleep(0.5)
+            self.send_again()
+        return super().receive()
+
+    def leave(self):
+        self.peer.socket.close()
+
+
+class Resetting(Impatient):
+    """Ends it by a reset."""
+
+    def leave(self):
+        self.peer.reset()
+
+
+# Clients.
+
+class Patient(Client):
+    """Asks again where it is put off. In its session it opens a file, locks bytes of it, writes, reads, unlocks and
+    closes it: eleven calls, if none is put off."""
+
+    def moves_on(self, status, is_run):
+        """Whether an answer of this status moves the owner's sequence id on."""
+        return is_run and status != RESOURCE
+
+    def attempt(self, make, which=None):
+        """The words of the reply to the operations that are made by the owner's next sequence id, if it is a request
+        of one, whose last sequence id has this name; they are made anew as long as they are put off."""
+        until = time.monotonic() + REPLY_PATIENCE
+        while time.monotonic() < until:
+            number = getattr(self, which) + 1 if which else None
+            operations = make(number)
+            found = self.ask(*operations)
+            if which and self.moves_on(found[6], found[8] == len(operations)):
+                setattr(self, which, number)
+            if found[6] not in PUT_OFF:
+                return found
+            time.sleep(PAUSE)
+        raise TimeoutError("it is put off for too long")
+
+    def obtain(self, make, which=None):
+        """As `attempt`, but the last status has to be OK."""
+        found = self.attempt(make, which)
+        if found[6] != NFS4_OK:
+            raise Wrong(f"user {self.uid} gets status {found[6]} for {self.sent[-1].hex(' ', 4)}")
+        return found
+
+    def at_file(self, operation):
+        return [words(PUTFH) + handle(self.file), operation]
+
+    def write_words(self):
+        return words(WRITE) + self.open_stateid() + u64(0) + words(FILE_SYNC4) + opaque(b"HELLO")
+
+    def read_words(self):
+        return words(READ) + self.open_stateid() + u64(0) + words(5)
+
+    def introduce(self):
+        found = self.obtain(lambda _: [setclientid(VERIFIER, self.name)])
+        self.number, confirm = found[12], found[14]
+        self.obtain(lambda _: [confirmation(self.epoch, self.number, confirm)])
+
+    def open_first(self):
+        """OPEN of the file a, and OPEN_CONFIRM."""
+        self.file = 1
+        found = self.obtain(lambda last: [words(PUTROOTFH), self.open_words(last)], "last")
+        self.open_seqid, self.open = found[13], found[16]
+        self.open_seqid = self.obtain(lambda last: self.at_file(self.open_confirm_words(last)), "last")[13]
+
+    def take_first_lock(self):
+        self.lock_last = 0
+        found = self.obtain(lambda last: self.at_file(self.first_lock_words(last)), "last")
+        self.lock_seqid, self.lock, self.lock_last = found[13], found[16], 1
+
+    def take_next_lock(self):
+        self.lock_seqid = self.obtain(lambda last: self.at_file(self.next_lock_words(last)), "lock_last")[13]
+
+    def write(self):
+        self.obtain(lambda _: self.at_file(self.write_words()))
+
+    def read(self):
+        self.obtain(lambda _: self.at_file(self.read_words()))
+
+    def unlock(self):
+        self.lock_seqid = self.obtain(lambda last: self.at_file(self.locku_words(last)), "lock_last")[13]
+
+    def close(self):
+        self.obtain(lambda last: self.at_file(self.close_words(last)), "last")
+
+    def begin(self):
+        """The session up to its first lock."""
+        self.introduce()
+        self.open_first()
+        self.take_first_lock()
+
+    def session(self):
+        self.begin()
+        self.take_next_lock()
+        self.take_next_lock()
+        self.write()
+        self.read()
+        self.unlock()
+        self.close()
+
+
+class Stuck(Patient):
+    """Its sequence ids don't move on behind DELAY or GRACE. It gives up when it is put off once more."""
+    times = 0
+
+    def moves_on(self, status, is_run):
+        self.times += status in PUT_OFF
+        if self.times > 1:
+            raise GaveUp
+        return status == NFS4_OK
+
+
+class Ahead(Patient):
+    """Its sequence ids move on behind each answer, also where the request wasn't run or is answered RESOURCE."""
+
+    def moves_on(self, status, is_run):
+        return True
+
+
+class Content(Patient):
+    """Takes any answer to its CLOSE that doesn't put it off."""
+
+    def close(self):
+        self.attempt(lambda last: self.at_file(self.close_words(last)), "last")
+
+
+class Wandering(Patient):
+    """Has another request of its owner in the place of a CLOSE whose reply it doesn't get."""
+
+    def close(self):
+        try:
+            super().close()
+        except GaveUp:
+            self.ask(*self.at_file(self.downgrade_words(self.last + 2)))
+
+
+class Respelling(Patient):
+    """Has the same CLOSE again in another COMPOUND, where it doesn't get its reply."""
+
+    def close(self):
+        try:
+            super().close()
+        except GaveUp:
+            found = self.ask(words(PUTROOTFH), lookup(b"a"), self.close_words(self.last + 1))
+            if found[6] != NFS4_OK:
+                raise Wrong(f"CLOSE again has status {found[6]}")
+
+
+# Servers.
+
+class Relay(Listener):
+    """Takes connections, each of which has one of its own to the server. What is answered to a record that has come
+    before may be changed, by the record and its reply. `heard` has all records, and replies take so many `seconds`."""
+
+    def __init__(self, server, change=None):
+        self.server, self.change, self.far, self.turn, self.seconds = server, change, {}, threading.Lock(), 0
+        super().__init__(self.relay)
+
+    def relay(self, heard):
+        far = self.far.setdefault(heard.stream, None) or Peer(self.server)
+        self.far[heard.stream] = far
+        far.send(heard.data)
+        reply = far.receive()
+        time.sleep(self.seconds)
+        with self.turn:
+            is_again = sum(other.data == heard.data for other in self.heard) > 1
+        heard.send(self.change(heard.data, reply) if self.change and is_again else reply)
+
+    def attend(self, stream, peer):
+        super().attend(stream, peer)
+        if far := self.far.pop(stream, None):
+            far.socket.close()
+
+    def count(self, operation):
+        """How many records with these words came."""
+        return sum(operation in heard.data for heard in self.heard)
+
+
+def forgets_a_close(data, reply):
+    """Of a server that keeps no reply: a CLOSE again is BAD_STATEID."""
+    if data[-24:-20] != words(CLOSE):
+        return reply
+    status = Status.BAD_STATEID
+    return results(int.from_bytes(xid(data), "big"), status, done(PUTFH), done(CLOSE, status=status))
+
+
+def gives_another_stateid(data, reply):
+    """Of a server that answers a LOCK again by a stateid that it has just made."""
+    return reply[:-1] + bytes([reply[-1] ^ 1]) if words(LOCK, 2, 0) in data else reply
