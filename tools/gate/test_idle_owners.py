@@ -1,46 +1,47 @@
-#!/usr/bin/env python3
-"""try_idle_owners [--many] [--model | PROGRAM]: runs `nfs4state serve`, or with --model the independent model in its
-place, and lets owners be idle over TCP.
+"""Owners that are idle, over TCP, with `nfs4state serve` and with the independent model in its place.
 
 An owner that has closed its open gets the kept answer when its CLOSE comes again and again, until more than a lease has
 passed since it came first; and soon after that it is BAD_STATEID, though the client's lease was renewed by each of
 them. An OPEN with any id begins the owner. The journal has that it was forgotten, and its words and reasons say so.
 Under a policy by which a CLOSE is refused beside locks it is LOCKS_HELD, over TCP, too, with its reason in words.
 
-With --many, which is run by hand: 100,000 owners of one client come, open, confirm and close a file, 4,000 a second,
-with a lease of one second. Each has its answers, and the program needs hardly more memory than where one owner sends as
-many requests."""
+By hand: 100,000 owners of one client come, open, confirm and close a file, 4,000 a second, with a lease of one second.
+Each has its answers, and the program needs hardly more memory than where one owner sends as many requests."""
 import os
 import subprocess
 import sys
 import threading
 import time
 
-sys.dont_write_bytecode = True
+import pytest
+
 from gate.told import Judge
-from gate.trial import TOP, expect_in_journal, lawful_journal, path_of, peer_of, read_options, run_parts
+from gate.trial import expect_in_journal, lawful_journal, peer_of
 from model.entries import Forget
 from model.tree import DEFAULT
 from nfs4.client import Client, done, expect, under, way_to, Wrong
 from nfs4.messages import CLOSE, LOCK, LOCKU, NFS4_OK, OPEN, OPEN_CONFIRM, compound, results, words
-from nfs4.served import NO_CALLBACKS, Served
+from nfs4.served import NO_CALLBACKS, PROGRAM, Served, TOP
 from nfs4.wire import OpenOwner, Status, opaque
 
-OPTIONS = read_options(__doc__, "--model", "--many")
-PROGRAM = OPTIONS.program
-AUDITOR = None if OPTIONS.model else PROGRAM
-SERVE = [sys.executable, os.path.join(TOP, "tools/model/serve.py")] if OPTIONS.model else [PROGRAM, "serve"]
+# The commands of the two servers.
+PROGRAM_SERVES, MODEL_SERVES = [PROGRAM, "serve"], [sys.executable, os.path.join(TOP, "tools/model/serve.py")]
 # The lease, and how long after it an owner may still be known, on however busy a machine.
 LEASE, SOON = 2, 20
 # How many owners come, and how many in a second, and in a step of these.
 MANY, RATE, STEP = 100_000, 4_000, 100
 # The kilobytes that the owners which are known at once may take beside the journal.
 SPARE = 32 << 10
-told = []
 
 
-def serve(*options, tree=NO_CALLBACKS):
-    return Served([*SERVE, "--listen", "127.0.0.1:0", "--connections", "1", "--tree", tree, *options])
+@pytest.fixture(params=[PROGRAM_SERVES, MODEL_SERVES], ids=["program", "model"])
+def command(request):
+    """How a server is started: the program, then the model."""
+    return request.param
+
+
+def serve(command, *options, tree=NO_CALLBACKS):
+    return Served([*command, "--listen", "127.0.0.1:0", "--connections", "1", "--tree", tree, *options])
 
 
 def tool(name, *words):
@@ -56,7 +57,7 @@ def expect_end(served):
 
 def judged(path, *clients):
     """The journal of the run, by which these clients got their replies."""
-    judge = Judge(lawful_journal(AUDITOR, path))
+    judge = Judge(lawful_journal(PROGRAM, path))
     for client in clients:
         expect_in_journal(judge, client)
     judge.expect_ends()
@@ -78,9 +79,9 @@ def close_again(client, operation):
         time.sleep(0.1)
 
 
-def try_forgotten():
+def test_forgotten(command, path_of, tell):
     path = path_of("idle.journal")
-    with serve("--lease", str(LEASE), "--journal", path) as served:
+    with serve(command, "--lease", str(LEASE), "--journal", path) as served:
         client = Client(peer_of(served), 1)
         client.introduce()
         client.open_file(1)
@@ -107,14 +108,14 @@ def try_forgotten():
     reason = (f'    state 1, an open of file "/a" by open owner "{name}" of client 1, was ended by entry 4 (CLOSE), '
               f"and its owner was forgotten by entry {number} (RULES: Idle owners)")
     expect("the reasons", tool("explain", path)[1::2], [reason] * 2)
-    told.append(f"an owner was forgotten {seconds:.1f} seconds after its CLOSE, with a lease of {LEASE}")
+    tell(f"an owner was forgotten {seconds:.1f} seconds after its CLOSE, with a lease of {LEASE}")
 
 
-def try_locks_held():
+def test_locks_held(command, path_of):
     path, tree = path_of("held.journal"), path_of("refuse.toml")
     with open(tree, "w", encoding="utf-8") as file:
         file.write('policy = { delegations = "none", close_locks = "refuse" }\n' + DEFAULT)
-    with serve("--journal", path, tree=tree) as served:
+    with serve(command, "--journal", path, tree=tree) as served:
         client = Client(peer_of(served), 1)
         client.introduce()
         client.open_file(1)
@@ -136,7 +137,6 @@ def try_locks_held():
     expect("the reason", lines[0], f"    {held} (RULES: CLOSE)")
     is_again = lines[1].endswith(f"{held} (RULES: Owners and sequenced operations)")
     expect("the reason when it comes again", is_again, True)
-    told.append("a CLOSE beside locks is refused, and kept")
 
 
 # Many owners.
@@ -167,9 +167,9 @@ def lives(client, is_one):
             yield life(client, number, owner, 1, 6)
 
 
-def run_many(is_one):
+def run_many(command, is_one):
     """The most kilobytes that the program has in use, and the seconds that the owners take."""
-    with serve("--lease", "1") as served:
+    with serve(command, "--lease", "1") as served:
         client = Client(peer_of(served), 1)
         # Before the lease begins: it is the server's first client.
         client.number = 1
@@ -197,19 +197,13 @@ def send_paced(peer, calls, begun):
         peer.send(b"".join(calls[at:at + STEP]))
 
 
-def try_many():
-    most, seconds = run_many(is_one=False)
-    one, _ = run_many(is_one=True)
-    told.append(f"{MANY} owners came within {seconds:.0f} seconds, and the program had at most {most >> 10} MiB in use;"
-                f" where one sent as many OPENs, {one >> 10} MiB")
-    # The journal of the others has twice as many entries: for each owner two more.
-    if not OPTIONS.model and most > 2 * one + SPARE:
-        raise Wrong(told[-1])
-
-
-def main():
-    run_parts((try_many,) if OPTIONS.many else (try_forgotten, try_locks_held))
-    print("try_idle_owners: " + "; ".join(told))
-
-
-main()
+@pytest.mark.by_hand
+@pytest.mark.alone
+def test_many(command, tell):
+    most, seconds = run_many(command, is_one=False)
+    one, _ = run_many(command, is_one=True)
+    tell(f"{MANY} owners came within {seconds:.0f} seconds, and the program had at most {most >> 10} MiB in use; "
+         f"where one sent as many OPENs, {one >> 10} MiB")
+    # The journal of the others has twice as many entries: for each owner two more. The model's memory isn't judged.
+    if command is PROGRAM_SERVES:
+        assert most <= 2 * one + SPARE

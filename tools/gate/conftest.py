@@ -1,0 +1,51 @@
+"""What the gate's tests have in common. `pytest tools/gate -n 4` runs them side by side; those that are marked `alone`
+are judged by a clock, by memory or by processor time, and run beside nothing else: `.ci/run` has both commands."""
+import os
+import signal
+import sys
+from collections.abc import Callable, Iterator
+from functools import partial
+from tempfile import TemporaryDirectory
+
+import pytest
+
+sys.dont_write_bytecode = True
+
+
+def pytest_addoption(parser: pytest.Parser) -> None:
+    parser.addoption("--by-hand", action="store_true", help="also the tests that are too long for the gate")
+
+
+def pytest_configure(config: pytest.Config) -> None:
+    config.addinivalue_line("markers", "alone: judged by a clock, by memory or by processor time")
+    config.addinivalue_line("markers", "by_hand: too long for the gate, and run with --by-hand alone")
+    # Where the tests are ended, so are the servers.
+    signal.signal(signal.SIGTERM, lambda *_: sys.exit(1))
+
+
+def pytest_collection_modifyitems(config: pytest.Config, items: list[pytest.Item]) -> None:
+    if not config.getoption("--by-hand"):
+        left_out = [item for item in items if item.get_closest_marker("by_hand")]
+        config.hook.pytest_deselected(items=left_out)
+        items[:] = [item for item in items if item not in left_out]
+
+
+def pytest_terminal_summary(terminalreporter: pytest.TerminalReporter) -> None:
+    """Behind the results, what the tests tell of themselves: a line each, under the test's name."""
+    for report in terminalreporter.getreports("passed"):
+        for name, line in report.user_properties:
+            if name == "told":
+                terminalreporter.write_line(f"{report.nodeid.rpartition('/')[2]}: {line}")
+
+
+@pytest.fixture
+def tell(record_property: Callable[[str, object], None]) -> Callable[[str], None]:
+    """Takes a line that the end of the run shows: a figure, or how many checks there were."""
+    return partial(record_property, "told")
+
+
+@pytest.fixture
+def path_of() -> Iterator[Callable[[str], str]]:
+    """The path of a file of this name in a folder that the test has for itself, and that is gone behind it."""
+    with TemporaryDirectory() as room:
+        yield partial(os.path.join, room)
