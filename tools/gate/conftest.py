@@ -6,6 +6,7 @@ import sys
 from collections.abc import Callable, Iterator
 from functools import partial
 from tempfile import TemporaryDirectory
+from typing import Any
 
 import pytest
 
@@ -30,12 +31,12 @@ def pytest_collection_modifyitems(config: pytest.Config, items: list[pytest.Item
         items[:] = [item for item in items if item not in left_out]
 
 
-def pytest_terminal_summary(terminalreporter: pytest.TerminalReporter) -> None:
+def pytest_terminal_summary(terminalreporter: Any) -> None:
     """Behind the results, what the tests tell of themselves: a line each, under the test's name."""
-    for report in terminalreporter.getreports("passed"):
-        for name, line in report.user_properties:
-            if name == "told":
-                terminalreporter.write_line(f"{report.nodeid.rpartition('/')[2]}: {line}")
+    told = [(report.nodeid, line) for report in terminalreporter.getreports("passed") if report.when == "call"
+            for name, line in report.user_properties if name == "told"]
+    for test, line in sorted(told):
+        terminalreporter.write_line(f"{test.rpartition('/')[2]}: {line}")
 
 
 @pytest.fixture
