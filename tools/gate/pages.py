@@ -154,7 +154,9 @@ class Sources:
         if command.startswith(PROGRAM):
             return set(OPTION.findall(read(f"tools/help{command.removeprefix(PROGRAM).replace(' ', '_')}.txt")))
         if not is_python(command):
-            return set(OPTION.findall(read(command)))
+            # A program in Rust has files beside it.
+            texts = [path for path in self.files if path.startswith(os.path.dirname(command))]
+            return set(OPTION.findall("\n".join(map(read, texts if command.endswith(".rs") else [command]))))
         listed = [it for node in nodes_of(command) if isinstance(node, ast.List) for it in node.elts]
         own = [node for node in nodes_of(command) if isinstance(node, ast.Constant) and node not in listed]
         return {"--help"}.union(options_in(own), *map(options_added, with_imported(command)))
