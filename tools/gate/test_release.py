@@ -1,0 +1,82 @@
+"""A release that is unpacked elsewhere: the first screen of its README, and the first example of its CLIENTS, in an
+environment that has PATH alone, by the program and by the model."""
+import os
+import re
+import shutil
+import subprocess
+import tarfile
+from importlib.machinery import SourceFileLoader
+from importlib.util import module_from_spec, spec_from_loader
+
+import pytest
+
+from gate.release import BUILT, kit, make
+from nfs4.served import PATIENCE, Served, TOP
+def clients():
+    """The script that runs the commands of pages, as a module."""
+    loader = SourceFileLoader("try_clients", os.path.join(TOP, "tools/try_clients"))
+    module = module_from_spec(spec_from_loader("try_clients", loader))
+    loader.exec_module(module)
+    return module
+
+
+@pytest.fixture(scope="module")
+def unpacked(tmp_path_factory):
+    """The folder of a release, which isn't where it was made."""
+    made = tmp_path_factory.mktemp("made") / "nfs4state"
+    make(str(made))
+    shutil.rmtree(made)
+    elsewhere = tmp_path_factory.mktemp("elsewhere")
+    with tarfile.open(f"{made}.tar.gz") as archive:
+        archive.extractall(elsewhere)
+    return elsewhere / "nfs4state"
+
+
+@pytest.fixture(autouse=True)
+def is_there(unpacked, monkeypatch):
+    """All that runs is run in that folder."""
+    monkeypatch.chdir(unpacked)
+    for name in os.environ.keys() - {"PATH"}:
+        monkeypatch.delenv(name)
+
+
+def test_release(unpacked):
+    said = (unpacked / "RELEASE").read_text()
+    assert kit() in said and len(re.findall(r"\b[0-9a-f]{64}\b", said)) == 2
+    assert all(os.access(unpacked / path, os.X_OK) for path in BUILT)
+    assert not (unpacked / "tools/gate").exists()
+
+
+@pytest.mark.parametrize("model", [False, True], ids=["program", "model"])
+def test_examples(model, path_of):
+    """The commands with a `$` of README, and those of the first example of CLIENTS, and what they print."""
+    pages = clients()
+    session = pages.Session(os.path.dirname(path_of("x")), pages.MODEL if model else {})
+    (_, of_readme), (_, of_clients) = pages.sections()[:2]
+    assert pages.SERVER.match(of_clients[0][0])
+    try:
+        for command, shown in of_readme + of_clients:
+            session.run(command, shown)
+        session.end_server()
+    finally:
+        session.end()
+
+
+@pytest.mark.parametrize("server", ["tools/model/serve.py", "crates/nfs4state/out/nfs4state"], ids=["model", "program"])
+def test_first_screen(server, path_of, unpacked):
+    """The other commands of README: a server that goes on until its input ends, a row, and what judges the journal."""
+    room = os.path.dirname(path_of("x"))
+    lines = [line[4:].replace("/tmp/", f"{room}/") for line in (unpacked / "README.md").read_text().split("\n")
+             if re.match(r"    (?:tools|crates)/", line)]
+    serves, sends, *judges = [line for line in lines if line.startswith(server) or "--until-input-ends" not in line]
+    with Served(["bash", "-c", serves.replace(":20490", ":0")], stdin=subprocess.PIPE) as served:
+        assert printed(sends.replace("20490", str(served.port))) == "1 rows: 0 failed\n"
+        served.end_input()
+        assert served.end() == (0, b"", b"")
+    told = [printed(line) for line in judges]
+    assert told[:2] == ["lawful: 5 entries\n"] * 2
+    assert told[2].count("\n") == 5
+
+
+def printed(line):
+    return subprocess.run(["bash", "-c", line], stdout=subprocess.PIPE, check=True, text=True, timeout=PATIENCE).stdout
