@@ -1,10 +1,9 @@
 """What grows by a little at a time: `tools/floors` tells what is counted."""
 import re
 from collections import Counter
-from collections.abc import Callable, Iterable
 from typing import NamedTuple
 
-from sources import TOP, Function, code_of, crates, files_of, functions_of, text_of
+from clause_index import TOP, Function, Source, crates, functions_of, sources_of
 
 FLOORS = "nfs_core", "nfs_leases", "nfs_shared", "nfs_server", "nfs_threads"
 VERB = re.compile(r"(?:^|_)(?:call|renew|sweep|expire|expiry|revoke|revocation|mark|probe|callback|has_delegation|take)"
@@ -26,6 +25,8 @@ MEMBER = r"\b(?:Op|OpResult|Opnum|Transfer|ops?|opnums|results|of|transfers|oper
 MODULE = r"\b(?:mod (?:{big}|{small})\b|{small}(?:::|\.rule\b)|(?:of|operations)::{small}\b)"
 FORM = r"\b(?:Same|Bounded) for {big}\b"
 LISTED = r"^\s+{big}(?:,|\(| = )"
+# The files of one operation.
+OF_ONE = re.compile(r"/operations/|^nfs_operations/(?!(?:src/lib\.rt|specs/Lib\.antt)$)")
 LISTS = "nfs_xdr/src/op.rt", "nfs_xdr/src/op_result.rt", "nfs_xdr/src/opnum.rt"
 
 
@@ -38,14 +39,6 @@ class Count(NamedTuple):
     wrong: list[str]
 
 
-def counted_crates() -> list[str]:
-    return [name for name in crates() if name != "rows" and not name.endswith("_tests")]
-
-
-def named(function: Function) -> str:
-    return f"{function.owner}::{function.name}" if function.owner else function.name
-
-
 def length(function: Function) -> int:
     return function.last - function.first + 1
 
@@ -53,14 +46,14 @@ def length(function: Function) -> int:
 def count_functions(functions: list[Function]) -> Count:
     found = [it for it in functions if it.path.split("/")[0] in FLOORS and VERB.search(it.name)]
     lines, clauses = sum(map(length, found)), sum(it.clauses for it in found)
-    listed = [f"{it.path}:{it.first}  {named(it)}  lines {length(it)}, clauses {it.clauses}" for it in found]
+    listed = [f"{it.path}:{it.first}  {it}  lines {length(it)}, clauses {it.clauses}" for it in found]
     told = f"functions of the floors over the core: {len(found)}, of {lines} lines and {clauses} clauses"
     return Count("functions", len(found), told, listed, [])
 
 
 def read_chain(functions: list[Function]) -> tuple[list[Function], list[str]]:
     """The functions of the chain, and what isn't there."""
-    places = {(it.path, named(it)): it for it in functions if it.body}
+    places = {(it.path, str(it)): it for it in functions if it.body}
     with open(CHAIN, encoding="utf-8") as file:
         words = [line.split() for line in file if line.strip() and not line.startswith("#")]
     steps = [(place, name) for place, name in words]
@@ -88,61 +81,54 @@ def count_calls(functions: list[Function]) -> Count:
     times = Counter(it.name for it in functions)
     for place, caller in enumerate(chain[:-1]):
         if not calls(caller, chain[place + 1]):
-            wrong.append(f"{named(caller)} doesn't call {named(chain[place + 1])}")
-        wrong += [f"{named(caller)} calls {named(later)} itself, so that what is between them is no part of the way"
+            wrong.append(f"{caller} doesn't call {chain[place + 1]}")
+        wrong += [f"{caller} calls {later} itself, so that what is between them is no part of the way"
                   for later in chain[place + 2:] if times[later.name] == 1 and calls(caller, later)]
-    listed = [f"{place}  {it.path}  {named(it)}" for place, it in enumerate(chain, 1)]
+    listed = [f"{place}  {it.path}  {it}" for place, it in enumerate(chain, 1)]
     return Count("calls", len(chain), f"calls from `serve_on` to GETATTR's rule: {len(chain)}", listed, wrong)
 
 
-def counted_files() -> list[str]:
-    """The files of src and specs, without tests."""
-    return [path for crate in counted_crates() for part, ending in (("src", ".rt"), ("specs", ".antt"))
-            for path in files_of(crate, part, ending)]
+# The lines of a file in which a word is found outside of comments: the path, the number, and the line.
+Lines = list[tuple[str, int, str]]
 
 
-def lines_of(path: str, is_one: Callable[[str], object]) -> Iterable[tuple[str, int, str]]:
-    """The lines of a file that are one without their comments: the path, the number, and the line."""
-    rows = text_of(path).split("\n")
-    return [(path, at, rows[at - 1].strip()) for at, code in enumerate(code_of(path).split("\n"), 1) if is_one(code)]
+def lines_with(word: re.Pattern[str], source: Source) -> Lines:
+    rows = source.text.split("\n")
+    return [(source.path, at, rows[at].strip()) for at, code in enumerate(source.code.split("\n")) if word.search(code)]
 
 
-def shared(what: str, found: list[tuple[str, int, str]]) -> tuple[int, str, list[str]]:
-    told = f"shared lines of {what}: {len(found)} in {len({path for path, *_ in found})} files"
-    return len(found), told, [f"{path}:{at}  {row}" for path, at, row in found]
+def shared(name: str, what: str, found: Lines, more: str = "") -> Count:
+    told = f"shared lines of {what}: {len(found)} in {len({path for path, *_ in found})} files{more}"
+    return Count(name, len(found), told, [f"{path}:{at + 1}  {row}" for path, at, row in found], [])
 
 
-def count_lines(functions: list[Function]) -> Count:
-    paths = counted_files()
-    found = [line for path in paths if path not in OWN + OTHER for line in lines_of(path, WORD.search)]
-    whole = {(it.path, at) for it in functions if WORD.fullmatch(it.name) and it.path not in OWN + OTHER
-             for at in range(it.first, it.last + 1)}
+def count_kind(sources: list[Source], functions: list[Function]) -> Count:
+    without = OWN + OTHER
+    found = [line for it in sources if it.path not in without for line in lines_with(WORD, it)]
+    whole = {(it.path, at) for it in functions if WORD.fullmatch(it.name) and it.path not in without
+             for at in range(it.first - 1, it.last)}.union((path, at) for path, at, _ in found)
     above = {name for name, below in crates().items() if "nfs_core" in below}
     low = sum(path.split("/")[0] not in above for path, *_ in found)
-    number, told, listed = shared("the kind `Path`", found)
-    told += (f"; {low} without the crates above the core; "
-             f"{len(whole.union((path, at) for path, at, _ in found))} with its functions whole")
-    wrong = [f"no file {path}, which `OWN` or `OTHER` names" for path in OWN + OTHER if path not in paths]
-    return Count("lines", number, told, listed, wrong)
+    more = f"; {low} without the crates above the core; {len(whole)} with its functions whole"
+    lacking = set(without) - {it.path for it in sources}
+    wrong = [f"no file {path}, which `OWN` or `OTHER` names" for path in sorted(lacking)]
+    return shared("lines", "the kind `Path`", found, more)._replace(wrong=wrong)
 
 
-def is_own(path: str) -> bool:
-    """Whether the file is that of one operation."""
-    return "/operations/" in path or bool(re.match(r"nfs_operations/(?!(?:src/lib.rt|specs/Lib.antt)$)", path))
-
-
-def count_operation(name: str) -> Count:
+def count_operation(sources: list[Source], name: str) -> Count:
     big, small = name.capitalize(), name.lower()
-    form = f"nfs_operations/src/{small}.rt"
-    types = set(re.findall(r"\bpub (?:struct|enum) (\w+)", code_of(form))) - {big}
+    form = next(it for it in sources if it.path == f"nfs_operations/src/{small}.rt")
+    types = set(re.findall(r"\bpub (?:struct|enum) (\w+)", form.code)) - {big}
     words = "|".join([MEMBER, MODULE, FORM, *(rf"\b{it}\b" for it in types)])
     plain, listing = (re.compile(it.replace("{big}", big).replace("{small}", small)) for it in (words, f"{words}|{LISTED}"))
-    found = [line for path in counted_files() if not is_own(path)
-             for line in lines_of(path, (listing if path in LISTS else plain).search)]
-    return Count(name, *shared(name, found), [])
+    found = [line for it in sources if not OF_ONE.search(it.path)
+             for line in lines_with(listing if it.path in LISTS else plain, it)]
+    return shared(name, name, found)
 
 
 def counts() -> list[Count]:
-    functions = [it for path in counted_files() if path.endswith(".rt") for it in functions_of(path)]
-    return [count_functions(functions), count_calls(functions), count_lines(functions), count_operation("GETATTR"),
-            count_operation("READ")]
+    sources = [it for name in crates() if name != "rows" and not name.endswith("_tests")
+               for pattern in ("src/**/*.rt", "specs/**/*.antt") for it in sources_of(name, pattern)]
+    functions = [it for source in sources if source.file.suffix == ".rt" for it in functions_of(source)]
+    return [count_functions(functions), count_calls(functions), count_kind(sources, functions),
+            count_operation(sources, "GETATTR"), count_operation(sources, "READ")]

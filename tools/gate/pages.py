@@ -29,9 +29,9 @@ from collections import Counter
 from collections.abc import Iterable, Iterator
 from functools import cache
 
+from clause_index import crates, functions_of, items_in, sources_of
 from gate.imports import is_python, nodes_of, with_imported
 from nfs4.served import TOP
-from sources import behind, code_of, crates, files_of, functions_of
 
 BUDGETS = {
     "README.md": 800, "docs/CLAIMS.md": 4500, "docs/CLIENTS.md": 3500, "docs/CONTRACTS.md": 1500,
@@ -122,13 +122,16 @@ class Sources:
         self.paths = [*self.files, *folders]
         self.ends = {path[at:] for path in self.paths for at in (0, *(it.end() for it in re.finditer("/", path)))}
         self.parts = PARTS | {path.split("/")[1] for path in folders if re.match(r"(?:crates|tools)/", path)}
-        self.names, self.pairs = self.parts | KEYWORDS, set[tuple[str | None, str]]()
+        self.names, self.pairs = self.parts | KEYWORDS, set[tuple[str, str]]()
         self.tools: dict[str, str] = {}
         for path in self.files:
             self.take(path)
-        for crate in crates():
-            for path in files_of(crate, "src", ".rt"):
-                self.take_pairs(path)
+        for source in (source for crate in crates() for source in sources_of(crate)):
+            for function in functions_of(source):
+                self.pairs |= {(function.owner, function.name), (source.file.stem, function.name)}
+            for item in items_in(source.code, 0, len(source.code)):
+                variants = re.findall(r"^ {4}(\w+)", source.code[item.block:item.end], re.M)
+                self.pairs |= {(item.name, variant) for variant in variants if item.kind == "enum"}
 
     def take(self, path: str) -> None:
         """The names that the file defines or imports, and the commands that it is."""
@@ -140,14 +143,6 @@ class Sources:
             self.names.update(name for used in USED.findall(text) for name in re.findall(r"\w+", used))
         if path.startswith("tools/") and (path.endswith(".rs") or os.access(os.path.join(TOP, path), os.X_OK)):
             self.tools[path] = self.tools[os.path.basename(path)] = path
-
-    def take_pairs(self, path: str) -> None:
-        code = code_of(path)
-        for function in functions_of(path):
-            self.pairs |= {(function.owner, function.name), (os.path.basename(path)[:-3], function.name)}
-        for found in re.finditer(r"\benum (\w+)[^{;]*\{", code):
-            body = code[found.end():behind(code, found.end() - 1)]
-            self.pairs.update((found[1], variant) for variant in re.findall(r"^ {4}(\w+)", body, re.M))
 
     @cache
     def options_of(self, command: str) -> set[str]:
