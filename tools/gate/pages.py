@@ -1,36 +1,31 @@
 """What the pages say that can be looked up: README.md, docs/*.md, and the README.md of each folder in crates and tools.
 
-Words. A page has at most as many as its budget, and so have those of the crates but `rows` together, and all but those
-of tools.
+Links lead to what is there, and their anchors to headings. Those to other machines aren't tried.
 
-Links. What a link leads to is there, and its anchor is a heading of that page. Those to other machines aren't tried.
+Paths, in backticks or in a block of code, are words with a `/` that begin with a folder of the top, a crate, a folder
+of tools, or src, specs, proofs or wrong; and those that end with .rt, .antt, .py or .edit. Each is the path of a file
+or folder, or the end of one. NAME, FILE, CRATE and `*` stand for any name. What is in a folder `out` isn't looked for.
 
-Paths, in backticks or in a block of code. A word is one where it has a `/` and begins with a folder of the top, a
-crate, a folder of tools, or src, specs, proofs or wrong; or where it ends with .rt, .antt, .py or .edit. It is a path
-of a file or folder, or the end of one. NAME, FILE, CRATE and `*` stand for any name. What lies in a folder `out` is
-built, and isn't looked for.
+Names stand in backticks, with nothing beside. Of `Core::apply` the last two are a type or trait with its function, a
+file with its, or an enumeration with its variant. A name with a capital and a small letter is defined in the sources,
+or imported there from elsewhere. So is one with an underscore, but on the pages for whoever writes a client, which name
+functions of other programs; and a word of small letters on those that say where something is to be changed. Elsewhere
+that may be a word of anything, and words of capitals are the protocol's.
 
-Names, in backticks with nothing beside. Of `Core::apply` the last two are a type or trait with a function of it, or an
-enumeration with a variant. A name with a capital and a small letter is defined somewhere in the sources, or imported
-there from what isn't in this repository. So is one with an underscore, but on the pages for whoever writes a client,
-which name functions of other programs; and a word of small letters alone on those pages that say where something is to
-be changed. Elsewhere that may be a word of anything, as words of capitals alone are the protocol's.
-
-Options. Behind commands of this repository, up to the end of the line or what parts commands, stand only options that
-one of them takes: by tools/help*.txt for `nfs4state`; where it is Python, by the texts in its file that are an option
-and stand in no list, as those for another program do, and by the calls of `add_argument` in what it imports; by any
-place in its text where it isn't. An option by itself in backticks is one of `nfs4state` or of a command that the page
-names, or stands on the page behind a command of others, such as `rt`."""
+Options stand in a line behind commands of this repository, of which one takes them: by tools/help*.txt for `nfs4state`;
+where it is Python, by the texts in its file that are an option and in no list, where those for other programs are, and
+by the calls of `add_argument` in what it imports; by any place in its text where it isn't. An option by itself in
+backticks is one of `nfs4state` or of a command that the page names, or stands there behind a command of others."""
 import ast
 import os
 import re
 import subprocess
 from collections import Counter
-from collections.abc import Iterable, Iterator
+from collections.abc import Iterator
 from functools import cache
+from modulefinder import ModuleFinder
 
 from clause_index import crates, functions_of, items_in, sources_of
-from gate.imports import is_python, nodes_of, with_imported
 from nfs4.served import TOP
 
 BUDGETS = {
@@ -38,7 +33,7 @@ BUDGETS = {
     "docs/CONTRIBUTING.md": 1800, "docs/DECISIONS.md": 4000, "docs/JOURNAL.md": 1300, "docs/MAP.md": 2500,
     "docs/MEASURED.md": 1200, "docs/PROGRAM.md": 1900, "docs/RULES.md": 7000, "crates/rows/README.md": 2200,
     "tools/model/README.md": 900, "tools/bench/README.md": 600}
-# Of each other page of a crate, of all of these together, and of all pages but those of tools.
+# Of each other page of a crate, of these together, and of all pages but those of tools.
 CRATE, ALL_CRATES, ALL = 180, 3900, 36_000
 
 PAGE = re.compile(r"README\.md|docs/\w+\.md|(?:crates|tools)/\w+/README\.md")
@@ -70,22 +65,22 @@ DEFINED = {
 USED = re.compile(r"\buse\s+([^;\n]*)")
 
 
+@cache
 def read(path: str) -> str:
-    with open(os.path.join(TOP, path), encoding="utf-8") as file:
+    with open(os.path.join(TOP, path), encoding="utf-8", errors="replace") as file:
         return file.read()
 
 
-def options_in(nodes: Iterable[ast.AST]) -> set[str]:
-    """The texts among them that are an option."""
-    words = (node.value for node in nodes if isinstance(node, ast.Constant))
-    return {word for word in words if isinstance(word, str) and OPTION.fullmatch(word)}
+def is_python(path: str) -> bool:
+    return path.endswith(".py") or read(path).startswith("#!/usr/bin/env python3\n")
 
 
-@cache
-def options_added(path: str) -> set[str]:
-    """The options that a module has calls of `add_argument` for."""
-    calls = [node for node in nodes_of(path) if isinstance(node, ast.Call)]
-    return options_in(it for call in calls if getattr(call.func, "attr", "") == "add_argument" for it in call.args)
+def with_imported(path: str) -> set[str]:
+    """A file of Python, and those of this repository that it imports, directly or not."""
+    finder = ModuleFinder([os.path.join(TOP, os.path.dirname(path)), os.path.join(TOP, "tools")])
+    finder.run_script(os.path.join(TOP, path))
+    files = [getattr(module, "__file__", None) for module in finder.modules.values()]
+    return {os.path.relpath(file, TOP) for file in files if file}
 
 
 class Page:
@@ -152,9 +147,11 @@ class Sources:
             # A program in Rust has files beside it.
             texts = [path for path in self.files if path.startswith(os.path.dirname(command))]
             return set(OPTION.findall("\n".join(map(read, texts if command.endswith(".rs") else [command]))))
-        listed = [it for node in nodes_of(command) if isinstance(node, ast.List) for it in node.elts]
-        own = [node for node in nodes_of(command) if isinstance(node, ast.Constant) and node not in listed]
-        return {"--help"}.union(options_in(own), *map(options_added, with_imported(command)))
+        nodes = list(ast.walk(ast.parse(read(command))))
+        listed = {it for node in nodes if isinstance(node, ast.List) for it in node.elts}
+        own = [node.value for node in nodes if isinstance(node, ast.Constant) and node not in listed]
+        added = re.findall(r'add_argument\(\s*"(--[a-z-]+)"', "\n".join(map(read, with_imported(command))))
+        return {"--help", *added, *(it for it in own if isinstance(it, str) and OPTION.fullmatch(it))}
 
     def has_path(self, word: str) -> bool:
         """Whether the word is no path, or there is one that ends so."""

@@ -7,7 +7,7 @@ import subprocess
 import sys
 import tarfile
 
-from gate.imports import with_imported
+from gate.pages import with_imported
 from nfs4.served import PROGRAM, TOP
 
 COMMANDS = [f"tools/{name}" for name in ("send_rows", "rows", "show_journal", "explain", "listen_callbacks", "between",
@@ -48,8 +48,8 @@ def make(out: str) -> None:
                        commit=printed("git describe --always --dirty --abbrev=40"),
                        program=printed(f"sha256sum '{PROGRAM}'").split()[0])
     os.makedirs(out)
-    found = [path for pattern in OTHERS for path in glob.glob(pattern, root_dir=TOP)]
-    for path in [*found, *with_imported(*COMMANDS), *BUILT]:
+    found = {path for pattern in OTHERS for path in glob.glob(pattern, root_dir=TOP)}
+    for path in found.union(BUILT, *map(with_imported, COMMANDS)):
         os.makedirs(os.path.join(out, os.path.dirname(path)), exist_ok=True)
         shutil.copy(os.path.join(TOP, path), os.path.join(out, path))
     with open(os.path.join(out, "RELEASE"), "w", encoding="utf-8") as file:
