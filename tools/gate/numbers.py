@@ -5,13 +5,10 @@ import os
 from typing import Any
 
 from gate.floors import counts
-from gate.pages import Sources, pages, words_of
+from gate.pages import pages, words_of
 from nfs4.served import TOP
 
 KEPT = os.path.join(TOP, "tools/numbers.json")
-# The numbers by their names in the file.
-CALLS, GETATTR, READ = "calls from serve_on to GETATTR's rule", "shared lines of GETATTR", "shared lines of READ"
-WORDS, MINUTES = "words of pages", "processor minutes of the gate"
 
 
 def kept() -> dict[str, dict[str, Any]]:
@@ -28,15 +25,15 @@ def keep(name: str, numbers: dict[str, Any]) -> None:
         file.write(json.dumps(whole, indent=1) + "\n")
 
 
-def numbers() -> dict[str, int | None]:
+def numbers() -> dict[str, int]:
     found = {count.name: count.number for count in counts()}
-    return {CALLS: found["calls"], GETATTR: found["GETATTR"], READ: found["READ"], WORDS: words_of(pages(Sources())),
-            MINUTES: kept()["gate"].get("minutes")}
+    return {"calls from serve_on to GETATTR's rule": found["calls"], "shared lines of GETATTR": found["GETATTR"],
+            "shared lines of READ": found["READ"], "words of pages": words_of(pages()),
+            "processor minutes of the gate": kept()["gate"]["minutes"]}
 
 
 def told() -> list[str]:
     """A line for each, with what it was at the last release."""
     before = kept()["release"]
-    return [f"{name}: {'not known' if number is None else f'{number:,}'} "
-            f"({f'{before[name]:,} at the last release' if before.get(name) is not None else 'no release yet'})"
+    return [f"{name}: {number:,} ({f'{before[name]:,} at the last release' if name in before else 'no release yet'})"
             for name, number in numbers().items()]

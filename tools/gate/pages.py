@@ -20,8 +20,7 @@ import ast
 import os
 import re
 import subprocess
-from collections import Counter
-from collections.abc import Iterator
+from collections.abc import Iterable, Iterator
 from functools import cache
 from modulefinder import ModuleFinder
 
@@ -66,6 +65,14 @@ USED = re.compile(r"\buse\s+([^;\n]*)")
 
 
 @cache
+def files() -> list[str]:
+    """The files of the repository, also those that aren't committed yet."""
+    command = ["git", "-C", TOP, "ls-files", "--cached", "--others", "--exclude-standard"]
+    listed = subprocess.run(command, stdout=subprocess.PIPE, check=True, text=True).stdout.split("\n")
+    return sorted(path for path in listed if os.path.isfile(os.path.join(TOP, path)))
+
+
+@cache
 def read(path: str) -> str:
     with open(os.path.join(TOP, path), encoding="utf-8", errors="replace") as file:
         return file.read()
@@ -98,28 +105,21 @@ class Page:
 
     def anchors(self) -> set[str]:
         """What leads to its headings, as GitHub has it."""
-        times, found = Counter[str](), set[str]()
-        for heading in re.findall(r"^#+ (.*)$", self.prose, re.M):
-            anchor = re.sub(r"[^\w\- ]", "", heading.lower()).replace(" ", "-")
-            found.add(f"{anchor}-{times[anchor]}" if times[anchor] else anchor)
-            times[anchor] += 1
-        return found
+        headings = re.findall(r"^#+ (.*)$", self.prose, re.M)
+        return {re.sub(r"[^\w\- ]", "", heading.lower()).replace(" ", "-") for heading in headings}
 
 
 class Sources:
     """What there is to be named: files and folders, definitions, and commands with their options."""
 
     def __init__(self) -> None:
-        listed = subprocess.run(["git", "-C", TOP, "ls-files", "--cached", "--others", "--exclude-standard"],
-                                stdout=subprocess.PIPE, check=True, text=True).stdout.split("\n")
-        self.files = sorted(path for path in listed if os.path.isfile(os.path.join(TOP, path)))
-        folders = {path[:at.start()] for path in self.files for at in re.finditer("/", path)}
-        self.paths = [*self.files, *folders]
+        folders = {path[:at.start()] for path in files() for at in re.finditer("/", path)}
+        self.paths = [*files(), *folders]
         self.ends = {path[at:] for path in self.paths for at in (0, *(it.end() for it in re.finditer("/", path)))}
         self.parts = PARTS | {path.split("/")[1] for path in folders if re.match(r"(?:crates|tools)/", path)}
         self.names, self.pairs = self.parts | KEYWORDS, set[tuple[str, str]]()
         self.tools: dict[str, str] = {}
-        for path in self.files:
+        for path in files():
             self.take(path)
         for source in (source for crate in crates() for source in sources_of(crate)):
             for function in functions_of(source):
@@ -140,18 +140,26 @@ class Sources:
             self.tools[path] = self.tools[os.path.basename(path)] = path
 
     @cache
-    def options_of(self, command: str) -> set[str]:
+    def own_options(self, command: str) -> set[str]:
         if command.startswith(PROGRAM):
             return set(OPTION.findall(read(f"tools/help{command.removeprefix(PROGRAM).replace(' ', '_')}.txt")))
         if not is_python(command):
             # A program in Rust has files beside it.
-            texts = [path for path in self.files if path.startswith(os.path.dirname(command))]
+            texts = [path for path in files() if path.startswith(os.path.dirname(command))]
             return set(OPTION.findall("\n".join(map(read, texts if command.endswith(".rs") else [command]))))
         nodes = list(ast.walk(ast.parse(read(command))))
         listed = {it for node in nodes if isinstance(node, ast.List) for it in node.elts}
-        own = [node.value for node in nodes if isinstance(node, ast.Constant) and node not in listed]
-        added = re.findall(r'add_argument\(\s*"(--[a-z-]+)"', "\n".join(map(read, with_imported(command))))
-        return {"--help", *added, *(it for it in own if isinstance(it, str) and OPTION.fullmatch(it))}
+        words = [node.value for node in nodes if isinstance(node, ast.Constant) and node not in listed]
+        return {"--help"} | {word for word in words if isinstance(word, str) and OPTION.fullmatch(word)}
+
+    @cache
+    def added_options(self, command: str) -> set[str]:
+        """Those that a command in Python has from what it imports."""
+        texts = map(read, with_imported(command)) if command in files() and is_python(command) else ()
+        return set(re.findall(r'add_argument\(\s*"(--[a-z-]+)"', "\n".join(texts)))
+
+    def takes(self, commands: Iterable[str], option: str) -> bool:
+        return any(option in options(command) for options in (self.own_options, self.added_options) for command in commands)
 
     def has_path(self, word: str) -> bool:
         """Whether the word is no path, or there is one that ends so."""
@@ -216,18 +224,17 @@ def wrong_names(page: Page, sources: Sources) -> Iterator[tuple[int, str]]:
 
 
 def wrong_options(page: Page, sources: Sources) -> Iterator[tuple[int, str]]:
-    alone = [(line, found[0]) for line, text in page.spans if (found := OPTION.match(text))]
     beside = [(line, *named) for line, text in page.spans + page.commands if not OPTION.match(text)
               for named in sources.named_by(text)]
-    known = {option for _, commands, option in beside if not commands}
-    for command in {command for _, commands, _ in beside for command in commands}.union(EACH_COMMAND):
-        known |= sources.options_of(command)
+    others = {option for _, commands, option in beside if not commands}
+    named = {command for _, commands, _ in beside for command in commands}.union(EACH_COMMAND)
     for line, commands, option in beside:
-        if commands and option and all(option not in sources.options_of(command) for command in commands):
+        if commands and option and not sources.takes(commands, option):
             yield line, f"the option {option} of {commands[-1]}"
-    for line, option in alone:
-        if option not in known:
-            yield line, f"the option {option}"
+    for line, text in page.spans:
+        found = OPTION.match(text)
+        if found and found[0] not in others and not sources.takes(named, found[0]):
+            yield line, f"the option {found[0]}"
 
 
 def faults_of(page: Page, sources: Sources) -> list[str]:
@@ -236,8 +243,8 @@ def faults_of(page: Page, sources: Sources) -> list[str]:
     return [f"{page.path}:{line}: {fault}" for line, fault in sorted(wrong)]
 
 
-def pages(sources: Sources) -> list[Page]:
-    return [Page(path, read(path)) for path in sources.files if PAGE.fullmatch(path)]
+def pages() -> list[Page]:
+    return [Page(path, read(path)) for path in files() if PAGE.fullmatch(path)]
 
 
 def words_of(found: list[Page]) -> int:

@@ -2,24 +2,16 @@
 environment that has PATH alone, by the program and by the model."""
 import os
 import re
+import runpy
 import shutil
 import subprocess
 import tarfile
-from importlib.machinery import SourceFileLoader
-from importlib.util import module_from_spec, spec_from_loader
+from types import SimpleNamespace
 
 import pytest
 
-from gate.release import BUILT, kit, make
+from gate.release import kit, make
 from nfs4.served import PATIENCE, Served, TOP
-def clients():
-    """The script that runs the commands of pages, as a module."""
-    loader = SourceFileLoader("try_clients", os.path.join(TOP, "tools/try_clients"))
-    module = module_from_spec(spec_from_loader("try_clients", loader))
-    loader.exec_module(module)
-    return module
-
-
 @pytest.fixture(scope="module")
 def unpacked(tmp_path_factory):
     """The folder of a release, which isn't where it was made."""
@@ -40,17 +32,15 @@ def is_there(unpacked, monkeypatch):
         monkeypatch.delenv(name)
 
 
-def test_release(unpacked):
+def test_said(unpacked):
     said = (unpacked / "RELEASE").read_text()
     assert kit() in said and len(re.findall(r"\b[0-9a-f]{64}\b", said)) == 2
-    assert all(os.access(unpacked / path, os.X_OK) for path in BUILT)
-    assert not (unpacked / "tools/gate").exists()
 
 
 @pytest.mark.parametrize("model", [False, True], ids=["program", "model"])
 def test_examples(model, path_of):
     """The commands with a `$` of README, and those of the first example of CLIENTS, and what they print."""
-    pages = clients()
+    pages = SimpleNamespace(**runpy.run_path(os.path.join(TOP, "tools/try_clients")))
     session = pages.Session(os.path.dirname(path_of("x")), pages.MODEL if model else {})
     (_, of_readme), (_, of_clients) = pages.sections()[:2]
     assert pages.SERVER.match(of_clients[0][0])
