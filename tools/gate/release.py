@@ -18,9 +18,9 @@ OTHERS = ["README.md", "docs/CLIENTS.md", "docs/PROGRAM.md", "docs/RULES.md", "d
 BUILT = ["crates/nfs4state/out/nfs4state", "crates/rows/out/rows"]
 # What the file RELEASE says.
 SOURCES = "git ls-files -z | xargs -0 sha256sum | sha256sum"
-SAID = """The sources name the toolchain that proves them: {kit}. The gate passes with that one alone.
-SHA-256 of the sources: {sources}, as `{command}` prints it for commit {commit}.
-SHA-256 of the program: {program}.
+SAID = """The sources name the toolchain that proves them, which the gate asks for: {kit}.
+SHA-256 of the sources, as `{command}` prints it: {sources}
+SHA-256 of the program: {program}
 Pages and tools that aren't here are in the repository.
 """
 
@@ -44,8 +44,7 @@ def make(out: str) -> None:
     """Makes the folder, which must not be there, and beside it the same as an archive."""
     if lacking := [path for path in BUILT if not os.path.isfile(os.path.join(TOP, path))]:
         sys.exit(f"release: not built: {' '.join(lacking)}")
-    said = SAID.format(kit=kit(), sources=printed(SOURCES).split()[0], command=SOURCES,
-                       commit=printed("git describe --always --dirty --abbrev=40"),
+    said = SAID.format(kit=kit(), command=SOURCES, sources=printed(SOURCES).split()[0],
                        program=printed(f"sha256sum '{PROGRAM}'").split()[0])
     os.makedirs(out)
     found = {path for pattern in OTHERS for path in glob.glob(pattern, root_dir=TOP)}
