@@ -19,13 +19,7 @@ OWN = ("nfs_rules/src/entries/path.rt", "nfs_rules/specs/entries/Path.antt", "nf
        "nfs_owners/src/client_laws.rt", "nfs_owners/specs/laws/Marks.antt")
 OTHER = "nfs_rules/src/operations/setclientid_confirm.rt", "nfs_rules/specs/operations/SetclientidConfirm.antt"
 
-# The words of an operation, outside of its own files: as a member of the lists of operations, by the module of its own
-# file, and by the types that its file in nfs_operations has.
-MEMBER = r"\b(?:Op|OpResult|Opnum|Transfer|ops?|opnums|results|of|transfers|operations)(?:::|\.){big}\b"
-MODULE = r"\b(?:mod (?:{big}|{small})\b|{small}(?:::|\.rule\b)|(?:of|operations)::{small}\b)"
-FORM = r"\b(?:Same|Bounded) for {big}\b"
-LISTED = r"^\s+{big}(?:,|\(| = )"
-# The files of one operation.
+# The files of one operation, and those that list all.
 OF_ONE = re.compile(r"/operations/|^nfs_operations/(?!(?:src/lib\.rt|specs/Lib\.antt)$)")
 LISTS = "nfs_xdr/src/op.rt", "nfs_xdr/src/op_result.rt", "nfs_xdr/src/opnum.rt"
 
@@ -119,11 +113,13 @@ def count_operation(sources: list[Source], name: str) -> Count:
     big, small = name.capitalize(), name.lower()
     form = next(it for it in sources if it.path == f"nfs_operations/src/{small}.rt")
     types = set(re.findall(r"\bpub (?:struct|enum) (\w+)", form.code)) - {big}
-    words = "|".join([MEMBER, MODULE, FORM, *(rf"\b{it}\b" for it in types)])
-    plain, listing = (re.compile(it.replace("{big}", big).replace("{small}", small)) for it in (words, f"{words}|{LISTED}"))
-    found = [line for it in sources if not OF_ONE.search(it.path)
-             for line in lines_with(listing if it.path in LISTS else plain, it)]
-    return shared(name, name, found)
+    # A member of the lists of operations; the module of its own file; and what its file in nfs_operations has.
+    word = (rf"\b(?:Op|OpResult|Opnum|Transfer|ops?|opnums|results|of|transfers|operations)(?:::|\.){big}\b"
+            rf"|\bmod (?:{big}|{small})\b|\b{small}(?:::|\.rule\b)|\b(?:of|operations)::{small}\b"
+            rf"|\b(?:{'|'.join([f'(?:Same|Bounded) for {big}', *types])})\b")
+    plain, listing = re.compile(word), re.compile(rf"{word}|^\s+{big}(?:,|\(| = )")
+    return shared(name, name, [line for it in sources if not OF_ONE.search(it.path)
+                               for line in lines_with(listing if it.path in LISTS else plain, it)])
 
 
 def counts() -> list[Count]:

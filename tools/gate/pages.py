@@ -66,10 +66,9 @@ USED = re.compile(r"\buse\s+([^;\n]*)")
 
 @cache
 def files() -> list[str]:
-    """The files of the repository, also those that aren't committed yet."""
-    command = ["git", "-C", TOP, "ls-files", "--cached", "--others", "--exclude-standard"]
-    listed = subprocess.run(command, stdout=subprocess.PIPE, check=True, text=True).stdout.split("\n")
-    return sorted(path for path in listed if os.path.isfile(os.path.join(TOP, path)))
+    """The files that git knows, which may have been added and not committed yet."""
+    listed = subprocess.run(["git", "-C", TOP, "ls-files"], stdout=subprocess.PIPE, check=True, text=True).stdout
+    return [path for path in listed.splitlines() if os.path.isfile(os.path.join(TOP, path))]
 
 
 @cache
@@ -168,8 +167,9 @@ class Sources:
         is_path = len(parts) > 1 and parts[0] in self.parts or re.search(ENDING, word)
         if not is_path or ".." in parts or "out" in parts or word in self.ends:
             return True
+        if braces := re.search(r"\{(.*?)\}", word):
+            return all(self.has_path(word.replace(braces[0], one, 1)) for one in braces[1].split(","))
         pattern = re.sub(r"\\\*|\b(?:NAME|FILE|CRATE)\b", "[^/]*", re.escape(word))
-        pattern = re.sub(r"\\\{(.*?)\\\}", lambda found: f"(?:{found[1].replace(',', '|')})", pattern)
         return pattern != re.escape(word) and any(re.search(f"(?:^|/){pattern}$", path) for path in self.paths)
 
     def has_name(self, page: str, name: str) -> bool:
@@ -183,7 +183,7 @@ class Sources:
         return not is_decided or name in self.names
 
     def named_by(self, line: str) -> Iterator[tuple[list[str], str]]:
-        """The words of a line that are options, each with the commands that stand before it; and those without one."""
+        """For each word of a line the commands that stand there up to it, and the option that it is, or nothing."""
         commands, is_first = list[str](), True
         for word in WORD.findall(line):
             if PARTING.match(word):

@@ -32,7 +32,9 @@ def printed(command: str) -> str:
 
 
 def kit() -> str:
-    """The toolchain that the sources name, which the built program has to name, too."""
+    """The toolchain that the sources name, which the program has to name, too; and all has to be built."""
+    if lacking := [path for path in BUILT if not os.path.isfile(os.path.join(TOP, path))]:
+        sys.exit(f"release: not built: {' '.join(lacking)}")
     with open(os.path.join(TOP, "crates/nfs4state/src/main.rt"), encoding="utf-8") as file:
         version = re.findall(r'"(nfs4state, proved by (\S+))\\n"', file.read())
     if len(version) != 1 or printed(f"'{PROGRAM}' --version") != version[0][0]:
@@ -42,8 +44,6 @@ def kit() -> str:
 
 def make(out: str) -> None:
     """Makes the folder, which must not be there, and beside it the same as an archive."""
-    if lacking := [path for path in BUILT if not os.path.isfile(os.path.join(TOP, path))]:
-        sys.exit(f"release: not built: {' '.join(lacking)}")
     said = SAID.format(kit=kit(), command=SOURCES, sources=printed(SOURCES).split()[0],
                        program=printed(f"sha256sum '{PROGRAM}'").split()[0])
     os.makedirs(out)

@@ -21,7 +21,7 @@ WRONG = {
     "[here](#no-such)": ["a link to #no-such, and there is no such heading"],
     "`crates/nfs_core/src/nothing.rt`": ["the path crates/nfs_core/src/nothing.rt"],
     "`nothing.py`, `nfs_core/nothing`": ["the path nfs_core/nothing", "the path nothing.py"],
-    "`tools/{flaws,stressed}`, `crates/NAME/nothing`": ["the path crates/NAME/nothing", "the path tools/{flaws,stressed}"],
+    "`tools/{floors,stressed}`, `crates/NAME/nothing`": ["the path crates/NAME/nothing", "the path tools/{floors,stressed}"],
     "    tools/nothing < samples/nothing.rows": ["the path samples/nothing.rows", "the path tools/nothing"],
     "```\nsamples/nothing.toml\n```": ["the path samples/nothing.toml"],
     "`Core::aply`": ["the name Core::aply"],

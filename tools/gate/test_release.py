@@ -10,8 +10,10 @@ from types import SimpleNamespace
 
 import pytest
 
-from gate.release import kit, make
+from gate.release import COMMANDS, kit, make
 from nfs4.served import PATIENCE, Served, TOP
+
+
 @pytest.fixture(scope="module")
 def unpacked(tmp_path_factory):
     """The folder of a release, which isn't where it was made."""
@@ -32,9 +34,11 @@ def is_there(unpacked, monkeypatch):
         monkeypatch.delenv(name)
 
 
-def test_said(unpacked):
+def test_is_whole(unpacked):
     said = (unpacked / "RELEASE").read_text()
     assert kit() in said and len(re.findall(r"\b[0-9a-f]{64}\b", said)) == 2
+    for command in COMMANDS:
+        assert printed(f"{command} --help").strip()
 
 
 @pytest.mark.parametrize("model", [False, True], ids=["program", "model"])
