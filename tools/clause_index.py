@@ -201,8 +201,7 @@ def last_name(path: str) -> str:
 @dataclass(frozen=True)
 class Function:
     """A function of a file, whose path begins below `crates/`. The owner is the type or the trait that it is a method
-    of, or none. The lines are those from the comment before it to its end, counted from 1; the body of a declaration is
-    empty."""
+    of, if any. The lines are those from the comment before it to its end; the body of a declaration is empty."""
     path: str
     name: str
     owner: str

@@ -11,11 +11,10 @@ from nfs4.served import TOP
 KEPT = os.path.join(TOP, "tools/numbers.json")
 
 
-def kept() -> dict[str, dict[str, Any]]:
+def kept() -> Any:
     """What the file has: under `gate` what the gate took from nothing, under `release` the numbers of the last one."""
     with open(KEPT, encoding="utf-8") as file:
-        found: dict[str, dict[str, Any]] = json.load(file)
-    return found
+        return json.load(file)
 
 
 def keep(name: str, numbers: dict[str, Any]) -> None:

@@ -1,13 +1,11 @@
 """A release: what whoever writes a client needs, from which the first screen of README works without the toolchain."""
 import glob
 import os
-import re
 import shutil
 import subprocess
 import sys
-import tarfile
 
-from gate.pages import with_imported
+from gate.pages import read, with_imported
 from nfs4.served import PROGRAM, TOP
 
 COMMANDS = [f"tools/{name}" for name in ("send_rows", "rows", "show_journal", "explain", "listen_callbacks", "between",
@@ -35,11 +33,10 @@ def kit() -> str:
     """The toolchain that the sources name, which the program has to name, too; and all has to be built."""
     if lacking := [path for path in BUILT if not os.path.isfile(os.path.join(TOP, path))]:
         sys.exit(f"release: not built: {' '.join(lacking)}")
-    with open(os.path.join(TOP, "crates/nfs4state/src/main.rt"), encoding="utf-8") as file:
-        version = re.findall(r'"(nfs4state, proved by (\S+))\\n"', file.read())
-    if len(version) != 1 or printed(f"'{PROGRAM}' --version") != version[0][0]:
-        sys.exit(f"release: {PROGRAM} --version isn't what crates/nfs4state/src/main.rt has")
-    return str(version[0][1])
+    version = printed(f"'{PROGRAM}' --version")
+    if f'"{version}\\n"' not in read("crates/nfs4state/src/main.rt"):
+        sys.exit(f"release: {version} isn't what crates/nfs4state/src/main.rt has")
+    return version.rpartition(" ")[2]
 
 
 def make(out: str) -> None:
@@ -53,5 +50,4 @@ def make(out: str) -> None:
         shutil.copy(os.path.join(TOP, path), os.path.join(out, path))
     with open(os.path.join(out, "RELEASE"), "w", encoding="utf-8") as file:
         file.write(said)
-    with tarfile.open(f"{out}.tar.gz", "w:gz") as archive:
-        archive.add(out, os.path.basename(out))
+    shutil.make_archive(out, "gztar", os.path.dirname(out), os.path.basename(out))

@@ -63,12 +63,9 @@ def test_made_up(sources):
     for text, faults in WRONG.items():
         line = 4 if text.startswith("```") else 3
         assert faults_of(Page(PATH, HEADING + text), sources) == [f"{PATH}:{line}: {fault}" for fault in faults]
-
-
-def test_made_up_for_clients(sources):
-    """On a page for whoever writes a client, words of small letters may be anything."""
-    assert faults_of(Page("docs/CLIENTS.md", "`nfs_lockf`, `gcc`, `IsRuledd`"), sources) == [
-        "docs/CLIENTS.md:1: the name IsRuledd"]
+    # On a page for whoever writes a client, words of small letters may be anything.
+    page = Page("docs/CLIENTS.md", "`nfs_lockf`, `gcc`, `IsRuledd`")
+    assert faults_of(page, sources) == ["docs/CLIENTS.md:1: the name IsRuledd"]
 
 
 def test_made_up_budgets():
