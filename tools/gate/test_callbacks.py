@@ -297,11 +297,13 @@ def test_silent_client(run):
         second = server.client(2, home)
         seconds = expect_null_call(home).moment - begun
         second.borrow(b"a", BOTH)
+        slowest = slowest_answer(Client(server.peer(), 3))
         expect_none_granted(first, b"b")
         entries = server.end(seconds=SOON)
         expect("the marks of the silent one", marks_of(entries, first), [])
         expect("the marks of the other one", marks_of(entries, second), [True])
         expect_time("CB_NULL", seconds, SOON)
+        expect_time("a reply", slowest, SOON)
 
 
 # When an old call is answered late: before the new one is heard, too, or behind it alone.

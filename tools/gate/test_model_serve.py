@@ -36,7 +36,7 @@ from nfs4.served import NO_CALLBACKS, PATIENCE, PROGRAM, Served, TOP, is_silent,
 from nfs4.wire import opaque, record, split_records
 
 SERVE = [sys.executable, os.path.join(TOP, "tools/model/serve.py")]
-ROWS = [f"crates/rows/data/{name}.rows" for name in ("client_ids", "getattr", "limits", "records")]
+ROWS = ["client_ids", "getattr", "limits", "records"]
 # How many connections come in turn, and how many are busy when the input ends, each with so many calls.
 IN_TURN, BUSY, CALLS = 200, 20, 30
 # The seconds for which the server is stopped.
@@ -65,9 +65,10 @@ def run(*command, **how):
 
 # In the place of the program.
 
-@pytest.mark.parametrize("path", ROWS)
-def test_rows(path, tell):
+@pytest.mark.parametrize("name", ROWS)
+def test_rows(tell, name):
     """Rows, also of other trees, leases and epochs, each with a server that ends by itself, as the row says."""
+    path = f"crates/rows/data/{name}.rows"
     status, printed = run(sys.executable, "tools/send_rows", "--serve", " ".join(SERVE), path)
     if status != 0 or not re.match(r"[1-9][0-9]* rows: 0 failed", printed):
         raise Wrong(f"status {status}: {printed}")
@@ -99,7 +100,8 @@ def test_readme(path_of):
 # Arguments that are refused before a server begins, and runs that end by a fault before they listen.
 REFUSED = [
     "--until-input-ends --until-killed", "--connections 0", "--connections 65", "--connections +4", "--lease 86401",
-    "--epoch 4294967296", "--tre x", "more", "--lease 5 --lease=6", "--until-killed --until-killed", "--each --journal x"]
+    "--epoch 4294967296", "--tre x", "more", "--lease 5 --lease=6", "--until-killed --until-killed",
+    "--each --journal x"]
 FAULTS = [("--tree tools/missing", "file not read"), ("--listen 127.0.0.1", "socket"),
           ("--listen 127.0.0.1:0 --tree README.md", "tree refused (1)")]
 

@@ -162,8 +162,8 @@ def test_crowd(path_of, tell):
 
 # The user of the connection that comes at last.
 LATE = 4
-# How many seconds after its time a lease has ended: moments are whole seconds, and a sweep comes about once a second. And
-# how many for what else has to come, on however busy a machine.
+# How many seconds after its time a lease has ended: moments are whole seconds, and a sweep comes about once a second.
+# And how many there are for what else has to come, on however busy a machine.
 SOON, PATIENT = 4, 20
 # The seconds of the lease of a server that lends a file, and those in which a lease of one is renewed at the latest.
 LENT, RENEWAL = 3, 0.9
