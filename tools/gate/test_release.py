@@ -2,15 +2,14 @@
 environment that has PATH alone, by the program and by the model."""
 import os
 import re
-import runpy
 import shutil
 import subprocess
-from types import SimpleNamespace
 
 import pytest
 
+from gate import test_clients as pages
 from gate.release import COMMANDS, kit, make
-from nfs4.served import PATIENCE, Served, TOP
+from nfs4.served import PATIENCE, Served
 
 
 @pytest.fixture(scope="module")
@@ -28,6 +27,7 @@ def unpacked(tmp_path_factory):
 def is_there(unpacked, monkeypatch):
     """All that runs is run in that folder."""
     monkeypatch.chdir(unpacked)
+    monkeypatch.setattr(pages, "TOP", str(unpacked))
     for name in os.environ.keys() - {"PATH"}:
         monkeypatch.delenv(name)
 
@@ -41,25 +41,23 @@ def test_is_whole(unpacked):
 
 
 @pytest.mark.parametrize("model", [False, True], ids=["program", "model"])
-def test_examples(model, path_of):
-    """The commands with a `$` of README, and those of the first example of CLIENTS, and what they print."""
-    pages = SimpleNamespace(**runpy.run_path(os.path.join(TOP, "tools/try_clients")))
-    session = pages.Session(os.path.dirname(path_of("x")), pages.MODEL if model else {})
-    (_, of_readme), (_, of_clients) = pages.sections()[:2]
-    assert pages.SERVER.match(of_clients[0][0])
+def test_examples(model, tmp_path):
+    """The commands with a `$` of the first section of README, and of CLIENTS, that has some; and what they print."""
+    session = pages.Session(str(tmp_path), pages.MODEL if model else {})
     try:
-        for command, shown in of_readme + of_clients:
-            session.run(command, shown)
+        for page in pages.PAGES:
+            _, commands = pages.sections(page)[0]
+            for command, shown in commands:
+                session.run(command, shown)
         session.end_server()
     finally:
         session.end()
 
 
 @pytest.mark.parametrize("server", ["tools/model/serve.py", "crates/nfs4state/out/nfs4state"], ids=["model", "program"])
-def test_first_screen(server, path_of, unpacked):
+def test_first_screen(server, tmp_path, unpacked):
     """The other commands of README: a server that goes on until its input ends, a row, and what judges the journal."""
-    room = os.path.dirname(path_of("x"))
-    lines = [line[4:].replace("/tmp/", f"{room}/") for line in (unpacked / "README.md").read_text().split("\n")
+    lines = [line[4:].replace("/tmp/", f"{tmp_path}/") for line in (unpacked / "README.md").read_text().split("\n")
              if re.match(r"    (?:tools|crates)/", line)]
     serves, sends, *judges = [line for line in lines if line.startswith(server) or "--until-input-ends" not in line]
     with Served(["bash", "-c", serves.replace(":20490", ":0")], stdin=subprocess.PIPE) as served:
