@@ -9,7 +9,8 @@ TOP = Path(__file__).resolve().parent.parent
 CRATES = TOP / "crates"
 
 # What is no code: comments, and what stands between quotes. A lifetime isn't between two.
-HIDDEN = re.compile(r"""//[^\n]*|"(?:\\.|[^"\\])*"|'(?:\\.[^']*|[^'\\\n])'""", re.S)
+HIDDEN = {".rt": re.compile(r"""//[^\n]*|"(?:\\.|[^"\\])*"|'(?:\\.[^']*|[^'\\\n])'""", re.S),
+          ".antt": re.compile(r"--[^\n]*")}
 HEAD = re.compile(
     r"(?:#!?\[[^\]]*\]\s*)*"  # attributes
     r"(?P<seen>pub(?:\([\w: ]+\))?\s+)?(?:unsafe\s+|default\s+|const\s+(?=fn\b))*"
@@ -74,7 +75,12 @@ class Source:
     code: str = field(init=False)
 
     def __post_init__(self) -> None:
-        self.code = HIDDEN.sub(lambda found: re.sub(r"[^\n]", " ", found[0]), self.text)
+        self.code = HIDDEN[self.file.suffix].sub(lambda found: re.sub(r"[^\n]", " ", found[0]), self.text)
+
+    @property
+    def path(self) -> str:
+        """Where it is below `crates/`."""
+        return str(self.file.relative_to(CRATES))
 
     def module(self) -> str:
         """The path of its module below the crate, which is empty for that of the crate itself."""
@@ -94,16 +100,18 @@ class Source:
         return re.split(r"(?<=\.) (?=[A-Z`])", " ".join(comment).strip())[0]
 
 
-def names_of_crates() -> list[str]:
-    """The crates of crates.txt, in order."""
+def crates() -> dict[str, list[str]]:
+    """The crates of crates.txt, in order, with those that each may name."""
     lines = (TOP / "crates.txt").read_text(encoding="utf-8").splitlines()
-    return [line.partition(":")[0] for line in lines if line.strip() and not line.startswith("#")]
+    parts = [line.partition(":") for line in lines if line.strip() and not line.startswith("#")]
+    return {name: below.split() for name, _, below in parts}
 
 
-def sources_of(crate: str) -> list[Source]:
-    files = sorted((CRATES / crate / "src").rglob("*.rt"))
-    return [Source(crate, file, file.read_text(encoding="utf-8")) for file in files
-            if file.name != "tests.rt" and "tests" not in file.parent.parts]
+def sources_of(crate: str, pattern: str = "src/**/*.rt") -> list[Source]:
+    """A crate's files of one part, without those of its tests."""
+    files = [file for file in sorted((CRATES / crate).glob(pattern))
+             if file.stem != "tests" and "tests" not in file.relative_to(CRATES).parts[2:-1]]
+    return [Source(crate, file, file.read_text(encoding="utf-8")) for file in files]
 
 
 def definitions_of(crate: str) -> Iterator[str]:
@@ -188,6 +196,39 @@ def owner_of(head: str) -> tuple[str, str]:
 
 def last_name(path: str) -> str:
     return re.split(r"::", " ".join(path.replace("&", "").split()))[-1].strip()
+
+
+@dataclass(frozen=True)
+class Function:
+    """A function of a file, whose path begins below `crates/`. The owner is the type or the trait that it is a method
+    of, if any. The lines are those from the comment before it to its end; the body of a declaration is empty."""
+    path: str
+    name: str
+    owner: str
+    first: int
+    last: int
+    clauses: int
+    body: str
+
+    def __str__(self) -> str:
+        return f"{self.owner}::{self.name}" if self.owner else self.name
+
+
+def functions_of(source: Source) -> Iterator[Function]:
+    """The functions of a file, without those that stand in others."""
+    code, rows, found = source.code, source.text.split("\n"), list[tuple[str, Item]]()
+    for item in items_in(code, 0, len(code)):
+        if item.kind == "fn":
+            found.append(("", item))
+        elif item.kind in ("impl", "trait"):
+            owner = item.name if item.kind == "trait" else owner_of(code[item.word + len("impl"):item.block])[1]
+            found += [(owner, it) for it in items_in(code, item.block + 1, item.end - 1) if it.kind == "fn"]
+    for owner, item in found:
+        first, last = (code.count("\n", 0, at) + 1 for at in (item.start, item.end - 1))
+        while first > 1 and re.match(r"\s*(//|#\[)", rows[first - 2]):
+            first -= 1
+        clauses = len(CLAUSE.findall(code, item.word, item.end))
+        yield Function(source.path, item.name, owner, first, last, clauses, code[item.block:item.end])
 
 
 def exports_of(sources: list[Source]) -> tuple[set[str], set[str]]:

@@ -4,11 +4,13 @@ import random
 import select
 import socket
 import time
-from collections import namedtuple
-from contextlib import contextmanager, nullcontext
+from collections.abc import Callable, Iterator
+from contextlib import AbstractContextManager, contextmanager, nullcontext
 from functools import partial
+from typing import Any, NamedTuple
 
-from nfs4.callback_listener import Heard, Listener, accept, keep_silent, reply_to, reset, universal_address
+from nfs4.callback_listener import (CallbackCall, Heard, Listener, accept, keep_silent, reply_to, reset,
+                                    universal_address)
 from nfs4.messages import call, words
 from nfs4.wire import Callback, PROG_UNAVAIL, REPLY, Status, accepted, record
 
@@ -16,31 +18,37 @@ from nfs4.wire import Callback, PROG_UNAVAIL, REPLY, Status, accepted, record
 CALLBACK_PROGRAM, IDENT = 0x40000000, 7
 
 
-def callback_at(address):
+def callback_at(address: tuple[Any, ...]) -> Callback:
     """What a client gives to the server so that it is called at this address."""
     return Callback(CALLBACK_PROGRAM, b"tcp", universal_address(address).encode(), IDENT)
 
 
 # Odd answers, to any call or to a recall.
 
-def refuse(heard):
+def asked(heard: Heard) -> CallbackCall:
+    """The call that came, which is one."""
+    assert heard.call is not None, heard.data
+    return heard.call
+
+
+def refuse(heard: Heard) -> None:
     """The program isn't there."""
-    heard.reply(accepted(heard.call.xid, PROG_UNAVAIL))
+    heard.reply(accepted(asked(heard).xid, PROG_UNAVAIL))
 
 
-def accept_null(heard, answer=keep_silent):
+def accept_null(heard: Heard, answer: Callable[[Heard], Any] = keep_silent) -> None:
     """Answers CB_NULL OK, and a recall in another way."""
-    (accept if heard.call.recall is None else answer)(heard)
+    (accept if asked(heard).recall is None else answer)(heard)
 
 
-def deny_handle(heard):
+def deny_handle(heard: Heard) -> None:
     """The client doesn't know the file."""
-    heard.reply(reply_to(heard.call, Status.BADHANDLE))
+    heard.reply(reply_to(asked(heard), Status.BADHANDLE))
 
 
-def answer_in_pieces(heard):
+def answer_in_pieces(heard: Heard) -> None:
     """An acceptance in fragments of three bytes, of which each byte comes alone."""
-    body = reply_to(heard.call)
+    body = reply_to(asked(heard))
     ends = range(3, len(body) + 3, 3)
     fragments = [words((end >= len(body)) << 31 | len(body[end - 3:end])) + body[end - 3:end] for end in ends]
     for byte in b"".join(fragments):
@@ -48,10 +56,10 @@ def answer_in_pieces(heard):
         time.sleep(0.002)
 
 
-def answer_without_end(heard):
+def answer_without_end(heard: Heard) -> None:
     """A record of a gigabyte, for as long as anybody takes more of it."""
     try:
-        heard.stream.sendall(words(1 << 31 | 1 << 30) + accepted(heard.call.xid, 0))
+        heard.stream.sendall(words(1 << 31 | 1 << 30) + accepted(asked(heard).xid, 0))
         for _ in range(1 << 14):
             heard.stream.sendall(bytes(1 << 16))
     except OSError:
@@ -61,11 +69,11 @@ def answer_without_end(heard):
 class Resetting(Listener):
     """Resets each connection at once."""
 
-    def attend(self, stream, peer):
+    def attend(self, stream: socket.socket, peer: Any) -> None:
         reset(stream)
 
 
-def garbage():
+def garbage() -> dict[str, bytes]:
     """Bytes that are no reply, or one to another call."""
     return {
         "of another protocol": b"HTTP/1.1 400 Bad Request\r\n\r\n", "at random": random.Random(1).randbytes(3000),
@@ -76,7 +84,7 @@ def garbage():
 # Addresses where nobody accepts. Each gives the callback to it, for as long as it is there.
 
 @contextmanager
-def nobody():
+def nobody() -> Iterator[Callback]:
     """An address where nobody listens."""
     with socket.socket() as bound:
         bound.bind(("127.0.0.1", 0))
@@ -84,9 +92,9 @@ def nobody():
 
 
 @contextmanager
-def full_listener():
+def full_listener() -> Iterator[Callback]:
     """One that never accepts, with as many connections waiting as there may be: the next one doesn't come through."""
-    waiting = []
+    waiting: list[socket.socket] = []
     with socket.create_server(("127.0.0.1", 0), backlog=0) as listening:
         try:
             while not waiting or select.select([], [waiting[-1]], [], 0.5)[1]:
@@ -99,22 +107,27 @@ def full_listener():
                 stream.close()
 
 
-class BadPeer(namedtuple("BadPeer", "name place mark takes_connection", defaults=(False, False))):
+class BadPeer(NamedTuple):
     """A peer by what it does. It is there while its place is entered, which is made for the port of the server, and
     gives a listener or a callback. A callback there marks the path *up* or *down*, or not at all (None); it may be one
     of the server's own connections."""
+    name: str
+    place: Callable[[int], AbstractContextManager[Any]]
+    mark: bool | None = False
+    takes_connection: bool = False
 
     @property
-    def is_unanswered(self):
+    def is_unanswered(self) -> bool:
         return self.mark is None
 
 
-def bad_peers():
+def bad_peers() -> Iterator[BadPeer]:
     """Each kind of peer that a server has to stand."""
-    def answers(name, answer, mark=False, kind=Listener):
+    def answers(name: str, answer: Callable[[Heard], Any], mark: bool | None = False,
+                kind: type[Listener] = Listener) -> BadPeer:
         return BadPeer(name, lambda port: kind(answer), mark)
 
-    def is_at(name, callback):
+    def is_at(name: str, callback: Callback) -> BadPeer:
         return BadPeer(name, lambda port: nullcontext(callback))
     yield answers("accepts, and never answers", keep_silent, mark=None)
     yield BadPeer("never accepts", lambda port: full_listener(), mark=None)

@@ -1,17 +1,22 @@
 """Peers of a server, which come one at a time or as a crowd of 64: clients, and what sends garbage, never reads, resets
 or stops within a record."""
 import random
+from collections.abc import Callable, Sequence
+from functools import partial
+from threading import Event
+from typing import Any
 
 from model.server import Server
 from nfs4.client import FILES, Client, expect, Wrong
 from nfs4.messages import COMPOUND, GETATTR, NULL, PUTROOTFH, call, compound, reply, words
+from nfs4.served import PATIENCE, Peer
 from nfs4.wire import opaque, record
 
 # The connections of the crowd: clients, with their rounds, and ten of each other kind.
 MOST, GOOD, OTHERS, ROUNDS = 64, 24, 10, 12
 
 
-def garbage():
+def garbage() -> list[bytes]:
     """Bytes that are no NFS, and what is odd in other ways."""
     draw = random.Random(1)
     return [
@@ -22,15 +27,15 @@ def garbage():
         call(3, NULL) + reply(4) + record(b"") + call(5, 2) + b"\0" * 3]
 
 
-def send_garbage(peer, data):
+def send_garbage(peer: Peer, data: bytes) -> None:
     """It gets the replies that the model gives, which ask for no state, and the end of its connection."""
     with peer:
         peer.send(data)
         peer.finish()
-        expect(f"replies to {data[:40]}", peer.receive_all(), Server().converse(data)[0])
+        expect(f"replies to {data[:40]!r}", peer.receive_all(), Server().converse(data)[0])
 
 
-def never_read(peer, over=None, seconds=0.3, full=None):
+def never_read(peer: Peer, over: Event | None = None, seconds: float = 0.3, full: Event | None = None) -> None:
     """Sends calls with long replies until no more is taken, says so, and waits. Each has the state as well."""
     tag = 100000
     arguments = opaque(bytes(tag)) + words(0, 2, PUTROOTFH, GETATTR, 0)
@@ -41,7 +46,7 @@ def never_read(peer, over=None, seconds=0.3, full=None):
         wait_for(over)
 
 
-def reset(peer, way):
+def reset(peer: Peer, way: int) -> None:
     """Resets at once, after a reply, within a record, or behind calls whose replies it doesn't read."""
     if way == 1:
         peer.send(call(1, NULL))
@@ -53,7 +58,7 @@ def reset(peer, way):
     peer.reset()
 
 
-def stop_within(peer, way, over=None):
+def stop_within(peer: Peer, way: int, over: Event | None = None) -> None:
     """After a call that is answered, sends a part of a record; then it says that nothing more comes, or closes; at
     once, or at the end."""
     with peer:
@@ -67,12 +72,12 @@ def stop_within(peer, way, over=None):
             expect("after half a record", peer.receive_all(), b"")
 
 
-def wait_for(over):
-    if over is not None and not over.wait(60):
+def wait_for(over: Event | None) -> None:
+    if over is not None and not over.wait(PATIENCE):
         raise Wrong("the clients don't come to an end")
 
 
-def be_client(peer, uid):
+def be_client(peer: Peer, uid: int) -> Client:
     client = Client(peer, uid, epoch=7)
     client.introduce()
     for turn in range(ROUNDS):
@@ -80,13 +85,13 @@ def be_client(peer, uid):
     return client
 
 
-def crowd(peers, over):
+def crowd(peers: Sequence[Peer], over: Event) -> list[Callable[[], Any]]:
     """What is done on each of the connections, in a mixed order."""
-    jobs = [lambda peer, uid=uid: be_client(peer, uid) for uid in range(GOOD)]
-    jobs += [lambda peer, data=data: send_garbage(peer, data) for data in garbage()]
-    jobs += [lambda peer: never_read(peer, over)] * OTHERS
-    jobs += [lambda peer, way=way: reset(peer, way % 4) for way in range(OTHERS)]
-    jobs += [lambda peer, way=way: stop_within(peer, way, over) for way in range(OTHERS)]
+    jobs: list[Callable[[Peer], Any]] = [partial(be_client, uid=uid) for uid in range(GOOD)]
+    jobs += [partial(send_garbage, data=data) for data in garbage()]
+    jobs += [partial(never_read, over=over)] * OTHERS
+    jobs += [partial(reset, way=way % 4) for way in range(OTHERS)]
+    jobs += [partial(stop_within, way=way, over=over) for way in range(OTHERS)]
     places = list(range(MOST))
     random.Random(2).shuffle(places)
-    return [(lambda job=job, place=place: job(peers[place])) for job, place in zip(jobs, places)]
+    return [partial(job, peers[place]) for job, place in zip(jobs, places)]

@@ -1,6 +1,7 @@
-"""What the scripts that try a server over TCP have in common: their words, a room for files, a journal's verdict by
-program and model, and their parts one after another."""
+"""What the tests of servers over TCP have in common: a journal's verdict by program and model, what peers got beside
+it, and what is tried again where it came late."""
 import argparse
+import functools
 import os
 import signal
 import sys
@@ -9,14 +10,34 @@ import threading
 from collections.abc import Callable, Sequence
 from typing import Any
 
+from gate.told import Judge
 from model.entries import NotJournal
 from model.journal import Journal, read_journal, verdict
 from model.program import Program, bytes_of
 from nfs4.client import Client, Wrong, expect
-from nfs4.served import Peer, Served, TOP
+from nfs4.served import PROGRAM, Peer, Served, TOP
 from nfs4.wire import Unreadable
 
 ROOM = tempfile.TemporaryDirectory()
+# How often a test is tried where something comes late.
+TRIES = 3
+
+
+class Late(Wrong):
+    """What was to come in time came later, which a busy machine may be the reason for."""
+
+
+def tried_again(test: Callable[..., None]) -> Callable[..., None]:
+    """The test, which is tried again where something came late, and fails where it did each time."""
+    @functools.wraps(test)
+    def tried(*arguments: Any, **named: Any) -> None:
+        for _ in range(TRIES - 1):
+            try:
+                return test(*arguments, **named)
+            except Late:
+                pass
+        return test(*arguments, **named)
+    return tried
 
 
 def read_options(text: str, *switches: str, name: str = "nfs4state") -> argparse.Namespace:
@@ -54,11 +75,20 @@ def lawful_journal(program: str | None, path: str) -> Journal:
     return read_journal(data)
 
 
-def expect_in_journal(judge: Any, client: Client) -> None:
+def expect_in_journal(judge: Judge, client: Client) -> None:
     """The replies to all that the client sent are those that the journal's entries for its user make."""
     calls = enumerate(judge.journal.entries)
     numbers = [number for number, entry in calls if getattr(entry, "principal", None) == (1, client.uid)]
     judge.expect_link(b"".join(client.sent), b"".join(client.got), numbers)
+
+
+def judged(path: str, *clients: Client) -> Judge:
+    """The judge of the journal in this file, which is lawful: by it all clients got their replies, which are these."""
+    judge = Judge(lawful_journal(PROGRAM, path))
+    for client in clients:
+        expect_in_journal(judge, client)
+    judge.expect_ends()
+    return judge
 
 
 def run_parts(parts: Sequence[Callable[[], Any]]) -> None:

@@ -55,7 +55,9 @@ class Client:
     access = BOTH
 
     def __init__(self, peer: Any, uid: int, epoch: int = 1) -> None:
-        self.peer, self.uid, self.epoch = peer, uid, epoch
+        self.peer, self.epoch = peer, epoch
+        # None where its calls say nothing of a user.
+        self.uid: int | None = uid
         self.name, self.owner, self.locker = (word + b" %d" % uid for word in (b"client", b"owner", b"locker"))
         self.sent: list[bytes] = []
         self.got: list[bytes] = []
@@ -107,7 +109,7 @@ class Client:
 
     def span(self, place: int = 0) -> bytes:
         """Ten bytes that nobody else locks."""
-        return u64(1000 * self.uid + 10 * place) + u64(10)
+        return u64(1000 * (self.uid or 0) + 10 * place) + u64(10)
 
     def spelled_locker(self) -> bytes:
         return self.clientid() + opaque(self.locker)

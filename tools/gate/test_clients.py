@@ -1,36 +1,33 @@
-#!/usr/bin/env python3
-"""try_clients [--all] [--program PATH | --model]: runs the commands of README.md and of docs/CLIENTS.md that have a `$`
-before them, in their order, and compares what they print with the page. With --model the model's server
-(`tools/model/serve.py`) and its audit (`tools/model/journal.py`) take the place of the program's, so that nothing has
-to be built.
+"""The commands of README.md and of docs/CLIENTS.md that have a `$` before them: each section by itself, in their order,
+with what they print compared to the page; by the program, and with the model's server (`tools/model/serve.py`) and its
+audit (`tools/model/journal.py`) in place of the program's.
 
-The section on libnfs is left out where `gcc` or `libnfs-dev` isn't installed, and the last line says so. That on
-tshark is left out, too, since it needs the right to capture on the loopback interface. With --all both are run, and it
-is an error if something for them isn't there.
+The section on libnfs is left out where `gcc` or `libnfs-dev` isn't installed. That on tshark is run by hand alone, since
+it needs the right to capture on the loopback interface. By hand it is an error if something for them isn't there.
 
-A port of the system's choice takes the place of the page's, and a folder of this run that of /tmp. A server or a
+A port of the system's choice takes the place of the page's, and a folder of the test that of /tmp. A server or a
 capture goes on while the commands after it run. A server has to end by itself before its journal is read, or another
 one begins, and a capture is ended before it is read.
 
 The sample of records has to be what its row sends."""
-import argparse
 import os
 import re
 import signal
 import subprocess
-import sys
-import tempfile
 import time
 
-sys.dont_write_bytecode = True
-from nfs4 import rows
+import pytest
 
-TOP = os.path.join(os.path.dirname(os.path.abspath(__file__)), "..")
-PAGE = "docs/CLIENTS.md"
+from gate.trial import Late, tried_again
+from nfs4 import rows
+from nfs4.client import Wrong, expect
+from nfs4.served import TOP
+
+PAGES = "README.md", "docs/CLIENTS.md"
+# What is run in place of the program's commands where the model is.
 PROGRAM = "crates/nfs4state/out/nfs4state"
-# What is run in place of the program's commands with --model.
 MODEL = {f"{PROGRAM} serve": "tools/model/serve.py", f"{PROGRAM} audit": "tools/model/journal.py"}
-SAMPLE = "samples/two_owners"
+SAMPLE = os.path.join(TOP, "samples/two_owners")
 # Words in the headings of the sections that need what may not be there.
 LIBNFS, CAPTURE = "libnfs", "wire"
 PORT = "20490"
@@ -45,24 +42,27 @@ VARYING = [(r"moment \d+", "moment N"), (r"AUTH_SYS \d+", "AUTH_SYS N"), (r"In \
            (r"seen at \d+, now \d+", "seen at N, now N")]
 
 
-def sections():
-    """Each heading of the pages with its commands, each of which is a pair of the command and the lines shown below it.
+def sections(path):
+    """Each heading of a page with its commands, each of which is a pair of the command and the lines shown below it.
     Lines of a block without `$` are no commands."""
     found, is_shown = [], False
-    for path in ("README.md", PAGE):
-        with open(path, encoding="utf-8") as page:
-            lines = page.read().split("\n")
-        for line in lines:
-            if line.startswith("#"):
-                found.append((line.lstrip("# "), []))
-            if line.startswith("    $ "):
-                found[-1][1].append((line[6:], []))
-                is_shown = True
-            elif not line.startswith("    "):
-                is_shown = False
-            elif is_shown:
-                found[-1][1][-1][1].append(line[4:])
+    with open(os.path.join(TOP, path), encoding="utf-8") as page:
+        lines = page.read().split("\n")
+    for line in lines:
+        if line.startswith("#"):
+            found.append((line.lstrip("# "), []))
+        if line.startswith("    $ "):
+            found[-1][1].append((line[6:], []))
+            is_shown = True
+        elif not line.startswith("    "):
+            is_shown = False
+        elif is_shown:
+            found[-1][1][-1][1].append(line[4:])
     return [(heading, commands) for heading, commands in found if commands]
+
+
+BY_PAGE = [sections(path) for path in PAGES]
+SECTIONS = {heading: commands for found in BY_PAGE for heading, commands in found}
 
 
 def without_marks(lines):
@@ -104,7 +104,7 @@ class Session:
 
     def start(self, command, **how):
         """Starts a command in a group of its own, so that it can be ended with all that it starts."""
-        return subprocess.Popen(["bash", "-c", self.words(command)], stdin=subprocess.DEVNULL, text=True,
+        return subprocess.Popen(["bash", "-c", self.words(command)], stdin=subprocess.DEVNULL, text=True, cwd=TOP,
                                 start_new_session=True, **how)
 
     def serve(self, command, shown):
@@ -115,7 +115,7 @@ class Session:
         self.first = server.stdout.readline() + server.stdout.readline()
         match = re.match(r"listening on 127\.0\.0\.1:(\d+)\n", self.first)
         if match is None:
-            sys.exit(f"try_clients: `{command}` prints first:\n{self.first}")
+            raise Wrong(f"`{command}` prints first:\n{self.first}")
         self.port = match[1]
 
     def begin_capture(self, command):
@@ -131,7 +131,8 @@ class Session:
             if self.capture.poll() is not None:
                 break
             time.sleep(0.1)
-        sys.exit("try_clients: no capture: " + open(log, encoding="utf-8").read())
+        with open(log, encoding="utf-8") as told:
+            raise Wrong("no capture: " + told.read())
 
     def end_server(self):
         """Waits for the server's end; what it printed is compared."""
@@ -142,7 +143,7 @@ class Session:
                 rest, _ = server.communicate(timeout=PATIENCE)
             except subprocess.TimeoutExpired:
                 os.killpg(server.pid, signal.SIGKILL)
-                sys.exit(f"try_clients: `{command}` doesn't end")
+                raise Wrong(f"`{command}` doesn't end") from None
             compare(command, shown, (self.first.replace(self.port, PORT) + rest).split("\n")[:-1])
 
     def end_capture(self):
@@ -165,9 +166,9 @@ class Session:
         if command.startswith("tshark"):
             self.end_capture()
         ran = subprocess.run(["bash", "-c", self.words(command)], stdin=subprocess.DEVNULL, stdout=subprocess.PIPE,
-                             stderr=subprocess.PIPE, text=True, timeout=PATIENCE)
+                             stderr=subprocess.PIPE, text=True, timeout=PATIENCE, cwd=TOP)
         if ran.returncode != 0:
-            sys.exit(f"try_clients: `{command}` ends with status {ran.returncode}:\n{ran.stdout}{ran.stderr}")
+            raise Late(f"`{command}` ends with status {ran.returncode}:\n{ran.stdout}{ran.stderr}")
         compare(command, shown, ran.stdout.split("\n")[:-1])
 
     def end(self):
@@ -179,7 +180,7 @@ class Session:
 
 def compare(command, shown, printed):
     if plain(shown) != plain(printed):
-        sys.exit(f"try_clients: `{command}` prints\n" + "\n".join(printed) + "\nand shown is\n" + "\n".join(shown))
+        raise Late(f"`{command}` prints\n" + "\n".join(printed) + "\nand shown is\n" + "\n".join(shown))
 
 
 def has_libnfs():
@@ -193,45 +194,36 @@ def has_libnfs():
     return ran.returncode == 0
 
 
-def compare_sample():
+def test_pages(tell):
+    """Both pages have commands, in sections of different names."""
+    counts = [sum(len(commands) for _, commands in found) for found in BY_PAGE]
+    expect("that each page has some", 0 in counts, False)
+    expect("the headings", len(SECTIONS), sum(map(len, BY_PAGE)))
+    tell(f"{sum(counts)} commands in {len(SECTIONS)} sections, each by the program and by the model")
+
+
+def test_sample():
     """The records are what the row sends, so that both show the same session."""
     with open(f"{SAMPLE}.records", "rb") as file:
         sent = [connection.sent for row in rows.File(f"{SAMPLE}.rows").rows for connection in row.connections]
-        if [file.read()] != sent:
-            sys.exit(f"try_clients: {SAMPLE}.records isn't what {SAMPLE}.rows sends")
+        expect("what the row sends", sent, [file.read()])
 
 
-def run_page(session, is_left_out):
-    """Runs the sections that aren't left out: how many commands they have, and the headings of the others."""
-    tried, left_out = 0, []
+@pytest.mark.parametrize("instead", [{}, MODEL], ids=["program", "model"])
+@pytest.mark.parametrize("heading", [
+    pytest.param(heading, marks=[pytest.mark.by_hand] if CAPTURE in heading else []) for heading in SECTIONS])
+# A lease of a second ends too early where the machine has no time.
+@tried_again
+def test_section(tmp_path, pytestconfig, heading, instead):
+    if LIBNFS in heading and not pytestconfig.getoption("--by-hand") and not has_libnfs():
+        pytest.skip("gcc or libnfs-dev isn't installed")
+    session, commands = Session(str(tmp_path), instead), SECTIONS[heading]
+    if CAPTURE in heading:
+        # Its client is that of the other section.
+        commands = [each for name in SECTIONS if LIBNFS in name for each in SECTIONS[name]] + commands
     try:
-        for heading, commands in sections():
-            if is_left_out(heading):
-                left_out.append(heading)
-                continue
-            for command, shown in commands:
-                session.run(command, shown)
-                tried += 1
-            session.end_server()
+        for command, shown in commands:
+            session.run(command, shown)
+        session.end_server()
     finally:
         session.end()
-    return tried, left_out
-
-
-def main():
-    parser = argparse.ArgumentParser(description=__doc__, formatter_class=argparse.RawDescriptionHelpFormatter)
-    parser.add_argument("--all", action="store_true", help="also libnfs and tshark")
-    servers = parser.add_mutually_exclusive_group()
-    servers.add_argument("--program", default=PROGRAM, help="a built `nfs4state`")
-    servers.add_argument("--model", action="store_true", help="the model in place of the program")
-    given = parser.parse_args()
-    instead = MODEL if given.model else {PROGRAM: os.path.abspath(given.program)}
-    os.chdir(TOP)
-    compare_sample()
-    with tempfile.TemporaryDirectory() as folder:
-        words = [] if given.all else [CAPTURE] if has_libnfs() else [CAPTURE, LIBNFS]
-        tried, left_out = run_page(Session(folder, instead), lambda heading: any(word in heading for word in words))
-    print(f"try_clients: {tried} commands ok" + (f"; left out: {', '.join(left_out)}" if left_out else ""))
-
-
-main()

@@ -1,6 +1,4 @@
-#!/usr/bin/env python3
-"""try_model_serve [PROGRAM]: runs the model's server, which takes the place of `nfs4state serve` where nothing is
-built, and talks to it over TCP.
+"""The model's server over TCP, which takes the place of `nfs4state serve` where nothing is built.
 
 Rows are sent to it, each to a server of its own, and the README's session is run by it. In runs that go on, 24
 clients get every reply among 64 connections of which 40 misbehave, and each of those is told; 200 connections come
@@ -9,8 +7,7 @@ are busy, one sends without an end and one never reads; before any connection; a
 stopped and continued loses no connection. Arguments that `serve` refuses are refused. The lines of a trace are
 compared.
 
-Each journal has to be lawful by the model's audit, and by that of a built program. Each wait has an end, so that a
-server that hangs is a failure; and whatever happens, no server is left."""
+Each journal has to be lawful by the model's audit, and by that of the program."""
 import io
 import os
 import re
@@ -24,10 +21,10 @@ from concurrent.futures import ThreadPoolExecutor
 from contextlib import redirect_stderr
 from resource import RLIMIT_NOFILE, setrlimit
 
-sys.dont_write_bytecode = True
+import pytest
+
 from gate.crowd import GOOD, MOST, OTHERS, crowd, garbage
-from gate.told import Judge
-from gate.trial import TOP, expect_in_journal, lawful_journal, path_of, peer_of, read_options, run_parts
+from gate.trial import Late, judged, lawful_journal, peer_of, tried_again
 from model.entries import Expire
 from model.journal import Recorder
 from model.server import CLIENTS_LIMIT, JOURNAL_LIMIT
@@ -35,12 +32,11 @@ from model.serving import Desk
 from nfs4.client import Client, done, expect, Wrong
 from nfs4.messages import (COMPOUND, GETATTR, GETFH, NFS4ERR_STALE_CLIENTID, NFS4_OK, NULL, PUTROOTFH, RENEW, call,
                            compound, confirmation, lookup, reply, setclientid, words)
-from nfs4.served import NO_CALLBACKS, PATIENCE, Served, is_silent, with_interrupts
+from nfs4.served import NO_CALLBACKS, PATIENCE, PROGRAM, Served, TOP, is_silent, with_interrupts
 from nfs4.wire import opaque, record, split_records
 
-PROGRAM = read_options(__doc__).program
-SERVE = [sys.executable, "tools/model/serve.py"]
-ROWS = [f"crates/rows/data/{name}.rows" for name in ("client_ids", "getattr", "limits", "records")]
+SERVE = [sys.executable, os.path.join(TOP, "tools/model/serve.py")]
+ROWS = ["client_ids", "getattr", "limits", "records"]
 # How many connections come in turn, and how many are busy when the input ends, each with so many calls.
 IN_TURN, BUSY, CALLS = 200, 20, 30
 # The seconds for which the server is stopped.
@@ -49,7 +45,6 @@ STOPPED = 0.5
 SOON = 2
 # A moment at which the lease of each client is over.
 LEASES_END = 1000
-told = []
 
 
 def serve(*options, listen="127.0.0.1:0", **how):
@@ -63,29 +58,32 @@ def serve_on(*options, **how):
 
 def run(*command, **how):
     """The status of a command, and what it prints."""
-    ran = subprocess.run(command, stdout=subprocess.PIPE, stderr=subprocess.STDOUT, timeout=300, text=True, **how)
+    ran = subprocess.run(command, stdout=subprocess.PIPE, stderr=subprocess.STDOUT, timeout=300, text=True, cwd=TOP,
+                         **how)
     return ran.returncode, ran.stdout
 
 
 # In the place of the program.
 
-def try_rows():
+@pytest.mark.parametrize("name", ROWS)
+def test_rows(tell, name):
     """Rows, also of other trees, leases and epochs, each with a server that ends by itself, as the row says."""
-    status, printed = run(sys.executable, "tools/send_rows", "--serve", " ".join(SERVE), *ROWS)
+    path = f"crates/rows/data/{name}.rows"
+    status, printed = run(sys.executable, "tools/send_rows", "--serve", " ".join(SERVE), path)
     if status != 0 or not re.match(r"[1-9][0-9]* rows: 0 failed", printed):
         raise Wrong(f"status {status}: {printed}")
-    told.append(printed.partition(" failed")[0] + " failed")
+    tell(printed.partition(" failed")[0] + " failed")
 
 
-def try_readme():
+def test_readme(path_of):
     """The commands that the README has for whoever has no program, with the lines that it tells of them."""
-    with open("README.md", encoding="utf-8") as page:
+    with open(os.path.join(TOP, "README.md"), encoding="utf-8") as page:
         section = page.read().partition("\n## Use it\n")[2].partition("\n## ")[0]
     first, *others = re.findall(r"(?m)^    (tools/.*)$", section)
     path = path_of("readme.journal")
     command = first.replace("127.0.0.1:20490", "127.0.0.1:0").replace("/tmp/run.journal", path).split()
-    expect("the first command", command[:1], SERVE[1:])
-    with Served([sys.executable, *command], stdin=subprocess.PIPE) as served:
+    expect("the first command", command[:1], ["tools/model/serve.py"])
+    with Served([sys.executable, *command], stdin=subprocess.PIPE, cwd=TOP) as served:
         for line in others:
             command = line.replace("20490", str(served.port)).replace("/tmp/run.journal", path).split()
             if path in command and served.is_running():
@@ -99,19 +97,28 @@ def try_readme():
     expect("the commands of the README", len(others), 3)
 
 
-def try_arguments():
-    for given in (["--until-input-ends", "--until-killed"], ["--connections", "0"], ["--connections", "65"],
-                  ["--connections", "+4"], ["--lease", "86401"], ["--epoch", "4294967296"], ["--tre", "x"], ["more"],
-                  ["--lease", "5", "--lease=6"], ["--until-killed"] * 2, ["--each", "--journal", "x"]):
-        expect(f"the status of {given}", run(*SERVE, *given)[0], 2)
-    for given, fault in ((["--tree", path_of("missing")], "file not read"), (["--listen", "127.0.0.1"], "socket"),
-                         (["--listen", "127.0.0.1:0", "--tree", "README.md"], "tree refused (1)")):
-        expect(f"the end of {given}", run(*SERVE, *given), (1, f"fault: {fault}\n"))
+# Arguments that are refused before a server begins, and runs that end by a fault before they listen.
+REFUSED = [
+    "--until-input-ends --until-killed", "--connections 0", "--connections 65", "--connections +4", "--lease 86401",
+    "--epoch 4294967296", "--tre x", "more", "--lease 5 --lease=6", "--until-killed --until-killed",
+    "--each --journal x"]
+FAULTS = [("--tree tools/missing", "file not read"), ("--listen 127.0.0.1", "socket"),
+          ("--listen 127.0.0.1:0 --tree README.md", "tree refused (1)")]
+
+
+@pytest.mark.parametrize("given", REFUSED)
+def test_arguments(given):
+    expect("the status", run(*SERVE, *given.split())[0], 2)
+
+
+@pytest.mark.parametrize("given, fault", FAULTS)
+def test_faults_at_first(given, fault):
+    expect("the end", run(*SERVE, *given.split()), (1, f"fault: {fault}\n"))
 
 
 # A run that goes on.
 
-def try_crowd():
+def test_crowd(path_of, tell):
     """All connections come before anything is done on one, and end before the run does."""
     over, path = threading.Event(), path_of("crowd.journal")
     with ThreadPoolExecutor(MOST) as pool, serve_on("--epoch", "7", "--journal", path) as served:
@@ -132,11 +139,8 @@ def try_crowd():
         expect("the end of a run with faults of connections", (status, output), (0, b""))
     expect_told([line.rsplit(": ", 1) for line in errors.decode().splitlines()], set(names),
                 {names[peers.index(client.peer)] for client in clients})
-    judge = Judge(lawful_journal(PROGRAM, path))
-    for client in clients:
-        expect_in_journal(judge, client)
-    judge.expect_ends()
-    told.append(f"{GOOD} clients among {MOST} connections got each reply")
+    judged(path, *clients)
+    tell(f"{GOOD} clients among {MOST} connections got each reply")
 
 
 def expect_told(lines, names, orderly):
@@ -153,7 +157,7 @@ def expect_told(lines, names, orderly):
     expect("that each reset is told", OTHERS <= sum(got.values()) <= 2 * OTHERS, True)
 
 
-def try_in_turn():
+def test_in_turn():
     """Many connections come in turn, and one that is there stays; it is answered also after the server was stopped
     for a while."""
     with serve_on() as served, peer_of(served) as first:
@@ -167,7 +171,7 @@ def try_in_turn():
         expect("the end of a run of connections in turn", served.end(), (0, b"", b""))
 
 
-def try_most():
+def test_most():
     """The connection above the most that there may be waits until one of them has ended; so does one for which the
     process may have no more files open, of which there are four before the first connection."""
     wait_above("no more connections: 2 of 2", "--connections", "2")
@@ -198,7 +202,7 @@ def expect_wait(peer, other):
     expect("the reply to who has waited", peer.receive(), reply(1))
 
 
-def try_limits():
+def test_limits():
     """Of client slots, and of entries of the journal: each is told with the call that takes the last one, and once,
     though all clients end and others come."""
     server, lines = Recorder(), io.StringIO()
@@ -222,7 +226,8 @@ def try_limits():
            "the journal is full: 1000000 of 1000000", "1"])
 
 
-def try_clock():
+@tried_again
+def test_clock():
     """The moments of calls and of sweeps are by one clock, which begins with the run: a lease of 90 seconds that is
     renewed after 60 stands after 120, and has ended after 211."""
     desk = Desk(Recorder(lease=90))
@@ -233,13 +238,15 @@ def try_clock():
         desk.begun = time.monotonic() - seconds - 0.1
         desk.sweep()
         found = desk.answer(1, split_records(compound(number, operation))[0][0])
+        if (late := time.monotonic() - desk.begun - seconds) > 1:
+            raise Late(f"a moment of {seconds} seconds lasts for {late:.1f}")
         expect(f"the status at {seconds}", int.from_bytes(found[24:28], "big"), status)
     expect("the ends of leases", desk.server.recorded[2:], [Expire(1, 60, 211)])
 
 
 # Ends.
 
-def try_replies_before_a_fault():
+def test_replies_before_a_fault():
     """After a record that is too long the replies to what came before it reach a peer that is slow to read them, also
     where it has sent more, which nobody reads. The fault is the run's where it doesn't go on."""
     tag = opaque(bytes(3000))
@@ -258,10 +265,13 @@ def send_on(peer, over):
         peer.send(record(words(9)) * 1000)
 
 
-def end_while_busy(path):
+@pytest.mark.alone
+@tried_again
+def test_busy(path_of, tell):
     """How long a run takes to end when its input does, while connections have calls under way, all of whose replies
     come; one goes on to send, and one never reads. The server is stopped while the calls and the end of its input
     come, so that it hasn't read them before."""
+    path = path_of("busy.journal")
     tag = opaque(bytes(2000)) + words(0, 2, PUTROOTFH, GETATTR, 0)
     sent = b"".join(call(xid, COMPOUND, tag, uid=1) for xid in range(CALLS))
     body = words(NFS4_OK) + opaque(bytes(2000)) + words(2) + done(PUTROOTFH) + done(GETATTR, words(0, 0))
@@ -289,7 +299,10 @@ def end_while_busy(path):
             peer.socket.close()
     expect("the end of a busy run", (status, output), (0, b""))
     expect_told_at_end(errors.decode())
-    return took
+    expect("the entries", len(lawful_journal(PROGRAM, path).entries), BUSY * CALLS)
+    if took > SOON:
+        raise Late(f"it ends {took:.1f} seconds after its input")
+    tell(f"a run with {BUSY} busy connections ended {took:.1f} seconds after its input")
 
 
 def expect_told_at_end(errors):
@@ -299,18 +312,7 @@ def expect_told_at_end(errors):
         raise Wrong(f"a busy run tells {errors}")
 
 
-def try_busy():
-    """On a busy machine one of three runs has to end soon."""
-    path, took = path_of("busy.journal"), []
-    while not took or took[-1] > SOON:
-        if len(took) == 3:
-            raise Wrong(f"it ends {min(took):.1f} seconds after its input")
-        took.append(end_while_busy(path))
-    expect("the entries", len(lawful_journal(PROGRAM, path).entries), BUSY * CALLS)
-    told.append(f"a run with {BUSY} busy connections ended {took[-1]:.1f} seconds after its input")
-
-
-def try_no_connection():
+def test_no_connection(path_of):
     """A run whose input ends at once says so, and which option never looks at it."""
     path = path_of("none.journal")
     with serve("--until-input-ends", "--journal", path) as served:
@@ -321,7 +323,7 @@ def try_no_connection():
     expect("the entries", lawful_journal(PROGRAM, path).entries, [])
 
 
-def try_signals():
+def test_signals(path_of):
     """A signal ends a run, whatever its options: there is a journal of all that was answered, and the status is that
     of a process that the signal ends."""
     for number in signal.SIGINT, signal.SIGTERM:
@@ -341,7 +343,7 @@ def try_signals():
             os.remove(path)
 
 
-def try_background():
+def test_background():
     """A run that a shell began in the background, where an interrupt is for who is in front, goes on."""
     with serve("--until-killed", preexec_fn=lambda: signal.signal(signal.SIGINT, signal.SIG_IGN)) as served:
         served.program.send_signal(signal.SIGINT)
@@ -351,7 +353,7 @@ def try_background():
         expect("the end", served.end(), (-signal.SIGTERM, b"", b""))
 
 
-def try_file():
+def test_file(path_of):
     """A journal that can't be written is a fault of the run, however it ends."""
     missing, fault = path_of("missing/run.journal"), b"fault: file not written\n"
     with serve_on("--journal", missing) as served, peer_of(served) as peer:
@@ -365,7 +367,7 @@ def try_file():
 
 # Traces.
 
-def try_trace():
+def test_trace():
     """A line for each call, and for the lease that ends."""
     read, readdir = words(25, 0, 0, 0, 0, 0, 0, 5), words(26)
     answered = [call(1, NULL), call(2, 7), call(3, COMPOUND, words(0, 1, 0)),
@@ -394,18 +396,3 @@ TRACE = [
     '"127.0.0.1.3.232" 1 -> NFS4_OK 1 1 u64:1',
     'connection 1, xid 2, moment N, AUTH_SYS 5: SETCLIENTID_CONFIRM 1 1 u64:1 -> NFS4_OK',
     'client 1 expires, seen at N, now N']
-
-
-PARTS = (try_arguments, try_rows, try_readme, try_crowd, try_in_turn, try_most, try_limits, try_clock,
-         try_replies_before_a_fault, try_busy, try_no_connection, try_signals, try_background, try_file, try_trace)
-
-
-def main():
-    if not os.path.exists(PROGRAM):
-        sys.exit(f"try_model_serve: there is no {PROGRAM}, by which journals are audited")
-    os.chdir(TOP)
-    run_parts(PARTS)
-    print("try_model_serve: ok; " + "; ".join(told))
-
-
-main()

@@ -1,6 +1,4 @@
-#!/usr/bin/env python3
-"""try_callbacks [--only WORDS] [PROGRAM]: runs `nfs4state serve` as the gate has proved and built it, and is both its
-clients and the listeners by which it calls them back.
+"""`nfs4state serve` over TCP, where the tests are both its clients and the listeners by which it calls them back.
 
 A delegation is granted once a client's listener has answered CB_NULL, recalled by CB_RECALL, whose bytes are the
 model's, and given back; or revoked after a lease. A client whose path is down is granted none. One that never answers
@@ -9,18 +7,11 @@ so is what clients say late that have ended, and whose slots others have.
 Peers of each bad kind do no harm: other calls are answered, the run ends in time, and its journal is lawful. Where the
 system refuses a socket, a call is made later; where it refuses the thread that calls, none is made, and the run says so
 at its end. Of 100 delegations that are recalled at once from ten clients, those of the eight that answer are there in
-time, and in order. `tools/listen_callbacks` prints what it hears, and gives delegations back.
-
-What has to come within a bound of seconds is tried three times, since the machine may be busy. With --only those
-scenarios are run that have these words in their names. CC names the C compiler, if it isn't cc. Each wait has an end,
-and whatever happens, no server is left."""
-import argparse
+time, and in order. `tools/listen_callbacks` prints what it hears, and gives delegations back."""
 import os
 import re
-import signal
 import subprocess
 import sys
-import tempfile
 import threading
 import time
 from contextlib import ExitStack, contextmanager
@@ -28,60 +19,35 @@ from functools import partial
 from itertools import count
 from resource import RLIMIT_NOFILE, setrlimit
 
-sys.dont_write_bytecode = True
+import pytest
+
 from gate.callback_client import Borrower, Opened
 from gate.callback_peers import (CALLBACK_PROGRAM, IDENT, accept_null, bad_peers, callback_at, deny_handle, nobody,
                                  refuse)
+from gate.trial import Late, lawful_journal, peer_of, tried_again
 from model.entries import Path, Revoke
-from model.journal import Growing, NotJournal, read_journal, verdict
-from model.program import Program, bytes_of
+from model.journal import Growing, NotJournal
+from model.program import bytes_of
 from nfs4.callback_listener import Listener, accept, keep_silent
 from nfs4.callbacks import null_call, recall_call
 from nfs4.client import Client, done, expect, Wrong
 from nfs4.messages import GETATTR, NFS4_OK, NULL, OPEN, PUTROOTFH, call, compound, reply, results, words, xid
-from nfs4.preload import preloading
-from nfs4.served import PATIENCE, PROGRAM, Peer, REPLY_PATIENCE, Served, TOP
-from nfs4.wire import BOTH, READ, Status, Unreadable, WRITE
+from nfs4.served import PATIENCE, PROGRAM, REPLY_PATIENCE, Served, TOP
+from nfs4.wire import BOTH, READ, Status, WRITE
 
-
-
-def read_options():
-    parser = argparse.ArgumentParser(description=__doc__, formatter_class=argparse.RawDescriptionHelpFormatter)
-    parser.add_argument("--only", metavar="WORDS", default="", help="scenarios with these words in their names")
-    parser.add_argument("program", metavar="PROGRAM", nargs="?", type=os.path.abspath,
-                        default=PROGRAM, help="a built nfs4state")
-    return parser.parse_args()
-
-
-OPTIONS = read_options()
-ROOM = tempfile.TemporaryDirectory()
 # The seconds in which others are called and answered whatever one peer does, and in which a run ends behind its last
-# connection; and how often a scenario is tried that isn't in time.
-SOON, TRIES = 2, 3
+# connection. A server that a peer holds back is held back without an end: so where the machine may be busy, and nothing
+# else is judged by the clock, there is patience.
+SOON = 2
 # The seconds of a lease that ends here, and those in which it is renewed at the latest.
-LEASE, RENEWAL = 1, 0.9
+LEASE, RENEWAL = 3, 2.9
 # The most files that the server may have open where it is refused a socket.
 FILES_OPEN = 16
 # The clients whose delegations are recalled at once, those of them that never answer a recall, and the files.
 HOLDERS, MUTE, NAMES = 10, (0, 5), [b"file %d" % number for number in range(10)]
-numbers = count()
-checks = 0
-told = []
 
 
-class Late(Wrong):
-    """What was to come in time came later."""
-
-
-def check(what, got, wanted):
-    global checks
-    checks += 1
-    expect(what, got, wanted)
-
-
-def check_time(what, seconds, most):
-    global checks
-    checks += 1
+def expect_time(what, seconds, most):
     if seconds > most:
         raise Late(f"{what}: after {seconds:.2f} seconds, wanted {most}")
 
@@ -92,13 +58,10 @@ class Run:
     """A server with its clients' connections. It goes on until its input ends, or it serves so many connections."""
 
     def __init__(self, served, path, goes_on):
-        if served.port is None:
-            raise Wrong(f"it doesn't listen: {served.end()}")
         self.served, self.path, self.goes_on, self.peers = served, path, goes_on, []
-        self.port = served.port
 
     def peer(self):
-        self.peers.append(Peer(("127.0.0.1", self.port)))
+        self.peers.append(peer_of(self.served))
         return self.peers[-1]
 
     def client(self, uid, callback, **how):
@@ -116,39 +79,32 @@ class Run:
             time.sleep(0.1)
         return found
 
-    def end(self, *lines, status=0):
-        """Ends the connections, and then the run ends in time, with this status, and has told these lines: its entries,
-        which are lawful."""
+    def end(self, *lines, status=0, seconds=PATIENCE):
+        """Ends the connections, and then the run ends within so many seconds, with this status, and has told these
+        lines: its entries, which are lawful."""
         for peer in self.peers:
             peer.socket.close()
         begun = time.monotonic()
         if self.goes_on:
             self.served.end_input()
-        check("the end", self.served.end(), (status, b"", b"".join(line + b"\n" for line in lines)))
-        seconds = time.monotonic() - begun
-        entries = lawful_entries(self.path)
-        check_time("the end", seconds, SOON)
-        return entries
+        expect("the end", self.served.end(), (status, b"", b"".join(line + b"\n" for line in lines)))
+        expect_time("the end", time.monotonic() - begun, seconds)
+        return lawful_journal(PROGRAM, self.path).entries
 
 
-@contextmanager
-def run(*options, connections=None, **how):
-    path = os.path.join(ROOM.name, f"{next(numbers)}.journal")
-    until = ["--until-input-ends"] if connections is None else ["--connections", str(connections)]
-    command = [OPTIONS.program, "serve", "--listen", "127.0.0.1:0", "--journal", path, *until, *options]
-    with Served(command, stdin=subprocess.PIPE, **how) as served:
-        yield Run(served, path, connections is None)
+@pytest.fixture
+def run(path_of):
+    """Begins a server with these options, as a `Run`."""
+    numbers = count()
 
-
-def lawful_entries(path):
-    """The entries of a journal, which program and model find lawful."""
-    data = bytes_of(path)
-    if data is None:
-        raise Wrong("there is no journal")
-    is_lawful, line = verdict(data)
-    check(f"the model's audit, {line}", is_lawful, True)
-    check("an audit", Program(OPTIONS.program).audit(data), (0, f"{line}\n".encode(), b""))
-    return read_journal(data).entries
+    @contextmanager
+    def begin(*options, connections=None, **how):
+        path = path_of(f"{next(numbers)}.journal")
+        until = ["--until-input-ends"] if connections is None else ["--connections", str(connections)]
+        command = [PROGRAM, "serve", "--listen", "127.0.0.1:0", "--journal", path, *until, *options]
+        with Served(command, stdin=subprocess.PIPE, **how) as served:
+            yield Run(served, path, connections is None)
+    return begin
 
 
 def entries_so_far(path):
@@ -203,19 +159,19 @@ def heard_by(listener, place, seconds=REPLY_PATIENCE):
 def expect_null_call(listener, place=0):
     """CB_NULL came, as the model spells it."""
     heard = heard_by(listener, place)
-    check_record("CB_NULL", heard, null_call(xid_of(heard), CALLBACK_PROGRAM))
+    expect_record("CB_NULL", heard, null_call(xid_of(heard), CALLBACK_PROGRAM))
     return heard
 
 
 def expect_recall(listener, client, lent, place=1):
     """CB_RECALL came, as the model spells it."""
     heard = heard_by(listener, place)
-    check_record("CB_RECALL", heard, recall_call(xid_of(heard), client.recall_of(lent)))
+    expect_record("CB_RECALL", heard, recall_call(xid_of(heard), client.recall_of(lent)))
     return heard
 
 
-def check_record(what, heard, wanted):
-    check(what, heard.data.hex(" ", 4), wanted.hex(" ", 4))
+def expect_record(what, heard, wanted):
+    expect(what, heard.data.hex(" ", 4), wanted.hex(" ", 4))
 
 
 def xid_of(heard):
@@ -224,46 +180,50 @@ def xid_of(heard):
 
 def expect_over(heard):
     """The server has ended the connection of this call."""
-    check("the connection of a callback ends", heard.is_over.wait(REPLY_PATIENCE), True)
+    expect("the connection of a callback ends", heard.is_over.wait(REPLY_PATIENCE), True)
 
 
 def expect_delay(client, name, access):
-    check("an OPEN that a delegation is in the way of", client.open_by_name(name, access), Opened(Status.DELAY, None))
+    expect("an OPEN that a delegation is in the way of", client.open_by_name(name, access), Opened(Status.DELAY, None))
 
 
 def expect_none_granted(client, name):
     """The client opens the file, but gets no delegation, also by an owner that is confirmed."""
     for _ in range(3):
-        check("an OPEN that brings no delegation", client.open_by_name(name, READ), Opened(NFS4_OK, None))
+        expect("an OPEN that brings no delegation", client.open_by_name(name, READ), Opened(NFS4_OK, None))
 
 
-# The scenarios.
+# Recalls.
 
-def recall_and_return(is_nobody):
+@pytest.mark.parametrize("is_nobody", [False, True], ids=["AUTH_SYS", "AUTH_NONE"])
+def test_recall_and_return(run, is_nobody):
     """CB_NULL is asked, and then a delegation granted; another client's OPEN is DELAY, and the delegation recalled.
     DELEGRETURN lets that OPEN through. Each callback has a connection of its own."""
     with Listener(accept) as home, Listener(accept) as other_home, run() as server:
         holder, other = server.client(1, home, is_nobody=is_nobody), server.client(2, other_home)
         asked = expect_null_call(home)
         lent = holder.borrow(b"a", BOTH)
-        check("what it is for", lent.kind, WRITE)
-        check("an OPEN of another file", other.open_by_name(b"b", READ).status, NFS4_OK)
+        expect("what it is for", lent.kind, WRITE)
+        expect("an OPEN of another file", other.open_by_name(b"b", READ).status, NFS4_OK)
         expect_delay(other, b"a", READ)
         recalled = expect_recall(home, holder, lent)
         expect_delay(other, b"a", READ)
-        check("the marks", server.marks(holder, 2), [True, True])
-        check("DELEGRETURN", holder.give_back(lent), NFS4_OK)
-        check("the OPEN that waited", other.open_by_name(b"a", READ), Opened(NFS4_OK, None))
+        expect("the marks", server.marks(holder, 2), [True, True])
+        expect("DELEGRETURN", holder.give_back(lent), NFS4_OK)
+        expect("the OPEN that waited", other.open_by_name(b"a", READ), Opened(NFS4_OK, None))
         for heard in asked, recalled:
             expect_over(heard)
-        check("the xids differ", xid_of(asked) != xid_of(recalled), True)
-        check("the connections differ", asked.peer != recalled.peer, True)
+        expect("the xids differ", xid_of(asked) != xid_of(recalled), True)
+        expect("the connections differ", asked.peer != recalled.peer, True)
         entries = server.end()
-        check("how many calls came", len(home.heard), 2)
-        check("the marks", marks_of(entries, holder), [True, True])
+        expect("how many calls came", len(home.heard), 2)
+        expect("the marks", marks_of(entries, holder), [True, True])
 
 
-def revocation(answer, marks):
+@pytest.mark.parametrize("answer, marks", [
+    (keep_silent, [True]), (accept, [True, True]), (deny_handle, [True, False])], ids=["no answer", "OK", "BADHANDLE"])
+@tried_again
+def test_revocation(run, tell, answer, marks):
     """A recall isn't followed by DELEGRETURN, whatever is answered: the delegation is revoked after a lease, and then
     its stateid is BAD_STATEID. The OPEN that waited goes through. A recall without an answer is let go."""
     with Listener(partial(accept_null, answer=answer)) as home, Listener(accept) as other_home, \
@@ -277,14 +237,14 @@ def revocation(answer, marks):
             expect_delay(other, b"a", WRITE)
             recalled = expect_recall(home, holder, lent)
             seconds = wait_until_open(other, b"a", WRITE, begun)
-            check("a delegation isn't revoked within the lease", seconds > LEASE, True)
-            check("DELEGRETURN behind a revocation", holder.give_back(lent), Status.BAD_STATEID)
+            expect("a delegation isn't revoked within the lease", seconds > LEASE, True)
+            expect("DELEGRETURN behind a revocation", holder.give_back(lent), Status.BAD_STATEID)
             expect_over(recalled)
         entries = server.end()
-        check("who loses what", [it.state for it in entries if isinstance(it, Revoke)], [lent.number])
-        check("the marks", marks_of(entries, holder), marks)
-        check("how many calls came", len(home.heard), 2)
-        told.append(f"a delegation was revoked {seconds:.1f} seconds after its recall, with a lease of {LEASE}")
+        expect("who loses what", [it.state for it in entries if isinstance(it, Revoke)], [lent.number])
+        expect("the marks", marks_of(entries, holder), marks)
+        expect("how many calls came", len(home.heard), 2)
+        tell(f"a delegation was revoked {seconds:.1f} seconds after its recall, with a lease of {LEASE}")
 
 
 def wait_until_open(client, name, access, begun):
@@ -294,39 +254,41 @@ def wait_until_open(client, name, access, begun):
             raise Wrong(f"a delegation isn't revoked in {REPLY_PATIENCE} seconds")
         time.sleep(0.05)
     seconds = time.monotonic() - begun
-    check("the OPEN that waited", opened.status, NFS4_OK)
+    expect("the OPEN that waited", opened.status, NFS4_OK)
     return seconds
 
 
-def path_down():
+def test_path_down(run):
     """A client that can't be called back is granted nothing, and so is in nobody's way."""
     with nobody() as callback, Listener(accept) as home, run() as server:
         client, other = server.client(1, callback), server.client(2, home)
-        check("the marks", server.marks(client, 1), [False])
+        expect("the marks", server.marks(client, 1), [False])
         expect_none_granted(client, b"a")
         lent = other.borrow(b"b", BOTH)
         expect_delay(client, b"b", READ)
         expect_recall(home, other, lent)
-        check("the marks", marks_of(server.end(), client), [False])
+        expect("the marks", marks_of(server.end(), client), [False])
 
 
-def refused_recall():
+def test_refused_recall(run):
     """A client that refuses a recall is granted nothing from then on, until it gives another callback."""
     with Listener(partial(accept_null, answer=deny_handle)) as home, Listener(accept) as other_home, run() as server:
         holder, other = server.client(1, home), server.client(2, other_home)
         lent = holder.borrow(b"a", READ)
         other.open_by_name(b"b", READ)
         expect_delay(other, b"a", WRITE)
-        check("the marks", server.marks(holder, 2), [True, False])
+        expect("the marks", server.marks(holder, 2), [True, False])
         expect_over(home.heard[1])
-        check("DELEGRETURN", holder.give_back(lent), NFS4_OK)
+        expect("DELEGRETURN", holder.give_back(lent), NFS4_OK)
         expect_none_granted(holder, b"a")
         holder.introduce(callback_at(other_home.address))
         holder.borrow(b"a", READ)
-        check("the marks", marks_of(server.end(), holder), [True, False, True])
+        expect("the marks", marks_of(server.end(), holder), [True, False, True])
 
 
-def silent_client():
+@pytest.mark.alone
+@tried_again
+def test_silent_client(run):
     """A client whose listener never answers holds back no client behind it, and is granted nothing."""
     with Listener(keep_silent) as silent, Listener(accept) as home, run() as server:
         first = server.client(1, silent)
@@ -335,14 +297,23 @@ def silent_client():
         second = server.client(2, home)
         seconds = expect_null_call(home).moment - begun
         second.borrow(b"a", BOTH)
+        slowest = slowest_answer(Client(server.peer(), 3))
         expect_none_granted(first, b"b")
-        entries = server.end()
-        check("the marks of the silent one", marks_of(entries, first), [])
-        check("the marks of the other one", marks_of(entries, second), [True])
-        check_time("CB_NULL", seconds, SOON)
+        entries = server.end(seconds=SOON)
+        expect("the marks of the silent one", marks_of(entries, first), [])
+        expect("the marks of the other one", marks_of(entries, second), [True])
+        expect_time("CB_NULL", seconds, SOON)
+        expect_time("a reply", slowest, SOON)
 
 
-def new_address(answer, is_up, late_answer, is_at_once):
+# When an old call is answered late: before the new one is heard, too, or behind it alone.
+when_answered = pytest.mark.parametrize("is_at_once", [True, False], ids=["at once", "late"])
+
+
+@when_answered
+@pytest.mark.parametrize("answer, is_up, late_answer", [(accept, True, refuse), (refuse, False, accept)],
+                         ids=["accepts, old one refuses", "refuses, old one accepts"])
+def test_new_address(run, answer, is_up, late_answer, is_at_once):
     """A client gives another address while the old one hangs, is called at the new one, and its path is as that says.
     What the old one answers late, once the new one is confirmed or has been called, marks nothing."""
     with Listener(keep_silent) as old, Listener(answer) as new, run() as server:
@@ -353,7 +324,7 @@ def new_address(answer, is_up, late_answer, is_at_once):
             late_answer(hanging)
         expect_null_call(new)
         late_answer(hanging)
-        check("the marks", server.marks(client, 1), [is_up])
+        expect("the marks", server.marks(client, 1), [is_up])
         expect_over(hanging)
         if is_up:
             client.borrow(b"a", BOTH)
@@ -361,11 +332,11 @@ def new_address(answer, is_up, late_answer, is_at_once):
             expect_none_granted(client, b"a")
         # Time for a mark that isn't to be.
         time.sleep(0.5)
-        check("the marks", marks_of(server.end(), client), [is_up])
-        check("how many calls came", (len(old.heard), len(new.heard)), (1, 1))
+        expect("the marks", marks_of(server.end(), client), [is_up])
+        expect("how many calls came", (len(old.heard), len(new.heard)), (1, 1))
 
 
-def recalls_before_new_address():
+def test_recalls_before_new_address(run):
     """Recalls go to the address that their client had when they were decided, also when it has given another one, and
     come before that is called. There they mark nothing any more."""
     with Listener(accept_null) as old, Listener(accept) as new, nobody() as callback, run() as server:
@@ -377,15 +348,17 @@ def recalls_before_new_address():
         wanted = holder.recall_of(lent[1])
         holder.introduce(callback_at(new.address))
         second, asked = heard_by(old, 2), expect_null_call(new)
-        check_record("CB_RECALL", second, recall_call(xid_of(second), wanted))
+        expect_record("CB_RECALL", second, recall_call(xid_of(second), wanted))
         for heard in first, second:
             expect_over(heard)
-        check("the xids rise", xid_of(first) < xid_of(second) < xid_of(asked), True)
-        check("the marks", server.marks(holder, 2), [True, True])
-        check("the marks", marks_of(server.end(), holder), [True, True])
+        expect("the xids rise", xid_of(first) < xid_of(second) < xid_of(asked), True)
+        expect("the marks", server.marks(holder, 2), [True, True])
+        expect("the marks", marks_of(server.end(), holder), [True, True])
 
 
-def slots_given_again(late_answer, is_at_once):
+@when_answered
+@pytest.mark.parametrize("late_answer", [refuse, accept], ids=["refused", "accepted"])
+def test_slots_given_again(run, late_answer, is_at_once):
     """Two clients begin anew while calls to them hang, a recall and a CB_NULL, and others get their slots. What is
     answered to the old calls, before the others are called or behind that, marks no path; and who had the delegation
     has ended."""
@@ -393,7 +366,7 @@ def slots_given_again(late_answer, is_at_once):
             Listener(keep_silent) as new, run() as server:
         holder, mute, other = server.client(1, old), server.client(2, silent), server.client(3, home)
         lent = holder.borrow(b"a", BOTH)
-        check("an OPEN of another file", other.open_by_name(b"b", READ).status, NFS4_OK)
+        expect("an OPEN of another file", other.open_by_name(b"b", READ).status, NFS4_OK)
         expect_delay(other, b"a", READ)
         hanging, newcomers = [expect_recall(old, holder, lent), expect_null_call(silent)], []
         for client, heard in zip((holder, mute), hanging):
@@ -401,37 +374,39 @@ def slots_given_again(late_answer, is_at_once):
             newcomers.append(server.client(client.uid + 3, new))
             if is_at_once:
                 late_answer(heard)
-        check("their numbers", [client.number for client in newcomers], [257, 258])
+        expect("their numbers", [client.number for client in newcomers], [257, 258])
         asked = [expect_null_call(new, place) for place in range(2)]
         for heard in hanging:
             late_answer(heard)
-        check("DELEGRETURN of who has ended", holder.give_back(lent), Status.EXPIRED)
-        check("the OPEN that waited", other.open_by_name(b"a", READ).status, NFS4_OK)
+        expect("DELEGRETURN of who has ended", holder.give_back(lent), Status.EXPIRED)
+        expect("the OPEN that waited", other.open_by_name(b"a", READ).status, NFS4_OK)
         for heard in hanging:
             expect_over(heard)
         # Time for marks that aren't to be.
         time.sleep(0.5)
         for heard in asked:
             accept(heard)
-        check("the marks", [server.marks(client, 1) for client in newcomers], [[True], [True]])
+        expect("the marks", [server.marks(client, 1) for client in newcomers], [[True], [True]])
         newcomers[0].borrow(b"b", READ)
         entries = server.end()
         marks = [marks_of(entries, client) for client in (holder, mute, *newcomers)]
-        check("the marks", marks, [[True], [], [True], [True]])
-        check("how many calls came", [len(listener.heard) for listener in (old, silent, new)], [2, 1, 2])
+        expect("the marks", marks, [[True], [], [True], [True]])
+        expect("how many calls came", [len(listener.heard) for listener in (old, silent, new)], [2, 1, 2])
 
 
-def bad_peer(bad, goes_on):
-    """One client's peer is bad: another client is called and granted a delegation, and calls are answered in time."""
+@pytest.mark.parametrize("goes_on, bad", [
+    pytest.param(goes_on, bad, id=bad.name + ("" if goes_on else ", so many connections"))
+    for bad in bad_peers() for goes_on in (True, False) if goes_on or bad.is_unanswered or bad.takes_connection])
+def test_bad_peer(run, goes_on, bad):
+    """One client's peer is bad: another client is called and granted a delegation, and calls are answered."""
     connections = None if goes_on else 3 + bad.takes_connection
-    with Listener(accept) as home, run(connections=connections) as server, bad.place(server.port) as place:
-        first, begun = server.client(1, place), time.monotonic()
-        second = server.client(2, home)
-        seconds = expect_null_call(home).moment - begun
+    with Listener(accept) as home, run(connections=connections) as server, bad.place(server.served.port) as place:
+        first, second = server.client(1, place), server.client(2, home)
+        expect_null_call(home)
         second.borrow(b"a", BOTH)
-        slowest = slowest_answer(Client(server.peer(), 3))
+        slowest_answer(Client(server.peer(), 3))
         if goes_on and not bad.is_unanswered:
-            check("the marks", server.marks(first, 1), [bad.mark])
+            expect("the marks", server.marks(first, 1), [bad.mark])
             for heard in place.heard if isinstance(place, Listener) else []:
                 expect_over(heard)
         if bad.mark:
@@ -441,10 +416,8 @@ def bad_peer(bad, goes_on):
         entries = server.end()
         marks, wanted = marks_of(entries, first), [] if bad.is_unanswered else [bad.mark]
         # A run of so many connections may end before the mark.
-        check("the marks", marks == wanted or not goes_on and marks == [], True)
-        check("the marks of the other one", marks_of(entries, second), [True])
-        check_time("CB_NULL", seconds, SOON)
-        check_time("a reply", slowest, SOON)
+        expect("the marks", marks == wanted or not goes_on and marks == [], True)
+        expect("the marks of the other one", marks_of(entries, second), [True])
 
 
 def slowest_answer(client):
@@ -459,53 +432,55 @@ def slowest_answer(client):
     return slowest
 
 
-def refused_socket():
+def test_refused_socket(run):
     """Where the process may have no more files open, no client is called, and no path is marked; once it may, it is."""
     limit = partial(setrlimit, RLIMIT_NOFILE, (FILES_OPEN, FILES_OPEN))
     with Listener(accept) as home, run(preexec_fn=limit) as server:
         client = Borrower(server.peer(), 1)
         client.null()
         idle = [server.peer()]
-        while is_served(idle[-1]):
+        while is_served(idle[-1]) or len(server.served.open_files()) < FILES_OPEN:
             idle.append(server.peer())
         client.introduce(callback_at(home.address))
         # Time for a mark that isn't to be.
         time.sleep(1)
-        check("how many calls came", len(home.heard), 0)
+        expect("how many calls came", len(home.heard), 0)
         for peer in reversed(idle):
             peer.socket.close()
         expect_null_call(home)
         client.borrow(b"a", BOTH)
-        check("the marks", marks_of(server.end(b"a connection isn't accepted; it is tried again"), client), [True])
+        expect("the marks", marks_of(server.end(b"a connection isn't accepted; it is tried again"), client), [True])
 
 
-def refused_thread():
+def test_refused_thread(run, preloaded):
     """Where the second thread can't be made, which calls clients back, no client is called, and no path is marked. The
     run says so at its end."""
-    environment = preloading(os.path.join(TOP, "tools/refuse_threads.c"), ROOM.name, REFUSED_THREAD="2")
+    environment = preloaded("refuse_threads.c", REFUSED_THREAD="2")
     with Listener(accept) as home, run(connections=1, env=environment) as server:
         client = server.client(1, home)
         expect_none_granted(client, b"a")
         # Time for a call that isn't to be.
         time.sleep(1)
         expect_none_granted(client, b"b")
-        check("the marks", marks_of(server.end(b"fault: no memory", status=1), client), [])
-        check("how many calls came", len(home.heard), 0)
+        expect("the marks", marks_of(server.end(b"fault: no memory", status=1), client), [])
+        expect("how many calls came", len(home.heard), 0)
 
 
 def is_served(peer):
     """Whether a call of a connection is answered soon; otherwise it waits for its turn."""
     peer.send(call(7, NULL))
     try:
-        return peer.receive(1) == reply(7)
+        return peer.receive(5) == reply(7)
     except TimeoutError:
         return False
 
 
-def many_recalls():
+@pytest.mark.alone
+@tried_again
+def test_many_recalls(run, path_of, tell):
     """Each of ten clients has a delegation of each of ten files, and all are recalled at once. Two clients don't answer
     recalls; each of the others gets all of its own in time, once, and in the order of the OPENs."""
-    tree = os.path.join(ROOM.name, "many.toml")
+    tree = path_of("many.toml")
     with open(tree, "w", encoding="utf-8") as file:
         file.writelines(f'[[file]]\npath = "{name.decode()}"\n' for name in [b"own", *NAMES])
     with ExitStack() as stack:
@@ -517,26 +492,25 @@ def many_recalls():
         moments = [expect_all_recalls(*each, place in MUTE) for place, each in enumerate(zip(homes, holders, lent))]
         seconds = [moment - begun for place, moment in enumerate(moments) if place not in MUTE]
         for place, holder in enumerate(holders):
-            check("the marks", server.marks(holder, 1 if place in MUTE else 11), [True] * (1 if place in MUTE else 11))
-        server.end()
-        check("how many calls came", [len(home.heard) for home in homes],
+            expect("the marks", server.marks(holder, 1 if place in MUTE else 11), [True] * (1 if place in MUTE else 11))
+        server.end(seconds=SOON)
+        expect("how many calls came", [len(home.heard) for home in homes],
               [2 if place in MUTE else 11 for place in range(HOLDERS)])
-        check_time("all recalls", max(seconds), SOON)
-        told.append(f"{HOLDERS * len(NAMES)} delegations of {HOLDERS} clients were recalled at once, of which "
-                    f"{len(MUTE)} never answered: the others had theirs after {min(seconds):.2f} to "
-                    f"{max(seconds):.2f} seconds")
+        expect_time("all recalls", max(seconds), SOON)
+        tell(f"{HOLDERS * len(NAMES)} delegations of {HOLDERS} clients were recalled at once, of which {len(MUTE)} "
+             f"never answered: the others had theirs after {min(seconds):.2f} to {max(seconds):.2f} seconds")
 
 
 def open_all(writer):
     """Opens all files to write, by calls that are sent at once, and all are DELAY: when they were sent."""
-    check("an OPEN of its own file", writer.open_by_name(b"own", READ).status, NFS4_OK)
+    expect("an OPEN of its own file", writer.open_by_name(b"own", READ).status, NFS4_OK)
     calls = [compound(place, words(PUTROOTFH), writer.words_of_open(name, WRITE), uid=writer.uid)
              for place, name in enumerate(NAMES)]
     begun = time.monotonic()
     writer.peer.send(b"".join(calls))
     delay = done(PUTROOTFH), done(OPEN, status=Status.DELAY)
     for place in range(len(NAMES)):
-        check("an OPEN of all files", writer.peer.receive(), results(place, Status.DELAY, *delay))
+        expect("an OPEN of all files", writer.peer.receive(), results(place, Status.DELAY, *delay))
     return begun
 
 
@@ -551,14 +525,14 @@ class Tool:
     """`tools/listen_callbacks` as a process, with these options."""
 
     def __init__(self, *options):
-        command = [os.path.join(TOP, "tools/listen_callbacks"), *options]
+        command = [sys.executable, os.path.join(TOP, "tools/listen_callbacks"), *options]
         self.process = subprocess.Popen(command, stdout=subprocess.PIPE, text=True)
         first = self.process.stdout.readline()
         found = re.fullmatch(r"listening on (127\.0\.0\.1):(\d+): r_netid tcp, r_addr (\S+)\n", first)
         if found is None:
             raise Wrong(f"listen_callbacks prints {first}")
         self.callback = callback_at((found[1], int(found[2])))
-        check("its r_addr", found[3].encode(), self.callback.address)
+        expect("its r_addr", found[3].encode(), self.callback.address)
 
     def __enter__(self):
         return self
@@ -576,7 +550,7 @@ class Tool:
         self.process.terminate()
         lines = "".join([*lines, self.process.communicate(timeout=PATIENCE)[0]]).splitlines()
         is_so = len(lines) == len(patterns) and all(map(re.fullmatch, patterns, lines))
-        check(f"that it prints {patterns}, where it prints {lines}", is_so, True)
+        expect(f"that it prints {patterns}, where it prints {lines}", is_so, True)
 
 
 @contextmanager
@@ -594,9 +568,9 @@ def ended_after(process, seconds):
 CALLED = r"\d\d:\d\d:\d\d\.\d{3} 127\.0\.0\.1:\d+, xid \d+, program 0x40000000, "
 
 
-def returning_tool():
+def test_returning_tool(run):
     """The tool gives a delegation back that is recalled, so that the OPEN that waits goes through."""
-    with Listener(accept) as home, run() as server, Tool("--return", f"127.0.0.1:{server.port}") as tool:
+    with Listener(accept) as home, run() as server, Tool("--return", f"127.0.0.1:{server.served.port}") as tool:
         holder, other = server.client(1, tool.callback), server.client(2, home)
         lent = holder.borrow(b"a", BOTH)
         other.open_by_name(b"b", READ)
@@ -609,7 +583,7 @@ def returning_tool():
         server.end()
 
 
-def silent_tool():
+def test_silent_tool(run):
     """The tool answers nothing."""
     with run() as server, Tool("--silent") as tool:
         client = server.client(1, tool.callback)
@@ -618,60 +592,3 @@ def silent_tool():
         expect_none_granted(client, b"a")
         tool.expect_lines(CALLED + "AUTH_NONE: CB_NULL")
         server.end()
-
-
-def scenarios():
-    """The scenarios by their names."""
-    yield "recall and return", partial(recall_and_return, False)
-    yield "recall and return of AUTH_NONE", partial(recall_and_return, True)
-    yield "revocation behind no answer", partial(revocation, keep_silent, [True])
-    yield "revocation behind OK", partial(revocation, accept, [True, True])
-    yield "revocation behind BADHANDLE", partial(revocation, deny_handle, [True, False])
-    yield "path down", path_down
-    yield "recall refused", refused_recall
-    yield "silent client", silent_client
-    for when, is_at_once in ("at once", True), ("late", False):
-        yield f"new address accepts, old one refuses {when}", partial(new_address, accept, True, refuse, is_at_once)
-        yield f"new address refuses, old one accepts {when}", partial(new_address, refuse, False, accept, is_at_once)
-    yield "recalls before a new address", recalls_before_new_address
-    for when, is_at_once in ("at once", True), ("late", False):
-        yield f"slots given again, old calls refused {when}", partial(slots_given_again, refuse, is_at_once)
-        yield f"slots given again, old calls accepted {when}", partial(slots_given_again, accept, is_at_once)
-    for bad in bad_peers():
-        yield f"bad peer {bad.name}", partial(bad_peer, bad, goes_on=True)
-        if bad.is_unanswered or bad.takes_connection:
-            yield f"bad peer {bad.name}, so many connections", partial(bad_peer, bad, goes_on=False)
-    yield "refused socket", refused_socket
-    yield "refused thread", refused_thread
-    yield "many recalls", many_recalls
-    yield "tool that returns", returning_tool
-    yield "tool that is silent", silent_tool
-
-
-def wrong_with(scenario):
-    """What is wrong with a scenario, or None; one that is late is tried again."""
-    for _ in range(TRIES):
-        try:
-            return scenario()
-        except Late as late:
-            wrong = late
-        except (Wrong, NotJournal, Unreadable, TimeoutError, OSError) as other:
-            return other
-    return wrong
-
-
-def main():
-    # Where this is ended, so are the servers.
-    signal.signal(signal.SIGTERM, lambda *_: sys.exit(1))
-    failed = 0
-    for name, scenario in scenarios():
-        wrong = wrong_with(scenario) if OPTIONS.only in name else None
-        if wrong is not None:
-            failed += 1
-            print(f"try_callbacks: {name}: {type(wrong).__name__}: {wrong}", file=sys.stderr)
-    print(f"try_callbacks: {checks} checks; {'; '.join(told)}")
-    return 1 if failed else 0
-
-
-if __name__ == "__main__":
-    sys.exit(main())

@@ -1,6 +1,5 @@
-#!/usr/bin/env python3
-"""try_memory [PROGRAM]: runs `nfs4state serve` as the gate has proved and built it, where memory is refused, up to the
-bound that `--memory` sets, and with a standard error that takes nothing.
+"""`nfs4state serve` over TCP where memory is refused, up to the bound that `--memory` sets, and with a standard error
+that takes nothing.
 
 Eight connections write under a limit of addresses (`ulimit -v`) until 1,000 calls were refused, 4 KiB a time and 64 KiB
 a time: each is answered, by SYSTEM_ERR or NFS4ERR_RESOURCE, or its connection ends, and a line tells or counts it. Who
@@ -9,46 +8,36 @@ connection ends, and a call is refused just where the entries would count more, 
 kind of call whose entry counts bytes, and READs, WRITEs and SETATTRs by their pages, by one connection and by eight at
 once. A lease that ends there ends all the same. Lines tell how near the bound is. 300,000 GETATTRs find room where no
 block of memory above 8 MiB is to be had. 5,000 connections that are reset leave a run to be served and to be ended
-whose standard error is full, and one where it is closed; what couldn't be told is counted. CC names the C compiler, if
-it isn't cc.
-
-Each wait has an end, so that a server that hangs is a failure; and whatever happens, no server is left."""
+whose standard error is full, and one where it is closed; what couldn't be told is counted."""
 import os
 import random
 import re
-import signal
 import subprocess
-import sys
 import threading
 import time
 from collections import Counter, namedtuple
 from concurrent.futures import ThreadPoolExecutor
 from resource import RLIMIT_AS, prlimit, setrlimit
 
-sys.dont_write_bytecode = True
+import pytest
+
+from gate.entry_memory import ENTRY, LISTED, counted, entry_len, entry_of, write_len
 from gate.told import Judge
-from gate.trial import ROOM, TOP, lawful_journal, path_of, read_options
+from gate.trial import Late, lawful_journal, peer_of, tried_again
 from model.attributes import SIZE
-from model.entries import Call, Expire, Forget, StrictReader, read_answer
-from model.journal import NotJournal
-from model.pages import PAGE, PART, pages_of
+from model.entries import Call, Expire
+from model.pages import PAGE, PART
 from model.program import Program
 from nfs4.client import Client, done, expect, Wrong
 from nfs4.messages import (CLOSE, GETATTR, GETFH, LOCK, LOCKT, NFS4_OK, NULL, OPEN, PUTFH, READ, READDIR,
                            RELEASE_LOCKOWNER, SETATTR, TYPE_SIZE_FILEID, WRITE, call, compound, handle, reply, results,
                            setclientid, words)
-from nfs4.preload import preloading
-from nfs4.served import PATIENCE, Peer, REPLY_PATIENCE, Served, tree_for_clients
-from nfs4.wire import (GUARDED4, NewLocker, OPEN4_CREATE, OWNER_LIMIT, Opnum, SYSTEM_ERR, Status, Unreadable, opaque,
-                       read_directory, record, u64)
-from sending.exchange import asked_of
+from nfs4.served import PATIENCE, PROGRAM, REPLY_PATIENCE, Served, tree_for_clients
+from nfs4.wire import GUARDED4, OPEN4_CREATE, OWNER_LIMIT, SYSTEM_ERR, Status, opaque, record, u64
 
-PROGRAM = read_options(__doc__).program
-TREE = tree_for_clients(ROOM.name)
 MIB = 1 << 20
-# What each entry counts; what each child in a listing does, beside its name and attributes; and the most bytes that a
-# file has.
-ENTRY, LISTED, FILE_LIMIT = 320, 160, 65536
+# The most bytes that a file has.
+FILE_LIMIT = 65536
 # The limit of addresses, in bytes, which leaves room for the threads' stacks and for arenas of the C library; the
 # workers; and the connections that write, with the calls that each has under way.
 ADDRESSES, WORKERS, WRITERS, UNDER_WAY = 1_000_000 << 10, 12, 8, 8
@@ -57,10 +46,9 @@ ADDRESSES, WORKERS, WRITERS, UNDER_WAY = 1_000_000 << 10, 12, 8, 8
 REFUSED, REFUSED_OR_ENDED = 1000, 4000
 # The seconds that a connection waits that comes again; those in which all this has to come; and those after which what
 # came was looked at.
-PAUSE, MOST_SECONDS, LATELY = 0.005, 60, 2.5
-# The seconds in which a run ends with its input: one that has a journal of hundreds of MB to write, on however busy a
-# machine; and others, in one of three tries.
-SOON, AT_ONCE = 30, 2
+PAUSE, MOST_SECONDS, LATELY = 0.005, 240, 2.5
+# The seconds in which a run ends with its input where nobody reads what it tells.
+AT_ONCE = 2
 # No more than this is given out at once, and so many GETATTRs come.
 LARGEST, GETATTRS = 8 << 20, 300_000
 # The connections that are reset; and the threads of the race, with the calls of each.
@@ -69,22 +57,17 @@ RESETS, RACERS, RACES = 5000, 8, 300
 OK, RESOURCE, ENDED = "NFS4_OK", "NFS4ERR_RESOURCE", "the end of its connection"
 # The file that is read and written, a stateid by which nobody opened it, and an attribute's number.
 FILE, ANYBODY, FILEID = 1, words(0, 0, 0, 0), 20
-told = []
 
 
-def serve(*options, until=("--until-input-ends",), **how):
-    """A server that has begun, which goes on until its input ends, unless it is to end otherwise."""
-    how = {"stdin": subprocess.PIPE, **how}
-    return Served([PROGRAM, "serve", "--listen", "127.0.0.1:0", "--tree", TREE, *until, *options], **how)
+@pytest.fixture
+def serve(path_of):
+    """Begins a server, which goes on until its input ends, unless it is to end otherwise."""
+    tree = tree_for_clients(path_of(""))
 
-
-def peer_of(served):
-    if served.port is None:
-        raise Wrong(f"it doesn't listen: {served.end()}")
-    try:
-        return Peer(("127.0.0.1", served.port))
-    except TimeoutError:
-        raise Wrong(f"it takes no connection in {REPLY_PATIENCE} seconds") from None
+    def begin(*options, until=("--until-input-ends",), **how):
+        how = {"stdin": subprocess.PIPE, **how}
+        return Served([PROGRAM, "serve", "--listen", "127.0.0.1:0", "--tree", tree, *until, *options], **how)
+    return begin
 
 
 # What a run tells.
@@ -130,18 +113,24 @@ class Lines:
         return tenths
 
 
-def expect_end(served, seconds=SOON, status=0):
-    """It ends with its input, so soon, and with this status: its lines."""
-    begun = time.monotonic()
+def expect_end(served):
+    """It ends with its input: its lines."""
     if served.program.stdin is not None:
         served.end_input()
-    got, output, errors = served.end()
-    took = time.monotonic() - begun
-    if (got, output) != (status, b""):
-        raise Wrong(f"it ends with {got}, wanted {status}, and with these lines at last: {errors[-2000:].decode()}")
-    if took > seconds:
-        raise Wrong(f"it ends {took:.1f} seconds after its input, wanted {seconds}")
+    status, output, errors = served.end()
+    if (status, output) != (0, b""):
+        raise Wrong(f"it ends with {status}, and with these lines at last: {errors[-2000:].decode()}")
     return Lines(errors)
+
+
+def wait_for_line(served, pattern):
+    """Waits until it tells a line like this, which its end gives with those before it."""
+    begun = len(served.errors)
+    while line := served.next_line():
+        served.errors += line
+        if re.fullmatch(pattern, line.decode().rstrip("\n")):
+            return
+    raise Wrong(f"it tells no {pattern}, but {served.errors[begun:]}")
 
 
 def threads_of(served):
@@ -154,102 +143,6 @@ def threads_of(served):
             return seen[-1]
         time.sleep(0.1)
     raise Wrong(f"its threads come and go: {seen[-10:]}")
-
-
-# What entries count.
-
-def read_len(offset, length):
-    """A READ of so many bytes: a part of a page is no copy, unless it is short."""
-    return 0 if PART <= length <= PAGE - offset % PAGE else length
-
-
-def write_len(offset, length):
-    """A WRITE of so many bytes that is done: each page that it covers in part is made."""
-    if length == 0:
-        return 0
-    end = offset + length
-    made = [page for page in pages_of(offset, end) if page * PAGE < offset or end < (page + 1) * PAGE]
-    return length + PAGE * len(made)
-
-
-def given_len(arguments, answer):
-    is_done = answer.status == Status.OK
-    return read_len(arguments.offset, int.from_bytes(answer.rest[4:8], "big")) if is_done else 0
-
-
-def written_len(arguments, answer):
-    length = len(arguments.data)
-    return write_len(arguments.offset, length) if answer.status == Status.OK else length
-
-
-def mask_len(mask):
-    return 4 * len(mask)
-
-
-def attributes_len(mask, values):
-    return mask_len(mask) + len(values)
-
-
-def listed_len(arguments, answer):
-    """A READDIR: the list of entries, which journal and reply share, is kept with it."""
-    _, listed, _ = read_directory(StrictReader(answer.rest)) if answer.status == Status.OK else (None, [], None)
-    return mask_len(arguments.mask) + sum(LISTED + len(it.name) + attributes_len(*it.attributes) for it in listed)
-
-
-def set_len(arguments, answer):
-    """A SETATTR: as a WRITE it makes the page that it covers in part, in which the file ends then."""
-    mask, values = arguments.attributes
-    has_size = answer.status == Status.OK and mask and mask[0] & 1 << SIZE
-    is_in_part = has_size and int.from_bytes(values[:8], "big") % PAGE > 0
-    return attributes_len(mask, values) + PAGE * is_in_part
-
-
-def open_len(arguments):
-    """The names, and the attributes with which a file is to be created, if it is, and if not by a verifier alone."""
-    value, names = arguments.how.value, len(arguments.owner.name) + len(arguments.claim.name or b"")
-    return names + (attributes_len(*value) if isinstance(value, tuple) else 0)
-
-
-def setclientid_len(arguments):
-    return len(arguments.id) + len(arguments.callback.netid) + len(arguments.callback.address)
-
-
-def locker_len(locker):
-    return len(locker.owner.name) if isinstance(locker, NewLocker) else 0
-
-
-# What an entry counts beside `ENTRY`, by its operation.
-OWN = {
-    Opnum.WRITE: written_len,
-    Opnum.READ: given_len,
-    Opnum.READDIR: listed_len,
-    Opnum.SETATTR: set_len,
-    Opnum.GETATTR: lambda arguments, _: mask_len(arguments.mask),
-    Opnum.OPEN: lambda arguments, _: open_len(arguments),
-    Opnum.SETCLIENTID: lambda arguments, _: setclientid_len(arguments),
-    Opnum.LOCK: lambda arguments, _: locker_len(arguments.locker),
-    Opnum.LOCKT: lambda arguments, _: len(arguments.owner.name),
-    Opnum.RELEASE_LOCKOWNER: lambda arguments, _: len(arguments.owner.name)}
-
-
-def entry_len(entry):
-    """What an entry counts."""
-    if isinstance(entry, Forget):
-        return ENTRY + len(entry.owner.name)
-    has_own = isinstance(entry, Call) and entry.opnum in OWN
-    return ENTRY + (OWN[entry.opnum](entry.arguments, entry.answer) if has_own else 0)
-
-
-def counted(entries):
-    """What these entries count."""
-    return sum(map(entry_len, entries))
-
-
-def entry_of(sent, got):
-    """The entry of a call's last operation, by that and by its answer."""
-    asked, reader = asked_of(sent[4:]).operations, StrictReader(got[40:])
-    answers = [read_answer(reader) for _ in asked]
-    return Call(None, None, None, Opnum(asked[-1].number), asked[-1].arguments, answers[-1])
 
 
 def entries_of(path):
@@ -386,7 +279,8 @@ def come_again(served, tally):
     raise Wrong("of 1,000 connections none is served after the memory ran out")
 
 
-def try_limited(kib):
+@pytest.mark.parametrize("kib", [4, 64])
+def test_limited(serve, path_of, tell, kib):
     """Under a limit of addresses."""
     path, limit = path_of("limited.journal"), lambda: setrlimit(RLIMIT_AS, (ADDRESSES, ADDRESSES))
     begun, tally = time.monotonic(), Tally()
@@ -407,27 +301,20 @@ def try_limited(kib):
     found, least = entries_of(path), tally.ends[OK] + tally.ends["GETATTR"]
     if not least <= found <= least + tally.ends["unanswered"]:
         raise Wrong(f"the journal has {found} entries, and the calls were answered like this: {dict(tally.ends)}")
-    os.remove(path)
-    told.append(f"under {ADDRESSES >> 10} KB of addresses, of which {in_use} were in use, WRITEs of {kib} KiB had "
-                f"{tally.ends[OK]} answers OK, {tally.ends[RESOURCE]} RESOURCE and {tally.ends['SYSTEM_ERR']} "
-                f"SYSTEM_ERR, and {tally.ends[ENDED]} connections ended, in {time.monotonic() - begun:.0f} seconds")
+    tell(f"under {ADDRESSES >> 10} KB of addresses, of which {in_use} were in use, WRITEs of {kib} KiB had "
+         f"{tally.ends[OK]} answers OK, {tally.ends[RESOURCE]} RESOURCE and {tally.ends['SYSTEM_ERR']} SYSTEM_ERR, and "
+         f"{tally.ends[ENDED]} connections ended, in {time.monotonic() - begun:.0f} seconds")
 
 
-def try_limited_4():
-    try_limited(4)
-
-
-def try_limited_64():
-    try_limited(64)
-
-
-def try_beforehand():
-    """A worker has what a connection needs of memory, but for its records, before it accepts one: where no more is to be
-    had from then on, the next one is served, and ends with a record that is long."""
+def test_beforehand(serve):
+    """A worker has what a connection needs of memory, but for its records, before it accepts one: where no more is to
+    be had from then on, the next one is served, and ends with a record that is long."""
     # With one arena nothing is set aside for a thread.
     with serve("--connections", "1", env={**os.environ, "MALLOC_ARENA_MAX": "1"}) as served:
         size, until = None, time.monotonic() + PATIENCE
         # Its threads have begun, and nothing asks for memory any more.
+        expect("a thread that calls clients back", served.has_caller(PATIENCE), True)
+        threads_of(served)
         while size != (size := served.addresses()) and time.monotonic() < until:
             time.sleep(0.5)
         prlimit(served.program.pid, RLIMIT_AS, (size, size))
@@ -438,20 +325,20 @@ def try_beforehand():
         expect_end(served).expect_ended(1, "no memory")
 
 
-def try_bounded():
+@pytest.mark.parametrize("kib", [4, 64])
+def test_bounded(serve, path_of, kib):
     """Under a bound of the entries' memory, and without a limit of addresses, no connection ends."""
-    for kib, bound in (4, 600), (64, 600):
-        path, tally = path_of("bounded.journal"), Tally()
-        with serve("--connections", str(WORKERS), "--memory", str(bound), "--journal", path) as served:
-            write_by_all(served, bytes(kib << 10), tally)
-            time.sleep(LATELY)
-            lines = expect_end(served)
-        lines.expect_ended(0, None)
-        lines.expect_memory(bound, True)
-        ends = dict(tally.ends)
-        if set(ends) != {OK, RESOURCE} or ends[OK] != bound * MIB // (ENTRY + write_len(0, kib << 10)):
-            raise Wrong(f"WRITEs of {kib} KiB under a bound of {bound} MiB get {ends}")
-        expect("the entries", entries_of(path), ends[OK])
+    path, tally, bound = path_of("bounded.journal"), Tally(), 600
+    with serve("--connections", str(WORKERS), "--memory", str(bound), "--journal", path) as served:
+        write_by_all(served, bytes(kib << 10), tally)
+        wait_for_line(served, "the memory is full.*")
+        lines = expect_end(served)
+    lines.expect_ended(0, None)
+    lines.expect_memory(bound, True)
+    ends = dict(tally.ends)
+    if set(ends) != {OK, RESOURCE} or ends[OK] != bound * MIB // (ENTRY + write_len(0, kib << 10)):
+        raise Wrong(f"WRITEs of {kib} KiB under a bound of {bound} MiB get {ends}")
+    expect("the entries", entries_of(path), ends[OK])
 
 
 # At the bound.
@@ -584,52 +471,45 @@ KINDS = {
         lambda client, own: release_words(b"l" * own, client.clientid()), Status.OK, FILE, growing(0))}
 
 
-def at_bound(kind, length, own, more, path):
+@pytest.mark.parametrize("kind", KINDS.values(), ids=KINDS.keys())
+def test_kinds(serve, path_of, kind):
     """A call of the kind of so many bytes, where there is room for just what its entry counts: one that counts more is
     refused, which changes nothing, and it isn't; and then each other one is."""
-    with serve("--memory", "1", "--journal", path) as served:
-        counted = Counted(served, MIB)
-        counted.introduce()
-        counted.open_file()
-        counted.write(FILE_LIMIT)
-        counted.fill(ENTRY + own)
-        counted.ask(kind.operation(counted.client, more), Status.RESOURCE, kind.node)
-        counted.ask(kind.operation(counted.client, length), kind.status, kind.node)
-        expect("what is counted", counted.count, MIB)
-        counted.refuse_all()
-        counted.peer.socket.close()
-        expect_end(served).expect_ended(0, None)
-    counted.expect_entries(path)
-
-
-def try_kinds():
-    for place, (name, kind) in enumerate(KINDS.items()):
-        for length, own, more in kind.cases:
-            try:
-                at_bound(kind, length, own, more, path_of(f"kind{place}.{length}.journal"))
-            except Wrong as wrong:
-                raise Wrong(f"{name} of {length} bytes: {wrong}") from None
-    told.append(f"at the bound {len(KINDS)} kinds of calls are taken that fit, and are refused where they count more")
-
-
-def try_near():
-    """One byte before the bound all calls are refused; so they are with a byte less than an entry's, and with those one
-    that counts no others is taken."""
-    for left in 0, 1, ENTRY - 1, ENTRY:
-        path = path_of(f"near{left}.journal")
+    for length, own, more in kind.cases:
+        path = path_of(f"{length}.journal")
         with serve("--memory", "1", "--journal", path) as served:
             counted = Counted(served, MIB)
-            counted.fill(left)
-            if left == ENTRY:
-                counted.write(1, Status.RESOURCE)
-                counted.ask(words(GETATTR, 0), Status.OK)
+            counted.introduce()
+            counted.open_file()
+            counted.write(FILE_LIMIT)
+            counted.fill(ENTRY + own)
+            counted.ask(kind.operation(counted.client, more), Status.RESOURCE, kind.node)
+            counted.ask(kind.operation(counted.client, length), kind.status, kind.node)
+            expect("what is counted", counted.count, MIB)
             counted.refuse_all()
             counted.peer.socket.close()
             expect_end(served).expect_ended(0, None)
         counted.expect_entries(path)
 
 
-def try_sweep():
+@pytest.mark.parametrize("left", [0, 1, ENTRY - 1, ENTRY])
+def test_near(serve, path_of, left):
+    """One byte before the bound all calls are refused; so they are with a byte less than an entry's, and with those one
+    that counts no others is taken."""
+    path = path_of("near.journal")
+    with serve("--memory", "1", "--journal", path) as served:
+        counted = Counted(served, MIB)
+        counted.fill(left)
+        if left == ENTRY:
+            counted.write(1, Status.RESOURCE)
+            counted.ask(words(GETATTR, 0), Status.OK)
+        counted.refuse_all()
+        counted.peer.socket.close()
+        expect_end(served).expect_ended(0, None)
+    counted.expect_entries(path)
+
+
+def test_sweep(serve, path_of):
     """At the bound a lease ends, which makes an entry above it, and the client is gone."""
     path = path_of("sweep.journal")
     with serve("--memory", "1", "--lease", "1", "--journal", path) as served:
@@ -639,7 +519,7 @@ def try_sweep():
         counted.lock()
         counted.fill(0)
         counted.refuse_all()
-        for _ in range(3):
+        for _ in range(5):
             # Longer than the lease, and than a sweep takes to come.
             time.sleep(3)
             counted.client.ask(counted.client.renew_words())
@@ -656,7 +536,7 @@ def try_sweep():
     expect("what is counted", counted.count, MIB)
 
 
-def try_counted_connections():
+def test_counted_connections(serve, path_of):
     """The bound is there where a run ends after so many connections, too, and a line tells at the end that a call was
     refused, and no other line does."""
     path = path_of("counted.journal")
@@ -669,18 +549,22 @@ def try_counted_connections():
     counted.expect_entries(path)
 
 
-def try_lines():
+def test_lines(serve, path_of):
     """The last tenth that was passed since the last look is told, once, and at last that the memory is full."""
     path, bound = path_of("lines.journal"), 20
     with serve("--memory", str(bound), "--journal", path) as served:
         counted = Counted(served, bound * MIB)
-        # Up to 5.5 MiB, 5.9, 13.5 and the bound.
-        for left in (29 * MIB // 2, 141 * MIB // 10, 13 * MIB // 2, 0):
+        # Up to 5.5 MiB, 5.9, of which no line has to tell, 13.5 and the bound.
+        for left, told in ((29 * MIB // 2, "[45]"), (141 * MIB // 10, None), (13 * MIB // 2, "1[23]"), (0, "18|19|20")):
             counted.fill(left)
-            time.sleep(LATELY)
+            if told is None:
+                time.sleep(LATELY)
+            else:
+                wait_for_line(served, f"memory: ({told}) of {bound} MiB")
+        counted.refuse_all()
+        wait_for_line(served, "the memory is full.*")
         counted.refuse_all()
         time.sleep(LATELY)
-        counted.refuse_all()
         counted.peer.socket.close()
         tenths = expect_end(served).expect_memory(bound, True)
     # A look may also come while it is filled.
@@ -714,7 +598,7 @@ def race(served, uid, all_here):
     return asked
 
 
-def try_race():
+def test_race(serve, path_of, tell):
     """By several at once: what the accepted entries count never passes the bound, and each call that was refused would
     have."""
     path, bound = path_of("race.journal"), 2
@@ -722,7 +606,7 @@ def try_race():
         all_here = threading.Barrier(RACERS)
         jobs = [pool.submit(race, served, uid, all_here) for uid in range(RACERS)]
         asked = [job.result() for job in jobs]
-        time.sleep(LATELY)
+        wait_for_line(served, "the memory is full.*")
         lines = expect_end(served)
     lines.expect_ended(0, None)
     lines.expect_memory(bound, True)
@@ -736,17 +620,16 @@ def try_race():
         judge.expect_link(b"".join(one.sent for one in taken), b"".join(one.got for one in taken), numbers)
         wrong = [one.most for one in some if status_of(one.got) == Status.RESOURCE and count + one.most <= bound * MIB]
         if wrong:
-            raise Wrong(f"of user {uid} calls are refused that count {wrong} bytes where {bound * MIB - count} are left")
-    told.append(f"{RACERS} connections at once came up to {bound * MIB - count} bytes before a bound")
+            raise Wrong(f"of user {uid} calls are refused that count {wrong} bytes, and {bound * MIB - count} are left")
+    tell(f"{RACERS} connections at once came up to {bound * MIB - count} bytes before a bound")
 
 
 # No large blocks.
 
-def try_large():
+def test_large(serve, path_of, preloaded):
     """No list of the entries asks for much at once."""
     path, mark = path_of("large.journal"), path_of("large.mark")
-    environment = preloading(os.path.join(TOP, "tools/refuse_large.c"), ROOM.name, REFUSED_ABOVE=str(LARGEST),
-                             REFUSED_MARK=mark)
+    environment = preloaded("refuse_large.c", REFUSED_ABOVE=str(LARGEST), REFUSED_MARK=mark)
     each, some = 60, 20
     sent = compound(1, words(PUTFH) + handle(FILE), *[words(GETATTR, 1, TYPE_SIZE_FILEID)] * each) * some
     has = done(GETATTR, words(1, TYPE_SIZE_FILEID, 20, 1, 0, 5, 0, 2))
@@ -802,7 +685,7 @@ def expect_journal_of(path, client):
     Judge(journal).expect_link(b"".join(client.sent), b"".join(client.got), range(len(journal.entries)))
 
 
-def expect_soon(served):
+def end(served):
     """It ends with its input, also where nobody reads what it tells: after how many seconds."""
     begun = time.monotonic()
     served.end_input()
@@ -813,26 +696,26 @@ def expect_soon(served):
     return time.monotonic() - begun
 
 
-def try_full_errors():
+@pytest.mark.alone
+@tried_again
+def test_full_errors(serve, path_of, tell):
     """Where nobody reads its standard error, which is full, it serves on and ends."""
-    took = []
-    while not took or took[-1] > AT_ONCE:
-        if len(took) == 3:
-            raise Wrong(f"a run whose standard error is full ends {min(took):.1f} seconds after its input")
-        path = path_of(f"full{len(took)}.journal")
-        with serve("--journal", path) as served:
-            # Its second line is there, too, before there is no more room.
-            served.read_line()
-            fill_errors(served)
-            reset_all(served, RESETS)
-            client = expect_served(served)
-            took.append(expect_soon(served))
-        expect_journal_of(path, client)
-    told.append(f"a run whose standard error is full ended {took[-1]:.1f} seconds after its input, behind {RESETS} "
-                "connections that were reset")
+    path = path_of("full.journal")
+    with serve("--journal", path) as served:
+        # Its second line is there, too, before there is no more room.
+        served.read_line()
+        fill_errors(served)
+        reset_all(served, RESETS)
+        client = expect_served(served)
+        took = end(served)
+    expect_journal_of(path, client)
+    if took > AT_ONCE:
+        raise Late(f"a run whose standard error is full ends {took:.1f} seconds after its input")
+    tell(f"a run whose standard error is full ended {took:.1f} seconds after its input, behind {RESETS} connections "
+         "that were reset")
 
 
-def try_read_late():
+def test_read_late(serve):
     """What found no room is counted, and told once there is some: each connection is told, or counted."""
     with serve() as served:
         served.read_line()
@@ -850,7 +733,7 @@ def try_read_late():
         raise Wrong(f"{sum(lines.ended.values())} lines tell of connections")
 
 
-def try_closed_errors():
+def test_closed_errors(serve, path_of):
     """Where its standard error is closed, it serves on and ends."""
     path = path_of("closed.journal")
     with serve("--journal", path) as served:
@@ -859,28 +742,5 @@ def try_closed_errors():
         reset_all(served, 100)
         client = expect_served(served)
         served.program.stderr = None
-        took = expect_soon(served)
+        end(served)
     expect_journal_of(path, client)
-    if took > SOON:
-        raise Wrong(f"it ends {took:.1f} seconds after its input")
-
-
-PARTS = (try_limited_4, try_limited_64, try_beforehand, try_bounded, try_kinds, try_near, try_sweep,
-         try_counted_connections, try_lines, try_race, try_large, try_full_errors, try_read_late, try_closed_errors)
-
-
-def main():
-    # Where this is ended, so are the servers.
-    signal.signal(signal.SIGTERM, lambda *_: sys.exit(1))
-    for part in PARTS:
-        try:
-            part()
-        except TimeoutError:
-            sys.exit(f"try_memory: {part.__name__}: a reply that is wanted doesn't come in {REPLY_PATIENCE} seconds")
-        except (Wrong, NotJournal, Unreadable, OSError, threading.BrokenBarrierError) as wrong:
-            sys.exit(f"try_memory: {part.__name__}: {type(wrong).__name__}: {wrong}")
-    ROOM.cleanup()
-    print("try_memory: " + "; ".join(told))
-
-
-main()

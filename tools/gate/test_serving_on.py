@@ -1,14 +1,10 @@
-#!/usr/bin/env python3
-"""try_serving_on [PROGRAM]: runs `nfs4state serve` as the gate has proved and built it, with the options by which it
-takes one connection after the other, and talks to it over TCP.
+"""`nfs4state serve` over TCP with the options by which it takes one connection after the other.
 
 180 connections come in turn, and 64 at once, over one run, which ends with its input: its journal is lawful, and the
 replies to each connection stand in it. A run that is killed leaves a beginning of its journal. One whose input ends
 while 20 connections are busy gives all replies under way, and ends within two seconds. Connections outlive a stop of
 the process. What ends a connection is told and is no fault; a client that never reads doesn't keep the run from ending.
-What had come by the end is answered. Where no more files may be open, a line says so, and who waits is served later.
-
-Each wait has an end, so that a server that hangs is a failure; and whatever happens, no server is left."""
+What had come by the end is answered. Where no more files may be open, a line says so, and who waits is served later."""
 import os
 import re
 import signal
@@ -19,29 +15,28 @@ import time
 from concurrent.futures import ThreadPoolExecutor
 from resource import RLIMIT_FSIZE, RLIMIT_NOFILE, setrlimit
 
-sys.dont_write_bytecode = True
+import pytest
+
 from gate.crowd import MOST, never_read, reset
 from gate.told import Judge
-from gate.trial import TOP, expect_in_journal, lawful_journal, path_of, peer_of, read_options, run_parts
+from gate.trial import Late, expect_in_journal, judged, lawful_journal, peer_of, tried_again
 from model.journal import Growing, journal_bytes
 from model.program import bytes_of
 from model.server import CLIENTS_LIMIT
 from nfs4.client import FILES, Client, done, expect, Wrong
 from nfs4.messages import (GETATTR, NFS4ERR_RESOURCE, NFS4_OK, NULL, PUTROOTFH, SETCLIENTID, call, compound, opening,
                            reply, results, setclientid, words)
-from nfs4.served import NO_CALLBACKS, PATIENCE, Served
+from nfs4.served import NO_CALLBACKS, PATIENCE, PROGRAM, REPLY_PATIENCE, Served, TOP
 from nfs4.wire import opaque
 
-PROGRAM = read_options(__doc__).program
 # The connections that come in turn, each with a client, and those that are busy when the input ends; and the long calls
 # that come just before it does.
 TURNS, BUSY, LONG = 180, 20, 4
-# The seconds in which a run has to end with its input, on however busy a machine, and in which one with busy connections
-# has to in one of three tries; and those after which what came is in its journal as it goes.
-SOON, BUSY_SOON, LATELY = 15, 2, 2.5
+# The seconds in which a run has to end with its input, on however busy a machine, and in which one with busy
+# connections has to; and those after which what came is in its journal as it goes.
+SOON, BUSY_SOON, LATELY = 30, 2, 2.5
 # An owner of a client that isn't there.
 NOBODY = words(1, 7) + opaque(b"o")
-told = []
 
 
 def serve(*options, until="--until-input-ends", **how):
@@ -88,12 +83,12 @@ def be_client_at_once(served, uid, all_here):
     with peer_of(served) as peer:
         client = Client(peer, uid)
         client.introduce()
-        all_here.wait(60)
+        all_here.wait(PATIENCE)
         client.round(list(FILES)[uid % len(FILES)])
     return client
 
 
-def try_many():
+def test_many(path_of, tell):
     path = path_of("many.journal")
     with ThreadPoolExecutor(MOST) as pool, serve("--journal", path) as served:
         begun = time.monotonic()
@@ -104,11 +99,8 @@ def try_many():
         clients += [job.result() for job in jobs]
         expect_end(served, f"no more connections: {MOST} of {MOST}")
     expect_no_part(path)
-    judge = Judge(lawful_journal(PROGRAM, path))
-    for client in clients:
-        expect_in_journal(judge, client)
-    judge.expect_ends()
-    told.append(f"{TURNS} connections in turn took {took:.1f} seconds")
+    judged(path, *clients)
+    tell(f"{TURNS} connections in turn took {took:.1f} seconds")
 
 
 # The journal as it goes.
@@ -123,9 +115,14 @@ def beginning(data):
     return growing.head._replace(entries=entries)
 
 
+def calls_on_state(client):
+    """How many entries a client's calls have: one each, but for RENEW."""
+    return len([sent for sent in client.sent if client.renew_words() not in sent])
+
+
 def part_of(path, least):
     """The journal as it goes, once it has so many entries."""
-    until = time.monotonic() + 20
+    until = time.monotonic() + REPLY_PATIENCE
     while time.monotonic() < until:
         data = bytes_of(path + ".part")
         try:
@@ -138,16 +135,16 @@ def part_of(path, least):
     raise Wrong(f"no journal as it goes, with {least} entries")
 
 
-def expect_shown(path, entries):
+def expect_shown(path, saved, entries):
     """It is shown, an entry a line, and saved as a journal that is lawful."""
-    show, saved = os.path.join(TOP, "tools/show_journal"), path_of("saved.journal")
-    shown = subprocess.run([show, path], stdout=subprocess.PIPE, check=True).stdout.splitlines()
+    show = [sys.executable, os.path.join(TOP, "tools/show_journal")]
+    shown = subprocess.run([*show, path], stdout=subprocess.PIPE, check=True).stdout.splitlines()
     expect("the lines", len(shown) - entries in (0, 1), True)
-    subprocess.run([show, "--save", saved, path], stdout=subprocess.PIPE, check=True)
+    subprocess.run([*show, "--save", saved, path], stdout=subprocess.PIPE, check=True)
     expect("the entries", len(lawful_journal(PROGRAM, saved).entries), entries)
 
 
-def try_killed():
+def test_killed(path_of):
     """A run that is killed leaves a beginning of its journal, which has what came a while before. What an earlier run
     left has another name then, in place of what had that name. It never looks at its input, which has ended."""
     path, last = path_of("killed.journal"), b"an earlier one"
@@ -157,7 +154,7 @@ def try_killed():
         with serve("--journal", path, until="--until-killed", stdin=subprocess.DEVNULL) as served:
             expect("the beginning", len(beginning(part_of(path, 0)).entries), 0)
             clients = [be_client(served, uid, 2) for uid in range(3 + turn)]
-            time.sleep(LATELY)
+            part_of(path, sum(map(calls_on_state, clients)))
             served.program.kill()
             expect("the end", served.end(), (-signal.SIGKILL, b"", b""))
         expect("a journal", os.path.exists(path), False)
@@ -165,18 +162,22 @@ def try_killed():
         judge = Judge(beginning(part))
         for client in clients:
             expect_in_journal(judge, client)
-        expect_shown(path + ".part", len(judge.journal.entries))
+        expect_shown(path + ".part", path_of("saved.journal"), len(judge.journal.entries))
         expect("what the run before left", bytes_of(path + ".part.old"), last)
         last = part
 
 
-def try_journal():
-    """While a run goes on, the beginning of its journal is there; once the journal stands, it isn't any more."""
+@tried_again
+def test_journal(path_of):
+    """While a run goes on, the beginning of its journal is there, with what came a while before; once the journal
+    stands, it isn't any more."""
     path = path_of("whole.journal")
     with serve("--journal", path) as served:
         client = be_client(served, 1, 3)
-        time.sleep(LATELY)
-        part = bytes_of(path + ".part")
+        begun = time.monotonic()
+        part = part_of(path, calls_on_state(client))
+        if (seconds := time.monotonic() - begun) > LATELY:
+            raise Late(f"the journal as it goes has what came {seconds:.1f} seconds before")
         expect_in_journal(Judge(beginning(part)), client)
         expect("a journal", os.path.exists(path), False)
         be_client(served, 2, 3)
@@ -188,7 +189,7 @@ def try_journal():
     expect("its head", part[:len(empty)], empty)
 
 
-def try_long_entries():
+def test_long_entries(path_of):
     """Entries of 250,000 bytes, and as many short ones as are written in several pieces. At last come so many long ones
     that they aren't there in time if a second goes by from one to the next."""
     path, open_long = path_of("long.journal"), opening(0, 3, 0, NOBODY, bytes(250000))
@@ -211,7 +212,7 @@ def try_long_entries():
     expect("the journal as it went", part[len(empty):], bytes_of(path)[len(empty):])
 
 
-def try_unwritten():
+def test_unwritten(path_of):
     """Where the journal as it goes can't be written, or can't take the place of an earlier one, a line says so, and the
     run goes on; where the journal can't be, the other is brought up to the last entry, and stays."""
     missing, folder, taken = path_of("missing/run.journal"), path_of("folder"), path_of("taken.journal")
@@ -246,7 +247,7 @@ def limit_files():
     setrlimit(RLIMIT_FSIZE, (100000, 100000))
 
 
-def try_cut():
+def test_cut(path_of):
     """Where a write of the journal as it goes fails after a while, a line says so, once, and a beginning stands."""
     path, open_long = path_of("cut.journal"), opening(0, 3, 0, NOBODY, bytes(90000))
     long_call = compound(1, words(PUTROOTFH), open_long)
@@ -293,17 +294,10 @@ def be_busy(served, uid, counts):
     return len([one for one in got if one])
 
 
-def try_busy_end():
-    """A run whose connections are busy when the input ends ends soon."""
-    for _ in range(3):
-        took = run_busy()
-        if took <= BUSY_SOON:
-            return told.append(f"a run with {BUSY} busy connections ended {took:.1f} seconds after its input")
-    raise Wrong(f"a run with {BUSY} busy connections ends after {took:.1f} seconds")
-
-
-def run_busy():
-    """The input ends while connections are busy, another one is silent, and one never reads: how long the end takes."""
+@pytest.mark.alone
+@tried_again
+def test_busy_end(path_of, tell):
+    """The input ends while connections are busy, another one is silent, and one never reads: the run ends soon."""
     path, counts = path_of("busy.journal"), {}
     with ThreadPoolExecutor(BUSY + 1) as pool, serve("--journal", path) as served:
         silent, over, full = peer_of(served), threading.Event(), threading.Event()
@@ -323,10 +317,12 @@ def run_busy():
     numbers = [entry.principal[1] for entry in lawful_journal(PROGRAM, path).entries]
     for uid in range(BUSY):
         expect(f"the replies to {uid}", 5 * counts[uid] + rest[uid], numbers.count(uid))
-    return took
+    if took > BUSY_SOON:
+        raise Late(f"a run with {BUSY} busy connections ends after {took:.1f} seconds")
+    tell(f"a run with {BUSY} busy connections ended {took:.1f} seconds after its input")
 
 
-def try_answered_end():
+def test_answered_end():
     """What had come when the input ends is answered, also what wasn't read by then."""
     long_call = compound(1, words(PUTROOTFH), *[words(GETATTR, 0)] * 63)
     with serve() as served:
@@ -343,7 +339,7 @@ def try_answered_end():
         peer.socket.close()
 
 
-def try_inputs():
+def test_inputs():
     """An input that has ended from the start ends the run at once, and a line says so. Bytes in it mean nothing."""
     line = "the input ended before a connection came; `--until-killed` doesn't look at it"
     with serve(stdin=subprocess.DEVNULL) as served:
@@ -362,7 +358,7 @@ def try_inputs():
         expect("the end", served.end(), (-signal.SIGKILL, b"", b""))
 
 
-def try_connections():
+def test_connections():
     """What ends a connection is told, with its number and its peer, and is no fault of the run; and once, that all
     workers are busy. A connection that waits is served when another one has ended."""
     with serve("--connections", "2") as served:
@@ -391,7 +387,7 @@ def try_connections():
         expect_end(served, "no more connections: 2 of 2", *map(re.escape, lines))
 
 
-def try_room():
+def test_room():
     """It isn't told that there is no room for connections where there was: some come in turn, each when the one before
     has ended, and all but one of as many as may be there come at once."""
     with serve("--connections", "8") as served:
@@ -416,11 +412,11 @@ def limit_connections():
     setrlimit(RLIMIT_NOFILE, (6, 6))
 
 
-def try_refused():
+def test_refused():
     """Where no more files may be open a line says so, once. Connections that wait are served when there is room again,
     and a server that tries again and again takes hardly any processor time."""
     with serve("--connections", "4", preexec_fn=limit_connections) as served:
-        expect("a thread that calls clients back", served.has_caller(), True)
+        expect("a thread that calls clients back", served.has_caller(REPLY_PATIENCE), True)
         peers = [peer_of(served) for _ in range(3)]
         for peer in peers:
             peer.send(call(7, NULL))
@@ -446,7 +442,7 @@ def waits_for_reply(peer):
         return False
 
 
-def try_stop():
+def test_stop():
     """A server that is stopped and continued loses no connection, however often."""
     with serve() as served:
         peers = [peer_of(served) for _ in range(4)]
@@ -472,7 +468,7 @@ def try_stop():
         expect_end(served)
 
 
-def try_stopped_end():
+def test_stopped_end():
     """What comes while the process is stopped is answered, also where its input ends meanwhile."""
     for _ in range(5):
         with serve() as served:
@@ -493,28 +489,16 @@ def try_stopped_end():
             expect_end(served, ends_input=False)
 
 
-def try_limits():
+def test_limits():
     """That there are as many clients as slots is told, once."""
-    path = path_of("limits.journal")
-    with serve("--journal", path) as served, peer_of(served) as peer:
+    line = "no client slot is left: 255 of 255"
+    with serve() as served, peer_of(served) as peer:
         for uid in range(CLIENTS_LIMIT):
             Client(peer, uid).introduce()
         peer.send(compound(1, setclientid(b"verifier", b"one more")))
         full = results(1, NFS4ERR_RESOURCE, done(SETCLIENTID, status=NFS4ERR_RESOURCE))
         expect("the reply to one more", peer.receive(), full)
+        expect("the line", served.next_line(), f"{line}\n".encode())
         time.sleep(LATELY)
         peer.socket.close()
-        expect_end(served, "no client slot is left: 255 of 255")
-
-
-PARTS = (try_many, try_killed, try_journal, try_long_entries, try_unwritten, try_cut, try_busy_end, try_answered_end,
-         try_inputs, try_connections, try_room, try_refused, try_stop, try_stopped_end,
-         try_limits)
-
-
-def main():
-    run_parts(PARTS)
-    print("try_serving_on: " + "; ".join(told))
-
-
-main()
+        expect_end(served)

@@ -1,5 +1,4 @@
-#!/usr/bin/env python3
-"""try_serve [--quiet] [PROGRAM]: runs `nfs4state serve` as the gate has proved and built it, and talks to it over TCP.
+"""`nfs4state serve` over TCP, and its ends.
 
 64 connections come at once, of which 24 are clients that get every reply, while 10 send garbage, 10 never read, 10
 reset and 10 stop within a record. A lease of a second ends while another client goes on. A delegation that isn't given
@@ -7,27 +6,24 @@ back is taken. Runs end as they should: with each fault of a connection, which l
 addresses that can't be bound, with more connections than are served, interrupted. 64 connections that are all within a
 long record fit into the memory that is named below. Where threads are refused, the connections without one end, and a
 run that can't sweep says so; where no more files may be open, so do those that can't be accepted. Records come cut
-anywhere. CC names the C compiler, if it isn't cc.
+anywhere.
 
-With --quiet, by hand, it does something else, which takes two minutes: nobody calls for as long as a lease lasts. Then
-the lease ends in time, and the server has taken hardly any processor time meanwhile.
-
-Each wait has an end, so that a server that hangs is a failure; and whatever happens, no server is left."""
+By hand, for two minutes: nobody calls for as long as a lease lasts. Then the lease ends in time, and the server has
+taken hardly any processor time meanwhile."""
 import os
 import signal
 import socket
 import subprocess
-import sys
 import threading
 import time
 from concurrent.futures import ThreadPoolExecutor
 from itertools import product
 from resource import RLIMIT_AS, RLIMIT_NOFILE, setrlimit
 
-sys.dont_write_bytecode = True
+import pytest
+
 from gate.crowd import GOOD, MOST, crowd, garbage, never_read, reset, send_garbage, stop_within, wait_for
-from gate.told import Judge
-from gate.trial import TOP, expect_in_journal, lawful_journal, path_of, peer_of, read_options, run_parts
+from gate.trial import Late, judged, lawful_journal, peer_of, tried_again
 from model.entries import Expire, Revoke
 from model.program import Program, bytes_of
 from model.tree import DEFAULT
@@ -35,22 +31,16 @@ from nfs4.client import FILES, Client, done, expect, under, Wrong
 from nfs4.messages import (CLOSE, COMPOUND, DELEGRETURN, GETATTR, LOCKT, LOOKUP, NFS4ERR_RESOURCE, NFS4_OK, NULL, OPEN,
                            PUTFH, PUTROOTFH, RENEW, TYPE_SIZE_FILEID, call, compound, handle, lookup, reply, results,
                            words)
-from nfs4.served import NO_CALLBACKS, Served, with_interrupts
+from nfs4.served import NO_CALLBACKS, PATIENCE, PROGRAM, Served, TOP, with_interrupts
 from nfs4.wire import Status, opaque, split_records
 
-OPTIONS = read_options(__doc__, "--quiet")
-PROGRAM = OPTIONS.program
 # The addresses in bytes that 64 connections within long records are given, which is room for 64 stacks of 8 MB and as
 # many arenas of the C library of 64 MB; and the most of it that may be in use.
 ADDRESSES, IN_USE = 5 << 30, 256 << 20
-runs = 0
-told = []
 
 
 def begin(*options, **how):
     """A server that has begun, with these options alone."""
-    global runs
-    runs += 1
     return Served([PROGRAM, "serve", *options], **how)
 
 
@@ -58,10 +48,10 @@ def serve(*options, connections=1, listen="127.0.0.1:0", tree=NO_CALLBACKS, **ho
     return begin("--listen", listen, "--connections", str(connections), "--tree", tree, *options, **how)
 
 
-def expect_end(served, *faults, seconds=60, what=None):
-    """It ends by itself, with one of these faults; with none given, without a fault. Before the fault's line comes one that
-    says what is wrong with this address or file, if one is named."""
-    status, output, errors = served.end(seconds)
+def expect_end(served, *faults, what=None):
+    """It ends by itself, with one of these faults; with none given, without a fault. Before the fault's line comes one
+    that says what is wrong with this address or file, if one is named."""
+    status, output, errors = served.end()
     if what is not None and errors.startswith(what.encode() + b": "):
         errors = errors.partition(b"\n")[2]
     elif what is not None:
@@ -73,23 +63,31 @@ def expect_end(served, *faults, seconds=60, what=None):
 
 # What is wrong with a connection.
 
-def try_faults():
-    """Each fault alone, where it is the run's."""
+def test_garbage():
     for data in garbage():
         with serve() as served:
             send_garbage(peer_of(served), data)
             fault = split_records(data)[1]
             expect_end(served, *([] if fault is None else [fault]))
+
+
+def test_half_a_record():
     for way in range(4):
         with serve() as served:
             stop_within(peer_of(served), way)
             expect_end(served, "input ends inside a record")
+
+
+def test_reset():
     for way in range(3):
         with serve() as served:
             reset(peer_of(served), way)
             expect_end(served, "input not read")
+
+
+def test_unread_replies():
     with serve() as served:
-        never_read(peer_of(served, receive_buffer=4096), seconds=1)
+        never_read(peer_of(served, receive_buffer=4096), seconds=3)
         expect_end(served, "output not written")
 
 
@@ -111,10 +109,12 @@ def replies_before_a_fault(length, more):
             got = peer.receive_all()
         expect_end(served, "record too long")
     if got != wanted:
-        raise Wrong(f"with {more} bytes behind a fault, {len(got)} bytes of {len(wanted)} come of the replies before")
+        # The server waits for a silent peer for half a second.
+        raise Late(f"with {more} bytes behind a fault, {len(got)} bytes of {len(wanted)} come of the replies before")
 
 
-def try_replies_before_a_fault():
+@tried_again
+def test_replies_before_a_fault():
     """After a fault the replies to what came before it reach the peer, also where bytes are left that nobody reads. But
     a peer that sends more and more is ended all the same, and so is one that is silent."""
     for length, more in product((0, 3000), (0, 1000, 60000, 200000)):
@@ -131,7 +131,7 @@ def try_replies_before_a_fault():
 
 # The crowd.
 
-def try_crowd():
+def test_crowd(path_of, tell):
     over, path = threading.Event(), path_of("crowd.journal")
     with ThreadPoolExecutor(MOST) as pool, serve("--epoch", "7", "--journal", path, connections=MOST) as served:
         # Who never reads has a small buffer; for the others it does no harm.
@@ -148,48 +148,42 @@ def try_crowd():
         for client in clients:
             client.peer.socket.close()
         expect_end(served, "record too long", "input ends inside a record", "input not read", "output not written")
-    journal = lawful_journal(PROGRAM, path)
-    judge = Judge(journal)
-    for client in clients:
-        expect_in_journal(judge, client)
-    judge.expect_ends()
+    journal = judged(path, *clients).journal
     users = {entry.principal[1] for entry in journal.entries}
     expect("the users in the journal", users, {*range(GOOD), MOST})
     numbers = [client.number for client in clients]
     expect("how many client numbers", len(set(numbers)), GOOD)
     calls = sum(len(client.sent) for client in clients)
-    told.append(f"{GOOD} clients among {MOST} connections got each of their {calls} replies, and the journal of "
-                f"{len(journal.entries)} entries is lawful")
+    tell(f"{GOOD} clients among {MOST} connections got each of their {calls} replies, and the journal of "
+         f"{len(journal.entries)} entries is lawful")
 
 
 # A lease.
 
 # The user of the connection that comes at last.
 LATE = 4
-# How many seconds after its time a lease has ended. Moments are whole seconds, and a sweep comes about once a second.
-SOON = 4
-# The seconds of the lease of a server that lends a file.
-LENT = 3
+# How many seconds after its time a lease has ended: moments are whole seconds, and a sweep comes about once a second.
+# And how many there are for what else has to come, on however busy a machine.
+SOON, PATIENT = 4, 20
+# The seconds of the lease of a server that lends a file, and those in which a lease of one is renewed at the latest.
+LENT, RENEWAL = 3, 0.9
 # The seconds of a lease in which nobody calls, and the most of them that a server has a processor meanwhile.
 QUIET, HARDLY_ANY = 120, 0.1
 
 
-class Stalled(Exception):
-    """The machine had no time for this script, so that the run shows nothing."""
-
-
 def renewing(client, over):
-    """RENEW again and again: the longest time between two."""
+    """RENEW again and again, which is late where the machine has no time for it."""
     longest, last = 0, time.monotonic()
     while not over.wait(0.2):
         try:
             client.want((client.renew_words(), done(RENEW)))
-        except Wrong:
-            if time.monotonic() - last > 0.9:
-                raise Stalled from None
+        except Wrong as wrong:
+            if time.monotonic() - last > RENEWAL:
+                raise Late(wrong) from None
             raise
         longest, last = max(longest, time.monotonic() - last), time.monotonic()
-    return longest
+    if longest > RENEWAL:
+        raise Late(f"a lease isn't renewed for {longest:.2f} seconds")
 
 
 def lease_ends(served, pool):
@@ -202,15 +196,10 @@ def lease_ends(served, pool):
     renewals = pool.submit(renewing, other, over)
     try:
         seen = watched(served, gone, watcher)
-    except Wrong:
-        over.set()
-        if renewals.result() > 0.9:
-            raise Stalled from None
-        raise
     finally:
         over.set()
-    if renewals.result() > 0.9:
-        raise Stalled
+        # That it was late comes before what was seen wrong.
+        renewals.result()
     for client in gone, other, watcher:
         client.peer.socket.close()
     return gone, other, watcher, *seen
@@ -250,7 +239,7 @@ def watch(watcher, gone, heard, lease):
             return seconds
         watcher.expect(Status.DENIED, under(1, operation, denied))
         if seconds > lease + SOON:
-            raise Wrong(f"a lease of {lease} seconds hasn't ended after {seconds:.2f}")
+            raise Late(f"a lease of {lease} seconds hasn't ended after {seconds:.2f}")
         time.sleep(0.02)
 
 
@@ -282,34 +271,24 @@ def expect_expiry(path, journal, gone):
     expect("the entry in words", shown.splitlines()[number], line)
 
 
-def try_lease():
+@pytest.mark.alone
+@tried_again
+def test_lease(path_of, tell):
     """A lease of a second ends when more than a second has passed, and soon after."""
-    path = path_of("lease.journal")
-    for _ in range(3):
-        begun = time.monotonic()
-        try:
-            with (ThreadPoolExecutor(1) as pool,
-                  serve("--lease", "1", "--journal", path, connections=4) as served):
-                gone, other, watcher, seconds, moment = lease_ends(served, pool)
-                expect_end(served)
-        except Stalled:
-            continue
-        journal = lawful_journal(PROGRAM, path)
-        expect_expiry(path, journal, gone)
-        judge = Judge(journal)
-        for client in gone, other, watcher:
-            expect_in_journal(judge, client)
-        judge.expect_ends()
-        # All connections' moments are whole seconds since the same start.
-        last, = (entry.moment for entry in journal.entries if getattr(entry, "principal", None) == (1, LATE))
-        if not moment <= last <= time.monotonic() - begun:
-            raise Wrong(f"a call comes at {last}, {moment} seconds after the first")
-        told.append(f"a lease of 1 second ended after {seconds:.1f}")
-        return
-    raise Wrong("the machine is too busy to keep a lease of a second")
+    path, begun = path_of("lease.journal"), time.monotonic()
+    with ThreadPoolExecutor(1) as pool, serve("--lease", "1", "--journal", path, connections=4) as served:
+        gone, other, watcher, seconds, moment = lease_ends(served, pool)
+        expect_end(served)
+    journal = judged(path, gone, other, watcher).journal
+    expect_expiry(path, journal, gone)
+    # All connections' moments are whole seconds since the same start.
+    last, = (entry.moment for entry in journal.entries if getattr(entry, "principal", None) == (1, LATE))
+    if not moment <= last <= time.monotonic() - begun:
+        raise Wrong(f"a call comes at {last}, {moment} seconds after the first")
+    tell(f"a lease of 1 second ended after {seconds:.1f}")
 
 
-def try_delegation():
+def test_delegation(path_of, tell):
     """A delegation that isn't given back, though its client renews its lease, is taken when it was called back longer
     than a lease ago, and soon after."""
     path, tree = path_of("lent.journal"), path_of("lent.toml")
@@ -323,13 +302,9 @@ def try_delegation():
         for client in holder, other:
             client.peer.socket.close()
         expect_end(served)
-    judge = Judge(lawful_journal(PROGRAM, path))
-    for client in holder, other:
-        expect_in_journal(judge, client)
-    judge.expect_ends()
-    ends = [entry for entry in judge.journal.entries if isinstance(entry, (Expire, Revoke))]
+    ends = [entry for entry in judged(path, holder, other).journal.entries if isinstance(entry, (Expire, Revoke))]
     expect("who loses what", [entry[:1] for entry in ends], [(number,)])
-    told.append(f"a delegation was taken {seconds:.1f} seconds after it was called back, with a lease of {LENT}")
+    tell(f"a delegation was taken {seconds:.1f} seconds after it was called back, with a lease of {LENT}")
 
 
 def borrow(client):
@@ -352,7 +327,7 @@ def open_in_the_end(client, holder):
         if found[6] == NFS4_OK:
             break
         client.expect(Status.DELAY, [(None, done(PUTROOTFH)), (None, done(OPEN, status=Status.DELAY))])
-        if seconds > LENT + SOON:
+        if seconds > LENT + PATIENT:
             raise Wrong(f"a delegation isn't taken in {seconds:.2f} seconds")
         holder.want((holder.renew_words(), done(RENEW)))
         time.sleep(0.02)
@@ -361,8 +336,10 @@ def open_in_the_end(client, holder):
     return seconds
 
 
-def try_quiet():
-    """By hand: a lease ends in time of which nobody asked meanwhile, and nobody called."""
+@pytest.mark.by_hand
+@pytest.mark.alone
+def test_quiet(path_of, tell):
+    """A lease ends in time of which nobody asked meanwhile, and nobody called."""
     path = path_of("quiet.journal")
     with serve("--lease", str(QUIET), "--journal", path, connections=2) as served:
         gone = Client(peer_of(served), 1)
@@ -383,13 +360,14 @@ def try_quiet():
     if took > HARDLY_ANY:
         raise Wrong(f"a server that nobody calls takes {took:.2f} seconds of processor time in {QUIET}")
     expect_expiry(path, lawful_journal(PROGRAM, path), gone)
-    told.append(f"in {QUIET} seconds without a call it took {took:.2f} of processor time, and a lease of as many ended "
-                f"after {seconds:.1f}")
+    tell(f"in {QUIET} seconds without a call it took {took:.2f} of processor time, and a lease of as many ended "
+         f"after {seconds:.1f}")
 
 
 # Beginnings and ends.
 
-def try_addresses():
+@tried_again
+def test_addresses(path_of):
     """An address that is taken, isn't this machine's, or is none: the run ends before it has a journal. Other faults
     come before, and the port is free at once when a run has ended."""
     path = path_of("no.journal")
@@ -410,7 +388,9 @@ def try_addresses():
         expect_end(first)
     for _ in range(2):
         with serve(listen=address) as served:
-            expect("the port", f"127.0.0.1:{served.port}", address)
+            # Somebody else may have taken it meanwhile.
+            if f"127.0.0.1:{served.port}" != address:
+                raise Late(f"it listens on port {served.port}, wanted {address}")
             with peer_of(served) as peer:
                 Client(peer, 1).null()
             expect_end(served)
@@ -418,7 +398,8 @@ def try_addresses():
         raise Wrong("a journal of no run")
 
 
-def try_connections():
+@tried_again
+def test_connections(path_of):
     """An idle connection keeps its worker, and the others go on. The connection after the last that is served gets no
     reply, and ends with the run. A connection that sends no more is ended while others go on. All have one state."""
     path = path_of("three.journal")
@@ -445,12 +426,14 @@ def try_connections():
     expect("the first entries", len(entries) > 4, True)
     try:
         peer_of(served)
-        raise Wrong("it listens when it has ended")
+        # Or somebody else does.
+        raise Late("it listens when it has ended")
     except ConnectionRefusedError:
         pass
 
 
-def try_defaults():
+@tried_again
+def test_defaults():
     """Without options it listens on port 2049, and serves four connections. A line says what is served."""
     try:
         socket.create_server(("127.0.0.1", 2049)).close()
@@ -458,7 +441,8 @@ def try_defaults():
     except OSError:
         is_free = False
     with begin() as served:
-        expect("the port", served.port, 2049 if is_free else None)
+        if served.port != (2049 if is_free else None):
+            raise Late(f"it listens on port {served.port}, where 2049 is {'free' if is_free else 'taken'}")
         if not is_free:
             expect_end(served, "socket", what="127.0.0.1:2049")
     with begin("--listen", "127.0.0.1:0") as served:
@@ -476,10 +460,10 @@ def try_defaults():
             expect_end(served)
 
 
-def try_end():
-    """It ends within a second of its last connection, though it sweeps once a second; on a busy machine, of one of
-    three."""
-    took = []
+@pytest.mark.alone
+@tried_again
+def test_end():
+    """It ends within a second of its last connection, though it sweeps once a second."""
     for pause in 0.1, 0.4, 0.7:
         with serve(connections=2) as served:
             with peer_of(served) as first, peer_of(served) as last:
@@ -488,12 +472,11 @@ def try_end():
                 time.sleep(pause)
             begun = time.monotonic()
             expect_end(served)
-            took.append(time.monotonic() - begun)
-    if min(took) > 1:
-        raise Wrong(f"it ends {min(took):.2f} seconds after its last connection")
+            if (took := time.monotonic() - begun) > 1:
+                raise Late(f"it ends {took:.2f} seconds after its last connection")
 
 
-def try_signals():
+def test_signals(path_of):
     """An interrupted run ends by the signal, and leaves no journal."""
     for number in signal.SIGINT, signal.SIGTERM:
         path = path_of("interrupted.journal")
@@ -505,7 +488,7 @@ def try_signals():
         expect("there is a journal", os.path.exists(path), False)
 
 
-def try_journal():
+def test_journal(path_of):
     """The journal is written also after a fault, and one that can't be written is the last fault."""
     path = path_of("fault.journal")
     with open(path, "wb") as file:
@@ -527,7 +510,7 @@ def try_journal():
             expect_end(served, fault, what=path)
 
 
-def try_full_journal():
+def test_full_journal(path_of):
     """The shared state takes each entry up to the 1,000,000th, and none after it; what has no entry is still answered.
     A call of 63 GETATTRs has an entry for each, so 15,873 calls leave room for one."""
     path = path_of("full.journal")
@@ -580,7 +563,7 @@ def hold_a_record(peer, uid, held, over):
 
 def wait_until_held(held, doing):
     """All of them hold a record; or what went wrong with one."""
-    until = time.monotonic() + 60
+    until = time.monotonic() + PATIENCE
     for _ in doing:
         while not held.acquire(timeout=0.1):
             for job in doing:
@@ -590,7 +573,7 @@ def wait_until_held(held, doing):
                 raise Wrong("not all connections are served at once")
 
 
-def try_memory():
+def test_memory(tell):
     limit = lambda: setrlimit(RLIMIT_AS, (ADDRESSES, ADDRESSES))
     held, over = threading.Semaphore(0), threading.Event()
     with ThreadPoolExecutor(MOST) as pool, serve(connections=MOST, preexec_fn=limit) as served:
@@ -607,35 +590,27 @@ def try_memory():
         expect_end(served)
     if in_use * 1024 > IN_USE:
         raise Wrong(f"{in_use} kB in use, above {IN_USE // 1024}")
-    told.append(f"{MOST} connections, each within a record of 262,144 bytes, took {in_use >> 10} MB, of "
-                f"{addresses >> 10} MB of addresses")
+    tell(f"{MOST} connections, each within a record of 262,144 bytes, took {in_use >> 10} MB, of "
+         f"{addresses >> 10} MB of addresses")
 
 
-def refusing_threads(**refused):
-    """The environment in which threads are refused, as `refuse_threads.c` says."""
-    shim = path_of("refuse_threads.so")
-    if not os.path.exists(shim):
-        source = os.path.join(TOP, "tools/refuse_threads.c")
-        subprocess.run([os.environ.get("CC", "cc"), "-O1", "-shared", "-fPIC", "-o", shim, source, "-ldl"], check=True)
-    return {**os.environ, "LD_PRELOAD": shim, **refused}
-
-
-def try_threads():
+def test_threads(preloaded):
     """Where no more threads can be made, the connections without one end, with a fault; the others are served. The
     first thread sweeps, and the second one calls clients back."""
     for most in range(6):
-        with serve(connections=3, env=refusing_threads(MOST_THREADS=str(most))) as served:
+        with serve(connections=3, env=preloaded("refuse_threads.c", MOST_THREADS=str(most))) as served:
             for uid in range(most - 2):
                 with peer_of(served) as peer:
                     Client(peer, uid).null()
             expect_end(served, *(["no memory"] if most < 5 else []))
 
 
-def try_unswept():
+def test_unswept(path_of, preloaded):
     """Where the first thread can't be made, which sweeps, all connections are served, no lease ends, and the run says
     so at its end, also where a connection ended inside a record."""
     path = path_of("unswept.journal")
-    with serve("--lease", "1", "--journal", path, connections=3, env=refusing_threads(REFUSED_THREAD="1")) as served:
+    environment = preloaded("refuse_threads.c", REFUSED_THREAD="1")
+    with serve("--lease", "1", "--journal", path, connections=3, env=environment) as served:
         clients = [Client(peer_of(served), uid) for uid in range(3)]
         for client, file in zip(clients, FILES):
             client.introduce()
@@ -648,14 +623,11 @@ def try_unswept():
         for client in clients:
             client.peer.socket.close()
         expect_end(served, "no memory")
-    judge = Judge(lawful_journal(PROGRAM, path))
-    for client in clients:
-        expect_in_journal(judge, client)
-    judge.expect_ends()
-    expect("who expires", [entry for entry in judge.journal.entries if isinstance(entry, Expire)], [])
+    entries = judged(path, *clients).journal.entries
+    expect("who expires", [entry for entry in entries if isinstance(entry, Expire)], [])
 
 
-def try_accept():
+def test_accept(path_of):
     """Where the process may have no more files open, the connections that can't be accepted are gone for the run, and
     their peers wait as those above the number do; that is a fault, and the others are served. Four files are open from
     the beginning, and the thread that calls clients back opens a fifth, unless those that accept were there before."""
@@ -663,7 +635,7 @@ def try_accept():
         path = path_of("accept.journal")
         limit = lambda: setrlimit(RLIMIT_NOFILE, (most, most))
         with serve("--journal", path, connections=3, preexec_fn=limit) as served:
-            room = most - 4 - served.has_caller()
+            room = most - 4 - served.has_caller(PATIENT)
             peers = [peer_of(served) for _ in range(3)]
             clients = [Client(peer, uid) for uid, peer in enumerate(peers[:room])]
             for client in clients:
@@ -684,7 +656,7 @@ def expect_no_reply(peer):
         pass
 
 
-def try_cuts():
+def test_cuts():
     """A call cut anywhere, with its rest behind the reply to the call before it; and a call byte by byte."""
     with serve() as served, peer_of(served) as peer:
         client = Client(peer, 1)
@@ -705,21 +677,3 @@ def try_cuts():
         peer.finish()
         expect("the end of a connection", peer.receive_all(), b"")
         expect_end(served)
-
-
-PARTS = (try_faults, try_replies_before_a_fault, try_crowd, try_lease, try_delegation, try_addresses, try_connections,
-         try_defaults, try_end, try_signals, try_journal, try_full_journal, try_memory, try_threads, try_unswept,
-         try_accept, try_cuts)
-BY_HAND = (try_quiet,)
-
-
-def main():
-    if not os.path.exists(PROGRAM):
-        with open(os.path.join(TOP, "crates/nfs4state/stdin"), "rb") as source:
-            folder = os.path.join(TOP, "crates/nfs4state")
-            subprocess.run(["rt", "run"], cwd=folder, stdin=source, stdout=subprocess.DEVNULL, check=True)
-    run_parts(BY_HAND if OPTIONS.quiet else PARTS)
-    print(f"try_serve: {runs} runs ended as they should; " + "; ".join(told))
-
-
-main()
