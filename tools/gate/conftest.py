@@ -1,7 +1,9 @@
 """What the gate's tests have in common. `pytest tools/gate -n 4` runs them side by side; those that are marked `alone`
 are judged by a clock, by memory or by processor time, and run beside nothing else: `.ci/run` has both commands."""
+import fcntl
 import os
 import signal
+import subprocess
 import sys
 from collections.abc import Callable, Iterator
 from functools import partial
@@ -9,6 +11,8 @@ from tempfile import TemporaryDirectory
 from typing import Any
 
 import pytest
+
+from nfs4.served import TOP
 
 sys.dont_write_bytecode = True
 
@@ -50,3 +54,24 @@ def path_of() -> Iterator[Callable[[str], str]]:
     """The path of a file of this name in a folder that the test has for itself, and that is gone behind it."""
     with TemporaryDirectory() as room:
         yield partial(os.path.join, room)
+
+
+def build(name: str) -> None:
+    """Proves and builds this program where it isn't there; in one process, and the others wait for it."""
+    folder = os.path.join(TOP, "crates", name)
+    with open(os.path.join(folder, "stdin"), "rb") as sent:
+        fcntl.flock(sent, fcntl.LOCK_EX)
+        if not os.path.exists(os.path.join(folder, "out", name)):
+            subprocess.run(["rt", "run"], cwd=folder, stdin=sent, stdout=subprocess.DEVNULL, check=True)
+
+
+@pytest.fixture(scope="session")
+def built_program() -> None:
+    """The program `nfs4state` is there."""
+    build("nfs4state")
+
+
+@pytest.fixture(scope="session")
+def built_rows() -> None:
+    """The program `rows` is there."""
+    build("rows")
