@@ -1,52 +1,70 @@
-#!/usr/bin/env python3
-"""try_rows [PROGRAM]: runs `tools/rows`, by the program of rows as the gate has proved and built it: on the
-repository's rows, of which all pass, also where each connection has a thread of its own and the state is shared; on
-each of them with one byte changed in what it wants, which has to fail by its name, also in these other ways, and so on
-those with orders, with something else wanted of one; on files with a broken line, each of which has to be reported by
-file, line and reason; on folders that can't be read; and by programs that run out of memory, end early, or leave
-another journal. And the journal that each row leaves has to be the model's."""
+"""`tools/rows`, by the program of rows as the gate has proved and built it: on the repository's rows, of which all pass,
+also where each connection has a thread of its own and the state is shared; on each of them with one byte changed in
+what it wants, which has to fail by its name, also in these other ways, and so on those with orders, with something else
+wanted of one; on files with a broken line, each of which has to be reported by file, line and reason; on folders that
+can't be read; and by programs that run out of memory, end early, or leave another journal. The journal that each row
+leaves has to be the model's; and so have the replies that it wants."""
 import os
 import re
 import subprocess
 import sys
-import tempfile
-from concurrent.futures import ThreadPoolExecutor
 
-sys.dont_write_bytecode = True
-os.chdir(os.path.join(os.path.dirname(os.path.abspath(__file__)), ".."))
-from gate.trial import read_options
+import pytest
+
+from model import check_rows
 from model.check_journals import journal_of
 from model.journal import journal_bytes
 from nfs4.rows import File, files_of
+from nfs4.served import TOP
 from sending import running
-from sending.driver import ALONE, build
+from sending.driver import ALONE, PROGRAM
 
-PATH = read_options(__doc__, name="rows").program
-# The ways to run rows.
-WAYS = ((), ("--again",), ("--shared",), ("--shared", "--again"))
-OWN = os.path.abspath("crates/rows/data")
+pytestmark = pytest.mark.usefixtures("built_rows")
+DATA = os.path.join(TOP, "crates/rows/data")
+# The ways to run rows, and in how many parts their files are run.
+WAYS = {"alone": (), "again": ("--again",), "shared": ("--shared",), "shared again": ("--shared", "--again")}
+PARTS = 4
+each_way = pytest.mark.parametrize("words", WAYS.values(), ids=WAYS)
 
 
-def run(*words, program=PATH):
+def run(*words, program=PROGRAM):
     """The status of the command with these words, and what it reports."""
-    ran = subprocess.run([sys.executable, "tools/rows", "--program", program, *words], stdout=subprocess.PIPE,
-                         stderr=subprocess.STDOUT, timeout=600)
-    return ran.returncode, ran.stdout.decode()
+    ran = subprocess.run([sys.executable, os.path.join(TOP, "tools/rows"), "--program", program, *words],
+                         stdout=subprocess.PIPE, stderr=subprocess.STDOUT, timeout=600, text=True)
+    return ran.returncode, ran.stdout
 
 
-def fail(what, report):
-    sys.exit(f"try_rows: {what}; `tools/rows` reported:\n{report}")
+def written(path, text):
+    with open(path, "w", encoding="utf-8") as out:
+        out.write(text)
+    return path
 
 
-def try_journals():
+@pytest.fixture(params=range(PARTS), ids="part {}".format)
+def files(request):
+    """The files of a part of the rows."""
+    return list(files_of(DATA))[request.param::PARTS]
+
+
+@each_way
+def test_pass(words, files):
+    count = sum(len(File(file).rows) for file in files)
+    assert run(*words, *files) == (0, f"{count} rows in {len(files)} files: 0 failed, 0 files not read\n")
+
+
+def test_model(capsys, tell):
+    """The model's replies are those that the rows want."""
+    assert check_rows.main([DATA]) == 0
+    tell(capsys.readouterr().out.strip())
+
+
+def test_journals(files):
     """Each row leaves the journal that the model makes of it."""
-    rows = [row for file in files_of(OWN) for row in File(file).rows]
-    with ThreadPoolExecutor(os.cpu_count()) as pool:
-        outcomes = pool.map(lambda row: running.run(row, ALONE, running.WHOLE, path=PATH), rows)
-        for row, outcome in zip(rows, outcomes):
-            journal = journal_of(row)
-            if outcome.journal != (None if journal is None else journal_bytes(journal)):
-                sys.exit(f"try_rows: {row.file}:{row.line}: {row.name}: the journal isn't the model's")
+    for row in (row for file in files for row in File(file).rows):
+        journal = journal_of(row)
+        wanted = None if journal is None else journal_bytes(journal)
+        is_models = running.run(row, ALONE, running.WHOLE).journal == wanted
+        assert is_models, f"{row.file}:{row.line}: {row.name}"
 
 
 def rows_of(text):
@@ -55,13 +73,13 @@ def rows_of(text):
             for part in re.split(r"(?m)^row ", text)[1:]]
 
 
-def changed(lines):
+def changed_byte(lines):
     """The row with another last byte wanted, or with another end of its connection where nothing is."""
     lines = [line.split(" #")[0].rstrip() for line in lines if not line.strip().startswith("#")]
     at = max((i for i, line in enumerate(lines) if line.startswith("  want ")), default=None)
     if lines[at] == "  want nothing":
         lines[at] = "  want null 7"
-        return lines
+        return [lines]
     end = at + 1
     while end < len(lines) and lines[end].startswith("    "):
         end += 1
@@ -80,14 +98,14 @@ def changed(lines):
     else:
         last = "77"
     lines[end - 1] = f"{head} {last}"
-    return lines
+    return [lines]
 
 
 # The words that begin orders.
 ORDERS = ("sweep", "mark", "revoke", "forget", "take", "pending", "probe")
 
 
-def ordered_otherwise(lines):
+def changed_orders(lines):
     """The row with something else wanted of the last order of a kind, for each kind that it has."""
     for word in ORDERS:
         at = max((i for i, line in enumerate(lines) if line.startswith(f"  {word} ")), default=None)
@@ -117,41 +135,33 @@ def changed_number(line):
     return f"{head} {int(last) ^ 1}"
 
 
-def try_changed(room, files):
-    """Rows that were changed, by the names of their files: each has to fail. How many there are."""
-    count = sum(map(len, files.values()))
-    with tempfile.TemporaryDirectory(dir=room) as folder:
-        for file, rows in files.items():
-            with open(f"{folder}/{file}", "w", encoding="utf-8") as out:
-                out.writelines("\n".join(lines) + "\n" for lines in rows)
-        for words in WAYS:
-            status, report = run(*words, folder)
-            for file, line, name in places_of(files):
-                if f"{folder}/{file}:{line}: {name}\n" not in report:
-                    fail(f"{file}: the row '{name}' passes when it is changed, with {words}", report)
-            if status != 1 or f"{count} failed, 0 files not read\n" not in report:
-                fail(f"status {status}, with each of {count} rows changed", report)
-    return count
+def places_of(path, rows):
+    """How each row begins that is reported, where the file has these."""
+    line = 1
+    for lines in rows:
+        yield f"{path}:{line}: {lines[0][4:]}\n"
+        line += len(lines)
 
 
-def places_of(files):
-    """The file, the line and the name of each row."""
-    for file, rows in files.items():
-        line = 1
-        for lines in rows:
-            yield file, line, lines[0][4:]
-            line += len(lines)
-
-
-def try_changes(room):
-    """Each row with a byte changed, and those with orders, with something else wanted of these: how many of both."""
-    with_byte, with_order = {}, {}
-    for file in sorted(os.listdir(OWN)):
-        with open(f"{OWN}/{file}", encoding="utf-8") as source:
+@each_way
+def test_changed(words, files, path_of, tell):
+    """Each row that is changed fails, by its name."""
+    places, counts = [], dict.fromkeys((changed_byte, changed_orders), 0)
+    for file in files:
+        with open(file, encoding="utf-8") as source:
             rows = rows_of(source.read())
-        with_byte[file] = [changed(lines) for lines in rows]
-        with_order[file] = [other for lines in rows for other in ordered_otherwise(lines)]
-    return try_changed(room, with_byte), try_changed(room, with_order)
+        for change in counts:
+            others = [other for lines in rows for other in change(lines)]
+            path = written(path_of(f"{change.__name__}.{os.path.basename(file)}"),
+                           "".join("\n".join(lines) + "\n" for lines in others))
+            places += places_of(path, others)
+            counts[change] += len(others)
+    status, report = run(*words, path_of(""))
+    passing = [place for place in places if f"\n{place}" not in f"\n{report}"]
+    assert not passing
+    assert status == 1 and f"\n{len(places)} rows in {2 * len(files)} files: {len(places)} failed, 0 files" in report
+    with_byte, with_order = counts.values()
+    tell(f"{with_byte} rows fail with a byte changed, {with_order} with something else wanted of an order")
 
 
 # Lines that end a file, with the number of the one at fault and why it can't be read.
@@ -238,50 +248,38 @@ BROKEN = [
 ]
 
 
-def try_broken_line(folder, lines, at, reason):
-    os.mkdir(folder)
-    with open(f"{folder}/broken.rows", "w", encoding="utf-8") as out:
-        out.write("\n".join(lines) + "\n")
-    status, report = run(folder)
-    is_told = report.startswith(f"{folder}/broken.rows:{at}: {reason}") and "1 files not read" in report
-    if status != 1 or not is_told:
-        fail(f"status {status}, and '{reason}' isn't reported of line {at} of {lines}", report)
+def test_broken_lines(path_of, tell):
+    paths = [written(path_of(f"{number}.rows"), "\n".join(lines) + "\n") for number, (lines, _, _) in enumerate(BROKEN)]
+    status, report = run(*paths)
+    for path, (lines, at, reason) in zip(paths, BROKEN):
+        assert f"\n{path}:{at}: {reason}" in f"\n{report}", lines
+    count = len(BROKEN)
+    assert status == 1 and report.endswith(f"\n0 rows in {count} files: 0 failed, {count} files not read\n")
+    tell(f"{count} broken lines are told")
 
 
-def try_broken_lines(room):
-    folders = [f"{room}/broken{number}" for number in range(len(BROKEN))]
-    with ThreadPoolExecutor(os.cpu_count()) as pool:
-        # What fails in one of them fails here.
-        list(pool.map(try_broken_line, folders, *zip(*BROKEN)))
-
-
-def try_folders(room):
+def test_folders(path_of):
     """A folder that isn't there, one without rows, and a file that is no text."""
-    status, report = run(f"{room}/missing")
-    if status != 2 or not report.startswith("rows: "):
-        fail(f"status {status} for a folder that isn't there", report)
-    os.mkdir(f"{room}/empty")
-    status, report = run(f"{room}/empty")
-    if status != 1 or report != "0 rows in 0 files: 0 failed, 0 files not read\n":
-        fail(f"status {status} for a folder without rows", report)
-    os.mkdir(f"{room}/bytes")
-    with open(f"{room}/bytes/bytes.rows", "wb") as out:
+    status, report = run(path_of("missing"))
+    assert status == 2 and report.startswith("rows: ")
+    os.mkdir(path_of("empty"))
+    assert run(path_of("empty")) == (1, "0 rows in 0 files: 0 failed, 0 files not read\n")
+    with open(path_of("bytes.rows"), "wb") as out:
         out.write(b"row \xff\n")
-    status, report = run(f"{room}/bytes")
-    if status != 1 or not report.startswith(f"{room}/bytes/bytes.rows: "):
-        fail(f"status {status} for a file that is no text", report)
+    status, report = run(path_of(""))
+    assert status == 1 and report.startswith(path_of("bytes.rows: "))
 
 
-def try_hex(room):
+@pytest.fixture
+def null_row(path_of):
+    return written(path_of("null.rows"), "row NULL\n  send null 7\n  want null 7\n")
+
+
+def test_hex(null_row):
     """A row in hexadecimal, with nothing run."""
-    os.mkdir(f"{room}/hex")
-    with open(f"{room}/hex/null.rows", "w", encoding="utf-8") as out:
-        out.write("row NULL\n  send null 7\n  want null 7\n")
     call = "80000028000000070000000000000002000186a300000004" + "00000000" * 5
     reply = "800000180000000700000001" + "00000000" * 4
-    status, report = run("--hex", f"{room}/hex/null.rows")
-    if status != 0 or report != f"row NULL\nsend {call}\nwant {reply}\n":
-        fail(f"status {status} for a row in hexadecimal", report)
+    assert run("--hex", null_row) == (0, f"row NULL\nsend {call}\nwant {reply}\n")
 
 
 # A program in place of this one: it runs it, and changes the last byte that comes behind the end of the input, which is
@@ -307,38 +305,18 @@ os.write(1, journal[:-1] + bytes([journal[-1] ^ int.from_bytes(head, "big")]))
 """
 
 
-def try_programs(room):
-    """Programs that aren't the one that is wanted."""
-    row = f"{room}/hex/null.rows"
-    for name, text, wanted, words in (
-            ("no_memory", "#!/bin/sh\necho rows: out of memory >&2; exit 2\n", (2, "rows: out of memory\n"), ()),
-            ("ended", "#!/bin/sh\nexit 7\n", (2, "rows: the program ends with status 7: \n"), ()),
-            ("other_journal", OTHER_JOURNAL.format(python=sys.executable, program=PATH),
-             (1, f"{row}:1: NULL\n    the journal isn't the one that is left where no state is shared\n"
-                 "1 rows in 1 files: 1 failed, 0 files not read\n"), ("--shared",))):
-        with open(f"{room}/{name}", "w", encoding="utf-8") as out:
-            out.write(text)
-        os.chmod(f"{room}/{name}", 0o755)
-        status, report = run(*words, row, program=f"{room}/{name}")
-        if (status, report) != wanted:
-            fail(f"status {status} by the program '{name}'", report)
+# Programs that aren't the one that is wanted; with what `tools/rows` reports of them.
+PROGRAMS = {
+    "no memory": ("#!/bin/sh\necho rows: out of memory >&2; exit 2\n", (2, "rows: out of memory\n"), ()),
+    "ended": ("#!/bin/sh\nexit 7\n", (2, "rows: the program ends with status 7: \n"), ()),
+    "other journal": (OTHER_JOURNAL.format(python=sys.executable, program=PROGRAM),
+                      (1, "{row}:1: NULL\n    the journal isn't the one that is left where no state is shared\n"
+                       "1 rows in 1 files: 1 failed, 0 files not read\n"), ("--shared",))}
 
 
-def main():
-    build(PATH)
-    for words in WAYS:
-        status, report = run(*words)
-        if status != 0 or " rows in " not in report:
-            fail(f"status {status} for the rows of the repository, with {words}", report)
-    try_journals()
-    with tempfile.TemporaryDirectory() as room:
-        rows, orders = try_changes(room)
-        try_broken_lines(room)
-        try_folders(room)
-        try_hex(room)
-        try_programs(room)
-    print(f"try_rows: {report.strip()}, and they leave the model's journals; each of {rows} rows fails with a byte "
-          f"changed, each of {orders} with something else wanted of an order, and {len(BROKEN)} broken lines are told")
-
-
-main()
+@pytest.mark.parametrize("text, wanted, words", PROGRAMS.values(), ids=PROGRAMS)
+def test_programs(text, wanted, words, null_row, path_of):
+    status, report = wanted
+    program = written(path_of("program"), text)
+    os.chmod(program, 0o755)
+    assert run(*words, null_row, program=program) == (status, report.format(row=null_row))
