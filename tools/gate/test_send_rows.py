@@ -270,15 +270,15 @@ def test_unwanted(port, path_of):
     assert status == 1 and "    behind the last call: a reply that isn't wanted\n" in said
 
 
-REFUSED = [
-    ("rows", "sections 16.16\nrow a\n  want nothing\n", ":1: no sections: "),
-    ("rows", "row a\n  sections RFC 7530\n  want nothing\n", ":2: no sections: "),
-    ("rows", "row a\n  alone now\n  want nothing\n", ":2: the line goes on after its message\n"),
-    ("known", "# A comment.\nit passes\n", ":2: no row: `FILE.rows: NAME`\n"),
-]
+REFUSED = {
+    "no RFC": ("rows", "sections 16.16\nrow a\n  want nothing\n", ":1: no sections: "),
+    "no section": ("rows", "row a\n  sections RFC 7530\n  want nothing\n", ":2: no sections: "),
+    "alone": ("rows", "row a\n  alone now\n  want nothing\n", ":2: the line goes on after its message\n"),
+    "known": ("known", "# A comment.\nit passes\n", ":2: no row: `FILE.rows: NAME`\n"),
+}
 
 
-@pytest.mark.parametrize("kind, text, words", REFUSED)
+@pytest.mark.parametrize("kind, text, words", REFUSED.values(), ids=REFUSED)
 def test_refused(kind, text, words, path_of):
     """Lines that can't be read, of rows and of known differences."""
     path, right = written(path_of(f"refused.{kind}"), text), written(path_of("right.rows"), RIGHT)
