@@ -14,7 +14,7 @@ import pytest
 
 from model.journal import verdict
 from model.program import bytes_of
-from nfs4.client import Wrong, expect
+from nfs4.client import Wrong, done, expect
 from nfs4.messages import (GETATTR, GETFH, LEASE_TIME, LOOKUP, NFS4ERR_BADHANDLE, NFS4ERR_NOENT, NFS4ERR_RESOURCE,
                            NFS4ERR_STALE_CLIENTID, NFS4_OK, NULL, OPEN, PUTFH, PUTROOTFH, RENEW, SETCLIENTID,
                            SETCLIENTID_CONFIRM, TYPE_SIZE_FILEID, call, compound, confirmation, given, handle, lookup,
@@ -72,6 +72,34 @@ def decline(message, usage, *arguments):
     want(arguments, fault=text, status=2)
 
 
+# An operation, and its result.
+ROOT = words(PUTROOTFH), done(PUTROOTFH)
+
+
+def look(name, status=NFS4_OK):
+    return lookup(name), done(LOOKUP, status=status)
+
+
+def put(node, status=NFS4_OK):
+    return words(PUTFH) + handle(node), done(PUTFH, status=status)
+
+
+def handle_is(node):
+    return words(GETFH), done(GETFH, handle(node))
+
+
+def node_is(kind, size, fileid):
+    """The type, the size and the fileid of the current node."""
+    return (words(GETATTR, 1, TYPE_SIZE_FILEID),
+            words(GETATTR, NFS4_OK, 1, TYPE_SIZE_FILEID, 20, kind, 0, size, 0, fileid))
+
+
+def exchange(xid, *pairs, uid=None):
+    """A call of operations, and the reply with their results. The last result has its status."""
+    sent, got = zip(*pairs)
+    return compound(xid, *sent, uid=uid), results(xid, int.from_bytes(got[-1][4:8], "big"), *got)
+
+
 def test_null():
     for arguments in [], ["once"]:
         want(arguments)
@@ -80,37 +108,28 @@ def test_null():
 
 def test_files(file_of):
     """The default tree, a file that says the same, and an empty one."""
-    sent = compound(1, words(PUTROOTFH), lookup(b"d"), lookup(b"c"), words(GETFH))
-    done = [words(operation, NFS4_OK) for operation in (PUTROOTFH, LOOKUP, LOOKUP, GETFH)]
-    found = results(1, NFS4_OK, *done[:3], done[3] + handle(4))
+    found = exchange(1, ROOT, look(b"d"), look(b"c"), handle_is(4))
     for arguments in ["once"], ["once", "--tree", SAMPLE], ["once", f"--tree={SAMPLE}"]:
-        want(arguments, sent, found)
-    missing = results(1, NFS4ERR_NOENT, done[0], words(LOOKUP, NFS4ERR_NOENT))
-    want(["once", "--tree", file_of("empty.toml", b"")], sent, missing)
+        want(arguments, *found)
+    want(["once", "--tree", file_of("empty.toml", b"")], *exchange(1, ROOT, look(b"d", NFS4ERR_NOENT)))
 
 
 def test_letters():
     """The sample of README, a tree and two records: type, change, size and handle of `letters/first`, and no `a`."""
-    found = [words(operation, NFS4_OK) for operation in (PUTROOTFH, LOOKUP, LOOKUP)]
-    has, at = words(GETATTR, NFS4_OK, 1, 0x1A, 20, 1, 0, 0, 0, 5), words(GETFH, NFS4_OK) + handle(3)
+    has = words(GETATTR, 1, 0x1A), words(GETATTR, NFS4_OK, 1, 0x1A, 20, 1, 0, 0, 0, 5)
+    first = exchange(1, ROOT, look(b"letters"), look(b"first"), has, handle_is(3))
     with open(os.path.join(TOP, "samples/letters.records"), "rb") as records:
         want(["once", "--tree", os.path.join(TOP, "samples/letters.toml")], records.read(),
-             results(1, NFS4_OK, *found, has, at)
-             + results(2, NFS4ERR_NOENT, found[0], words(LOOKUP, NFS4ERR_NOENT)))
+             first[1] + exchange(2, ROOT, look(b"a", NFS4ERR_NOENT))[1])
 
 
 def test_nodes():
     """Type, size and fileid of the root, `a`, `b`, `d` and `d/c`, and no `c` in the root, as samples/files.toml says
     too. The policy shows in none of these answers."""
-    get, root = words(GETATTR, 1, TYPE_SIZE_FILEID), words(PUTROOTFH)
-    sent = compound(1, root, get, lookup(b"a"), get, root, lookup(b"b"), get, root, lookup(b"d"), get, lookup(b"c"),
-                    get, root, lookup(b"c"))
-    has = lambda kind, size, fileid: words(GETATTR, NFS4_OK, 1, TYPE_SIZE_FILEID, 20, kind, 0, size, 0, fileid)
-    root, found = words(PUTROOTFH, NFS4_OK), words(LOOKUP, NFS4_OK)
-    nodes = results(1, NFS4ERR_NOENT, root, has(2, 0, 1), found, has(1, 5, 2), root, found, has(1, 0, 3), root, found,
-                    has(2, 0, 4), found, has(1, 0, 5), root, words(LOOKUP, NFS4ERR_NOENT))
-    want(["once"], sent, nodes)
-    want(["once", "--tree", SAMPLE], sent, nodes)
+    nodes = exchange(1, ROOT, node_is(2, 0, 1), look(b"a"), node_is(1, 5, 2), ROOT, look(b"b"), node_is(1, 0, 3), ROOT,
+                     look(b"d"), node_is(2, 0, 4), look(b"c"), node_is(1, 0, 5), ROOT, look(b"c", NFS4ERR_NOENT))
+    want(["once"], *nodes)
+    want(["once", "--tree", SAMPLE], *nodes)
 
 
 def test_attributes():
@@ -130,32 +149,30 @@ def test_attributes():
         (1, [], [], []),
         (1, [2, 0xFFFFFFFF], [2], [1]),
     ]
-    sent, got = [], []
+    pairs = []
     for node, asked, mask, values in table:
-        sent += [words(PUTFH) + handle(node), words(GETATTR, len(asked), *asked)]
-        got += [words(PUTFH, NFS4_OK), words(GETATTR, NFS4_OK, len(mask), *mask) + opaque(words(*values))]
-    want(["once"], compound(1, *sent), results(1, NFS4_OK, *got))
+        got = done(GETATTR, words(len(mask), *mask) + opaque(words(*values)))
+        pairs += [put(node), (words(GETATTR, len(asked), *asked), got)]
+    want(["once"], *exchange(1, *pairs))
 
 
 def test_lease_and_epoch():
-    sent = compound(1, words(PUTROOTFH), words(GETATTR, 1, LEASE_TIME))
     for options, lease in [([], 90), (["--lease", "1"], 1), (["--lease", "86400"], 86400), (["--lease=0090"], 90)]:
-        attribute = words(GETATTR, NFS4_OK, 1, LEASE_TIME, 4, lease)
-        want(["once", *options], sent, results(1, NFS4_OK, words(PUTROOTFH, NFS4_OK), attribute))
-    sent = compound(1, setclientid(bytes(range(1, 9)), b"c1"))
+        has = words(GETATTR, 1, LEASE_TIME), words(GETATTR, NFS4_OK, 1, LEASE_TIME, 4, lease)
+        want(["once", *options], *exchange(1, ROOT, has))
+    coming = setclientid(bytes(range(1, 9)), b"c1")
     others = ["--lease", "7", "--tree", SAMPLE]
     for options, epoch in [([], 1), (["--epoch", "0"], 0), (["--epoch", "4294967295", *others], 4294967295)]:
-        want(["once", *options], sent, results(1, NFS4_OK, given(epoch, 1, 1)))
+        want(["once", *options], *exchange(1, (coming, given(epoch, 1, 1))))
 
 
 def test_now():
     """At whatever moment the calls come, a client that was confirmed is live, and another isn't."""
-    sent = compound(1, setclientid(bytes(range(1, 9)), b"c1"), confirmation(1, 1, 1), words(RENEW, 1, 1),
-                    words(RENEW, 1, 2))
-    done = [words(operation, NFS4_OK) for operation in (SETCLIENTID_CONFIRM, RENEW)]
-    got = results(1, NFS4ERR_STALE_CLIENTID, given(1, 1, 1), *done, words(RENEW, NFS4ERR_STALE_CLIENTID))
+    pairs = [(setclientid(bytes(range(1, 9)), b"c1"), given(1, 1, 1)),
+             (confirmation(1, 1, 1), done(SETCLIENTID_CONFIRM)), (words(RENEW, 1, 1), done(RENEW)),
+             (words(RENEW, 1, 2), done(RENEW, status=NFS4ERR_STALE_CLIENTID))]
     for options in [], ["--now", "0"], ["--now=1"], ["--now", "4294967296"], ["--now", "1099511627773"]:
-        want(["once", *options], sent, got)
+        want(["once", *options], *exchange(1, *pairs))
 
 
 def test_help():
@@ -309,17 +326,11 @@ def test_documents(path_of, file_of):
         if isinstance(wanted, str):
             want(["once", "--tree", path], call(7, NULL), fault=wanted, what=path)
             continue
-        sent = compound(1, *(words(PUTFH) + handle(node) for node in (wanted - 1, wanted)))
-        bad = words(PUTFH, NFS4ERR_BADHANDLE)
-        want(["once", "--tree", path], sent, results(1, NFS4ERR_BADHANDLE, words(PUTFH, NFS4_OK), bad))
+        want(["once", "--tree", path], *exchange(1, put(wanted - 1), put(wanted, NFS4ERR_BADHANDLE)))
     # Directories come first, wherever they stand.
     path = file_of("tree.toml", (file("f") + directory("d/e")).encode())
-    root, get = words(PUTROOTFH), words(GETFH)
-    sent = compound(1, root, lookup(b"d"), get, lookup(b"e"), get, root, lookup(b"f"), get)
-    root, found, got = words(PUTROOTFH, NFS4_OK), words(LOOKUP, NFS4_OK), words(GETFH, NFS4_OK)
-    handles = [got + handle(node) for node in (1, 2, 3)]
-    want(["once", "--tree", path], sent,
-         results(1, NFS4_OK, root, found, handles[0], found, handles[1], root, found, handles[2]))
+    want(["once", "--tree", path], *exchange(1, ROOT, look(b"d"), handle_is(1), look(b"e"), handle_is(2), ROOT,
+                                             look(b"f"), handle_is(3)))
     for path in path_of("missing"), path_of(""):
         want(["once", "--tree", path], fault="fault: file not read", what=path)
 
@@ -339,8 +350,8 @@ def test_faults(path_of):
 
 
 def test_random_seed(path_of, file_of):
-    """Without random bytes of the system nothing is read, served or judged. Before they are asked for, the tree's file is
-    read, or the file of an audit; and after that comes the address."""
+    """Without random bytes of the system nothing is read, served or judged. Before they are asked for, the tree's file
+    is read, or the file of an audit; and after that comes the address."""
     how = {"env": preloading(os.path.join(TOP, "tools/refuse_random.c"), path_of(""))}
     fault, unread = "fault: no random seed", "fault: file not read"
     missing, journal = path_of("missing"), path_of("unseeded.journal")
@@ -362,30 +373,28 @@ def test_client_slots():
     """255 clients have a slot each, and there is none for another one, nor for one of them that begins anew; one that
     asks again keeps its own."""
     first, again, anew = b"\1" * 8, setclientid(b"\1" * 8, b"9"), setclientid(b"\2" * 8, b"9")
-    full, confirmed = words(SETCLIENTID, NFS4ERR_RESOURCE), words(SETCLIENTID_CONFIRM, NFS4_OK)
+    full, confirmed = done(SETCLIENTID, status=NFS4ERR_RESOURCE), done(SETCLIENTID_CONFIRM)
     script = []
     for number in range(1, 256):
         script += [(setclientid(first, b"%d" % number), given(7, number, number))]
         script += [(confirmation(7, number, number), confirmed)]
     script += [(setclientid(first, b"more"), full), (anew, full), (again, given(7, 9, 256)), (anew, full)]
-    script += [(confirmation(7, 9, 256), confirmed), (words(RENEW, 7, 9), words(RENEW, NFS4_OK))]
-    sent = b"".join(compound(xid, operation, uid=1) for xid, (operation, _) in enumerate(script))
-    answers = [results(xid, int.from_bytes(answer[4:8], "big"), answer) for xid, (_, answer) in enumerate(script)]
-    want(["once", "--epoch", "7"], sent, b"".join(answers))
+    script += [(confirmation(7, 9, 256), confirmed), (words(RENEW, 7, 9), done(RENEW))]
+    sent, answers = zip(*(exchange(xid, pair, uid=1) for xid, pair in enumerate(script)))
+    want(["once", "--epoch", "7"], b"".join(sent), b"".join(answers))
 
 
 def test_journal(file_of):
     """A COMPOUND's 63 GETATTRs have an entry each: sent 15,873 times, and once more, the 1,000,000th entry is the
     last, and in a file of more the next one is wrong."""
-    root, get = words(PUTROOTFH, NFS4_OK), words(GETATTR, NFS4_OK, 0, 0)
-    sent = compound(1, words(PUTROOTFH), *[words(GETATTR, 0)] * 63)
-    answered = results(1, NFS4_OK, root, *[get] * 63)
-    full = results(1, NFS4ERR_RESOURCE, root, get, words(GETATTR, NFS4ERR_RESOURCE))
+    get = words(GETATTR, 0), words(GETATTR, NFS4_OK, 0, 0)
+    sent, answered = exchange(1, ROOT, *[get] * 63)
+    full = exchange(1, ROOT, get, (get[0], done(GETATTR, status=NFS4ERR_RESOURCE)))[1]
     path = file_of("full.journal", b"")
     want(["once", "--journal", path], sent * 15874, answered * 15873 + full)
     want(["audit", path], output=b"lawful: 1000000 entries\n")
-    entry = entry_of(words(GETATTR, 0), words(GETATTR, NFS4_OK, 0, 0), filehandle=(1, 0))
-    want(["audit", file_of("full.journal", journal_of(*[entry] * 1000001))], fault="fault: wrong answer at entry 1000000")
+    more = journal_of(*[entry_of(*get, filehandle=(1, 0))] * 1000001)
+    want(["audit", file_of("full.journal", more)], fault="fault: wrong answer at entry 1000000")
 
 
 # Nodes as a journal's file has them, with their number: those of the default tree, and one file `b`.
@@ -443,12 +452,11 @@ def test_journal_file(path_of, file_of):
     # Each field of the opening and of a Call.
     document = file("b") + '[policy]\ndelegations = "read"\ncallbacks = "assume"\nclose_locks = "refuse"\n'
     options = ["--epoch", "7", "--lease", "86400", "--now", "1099511627773", "--tree"]
-    sent = compound(1, words(PUTROOTFH), lookup(b"b"), words(GETATTR, 1, TYPE_SIZE_FILEID), uid=5)
-    attributes = words(GETATTR, NFS4_OK, 1, TYPE_SIZE_FILEID, 20, 1, 0, 0, 0, 2)
-    output = results(1, NFS4_OK, words(PUTROOTFH, NFS4_OK), words(LOOKUP, NFS4_OK), attributes)
-    entry = entry_of(words(GETATTR, 1, TYPE_SIZE_FILEID), attributes, (0xFF, 0xFFFFFFFD), (1, 5), (1, 1))
+    asked = node_is(1, 0, 2)
+    entry = entry_of(*asked, (0xFF, 0xFFFFFFFD), (1, 5), (1, 1))
     wanted = journal_of(entry, epoch=7, lease=86400, policy=(1, 1, 1), nodes=NODE_B)
-    want_journal(path, wanted, [*options, file_of("tree.toml", document.encode())], sent, output)
+    want_journal(path, wanted, [*options, file_of("tree.toml", document.encode())],
+                 *exchange(1, ROOT, look(b"b"), asked, uid=5))
     want(["audit", path], output=b"lawful: 1 entries\n")
 
 
@@ -469,15 +477,12 @@ def test_journal_faults(path_of, file_of):
 def long_run():
     """Records whose journal is long, with entries of 250,000 bytes among 3,600 small ones; their replies; and the
     journal."""
-    mask, values = words(1, TYPE_SIZE_FILEID), words(20, 2, 0, 0, 0, 1)
-    get, got = words(GETATTR) + mask, words(GETATTR, NFS4_OK) + mask + values
+    get = node_is(2, 0, 1)
     # By a clientid that nobody has.
     opening = words(OPEN, 1, 3, 0, 1, 1) + opaque(b"o") + words(0, 0) + opaque(b"n" * 250000)
-    refused, root = words(OPEN, NFS4ERR_STALE_CLIENTID), words(PUTROOTFH)
-    small = (compound(1, root, *[get] * 60), results(1, NFS4_OK, root + words(NFS4_OK), *[got] * 60),
-             [entry_of(get, got, filehandle=(1, 0))] * 60)
-    large = (compound(2, root, opening), results(2, NFS4ERR_STALE_CLIENTID, root + words(NFS4_OK), refused),
-             [entry_of(opening, refused, filehandle=(1, 0))])
+    refused = opening, done(OPEN, status=NFS4ERR_STALE_CLIENTID)
+    small = *exchange(1, ROOT, *[get] * 60), [entry_of(*get, filehandle=(1, 0))] * 60
+    large = *exchange(2, ROOT, refused), [entry_of(*refused, filehandle=(1, 0))]
     calls = [small] * 30 + [large] + [small] * 20 + [large] * 2 + [small] * 10
     sent, replies, entries = zip(*calls)
     return b"".join(sent), b"".join(replies), journal_of(*sum(entries, []))
