@@ -268,60 +268,38 @@ def file(path, text=None):
 
 SYNTAX, NAME, TOO_MANY, DUPLICATE = (f"fault: tree refused ({number})" for number in (1, 2, 3, 4))
 
-# Documents, and how many nodes their trees have with the root, or why they are refused.
-DOCUMENTS = [
-    ("", 1),
-    ("# none\n[policy]\n", 1),
-    ('[policy]\ndelegations = "none"\n', 1),
-    ('policy = { delegations = "read" }\n', 1),
-    ('policy.callbacks = "assume"\n', 1),
-    ('[policy]\ndelegations = "all"\ncallbacks = "probe"\nclose_locks = "free"\n', 1),
-    ('policy.close_locks = "refuse"\n', 1),
-    ('policy.close_locks = "Refuse"\n', SYNTAX),
-    ('policy.close_locks = "keep"\n', SYNTAX),
-    ('policy.close_locks = true\n', SYNTAX),
-    ('file = [{ path = "a/b/c/d/e/f/g/h" }]\n', 9),
-    (directory("a/b") + directory("a"), 3),
-    (file("f") + directory("d/e"), 4),
-    ("file = 1", SYNTAX),
-    (b"# \xff", SYNTAX),
-    (b'[[file]]\npath = "\xff"\n', SYNTAX),
-    ('[[file]]\nname = "x"\n', SYNTAX),
-    (file("x/../y"), NAME),
-    ('file = [{ path = "x/../y" }]', NAME),
-    ('directory = [{ path = "a/a/a/a/a/a/a/a/a" }]', NAME),
-    (file("x") + file("x/y"), DUPLICATE),
-    ('file = [{ path = "x" }, { path = "x/y" }]', DUPLICATE),
-    # Names and texts.
-    (file("n" * 255, ""), 2),
-    (file("n" * 256, ""), NAME),
-    (file("n", "t" * 65536), 2),
-    (file("n", "t" * 65537), TOO_MANY),
-    (file("n" * 256, "t" * 65537), NAME),
-    # Files. The 65th is judged before what its path says, but not before its name.
-    (numbered(0, 64), 65),
-    (numbered(0, 65), TOO_MANY),
-    (numbered(0, 64, file("f0")), TOO_MANY),
-    (numbered(0, 64, file("f0/a")), TOO_MANY),
-    (numbered(0, 64, file("..")), NAME),
-    (numbered(0, 65, file("..")), TOO_MANY),
-    # Directories. One is named again, and files need none anew.
-    (numbered(64, 0), 65),
-    (numbered(65, 0), TOO_MANY),
-    (numbered(64, 0, directory("d63")), 65),
-    (numbered(64, 1, file("d0/a")), 67),
-    (numbered(64, 1, file("f0/a")), DUPLICATE),
-    (numbered(64, 1, file("f0/a/b")), TOO_MANY),
-    (numbered(63, 0, directory("e/f")), TOO_MANY),
-    (numbered(63, 0, file("e/f")), 66),
-    (numbered(63, 0, file("e/f/g")), TOO_MANY),
-    (numbered(64, 64), 129),
-]
+# Documents, by how many nodes their trees have with the root, or by why they are refused. The 65th file is judged before
+# what its path says, but not before its name; and a directory may be named again, and needed by a file.
+DOCUMENTS = {
+    1: ["", "# none\n[policy]\n", '[policy]\ndelegations = "none"\n', 'policy = { delegations = "read" }\n',
+        'policy.callbacks = "assume"\n', '[policy]\ndelegations = "all"\ncallbacks = "probe"\nclose_locks = "free"\n',
+        'policy.close_locks = "refuse"\n'],
+    2: [file("n" * 255, ""), file("n", "t" * 65536)],
+    3: [directory("a/b") + directory("a")],
+    4: [file("f") + directory("d/e")],
+    9: ['file = [{ path = "a/b/c/d/e/f/g/h" }]\n'],
+    65: [numbered(0, 64), numbered(64, 0), numbered(64, 0, directory("d63"))],
+    66: [numbered(63, 0, file("e/f"))],
+    67: [numbered(64, 1, file("d0/a"))],
+    129: [numbered(64, 64)],
+    SYNTAX: [
+        'policy.close_locks = "Refuse"\n', 'policy.close_locks = "keep"\n', 'policy.close_locks = true\n', "file = 1",
+        b"# \xff", b'[[file]]\npath = "\xff"\n', '[[file]]\nname = "x"\n'],
+    NAME: [
+        file("x/../y"), 'file = [{ path = "x/../y" }]', 'directory = [{ path = "a/a/a/a/a/a/a/a/a" }]',
+        file("n" * 256, ""), file("n" * 256, "t" * 65537), numbered(0, 64, file(".."))],
+    TOO_MANY: [
+        file("n", "t" * 65537), numbered(0, 65), numbered(0, 64, file("f0")), numbered(0, 64, file("f0/a")),
+        numbered(0, 65, file("..")), numbered(65, 0), numbered(64, 1, file("f0/a/b")),
+        numbered(63, 0, directory("e/f")), numbered(63, 0, file("e/f/g"))],
+    DUPLICATE: [
+        file("x") + file("x/y"), 'file = [{ path = "x" }, { path = "x/y" }]', numbered(64, 1, file("f0/a"))],
+}
 
 
 def test_documents(path_of, file_of):
     """A refused document serves nothing. Of a tree the last node has a filehandle, and no node after it."""
-    for document, wanted in DOCUMENTS:
+    for wanted, document in [(wanted, document) for wanted, found in DOCUMENTS.items() for document in found]:
         path = file_of("tree.toml", document if isinstance(document, bytes) else document.encode())
         if isinstance(wanted, str):
             want(["once", "--tree", path], call(7, NULL), fault=wanted, what=path)

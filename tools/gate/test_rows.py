@@ -1,9 +1,9 @@
-"""`tools/rows`, by the program of rows as the gate has proved and built it: on the repository's rows, of which all pass,
-also where each connection has a thread of its own and the state is shared; on each of them with one byte changed in
-what it wants, which has to fail by its name, also in these other ways, and so on those with orders, with something else
-wanted of one; on files with a broken line, each of which has to be reported by file, line and reason; on folders that
-can't be read; and by programs that run out of memory, end early, or leave another journal. The journal that each row
-leaves has to be the model's; and so have the replies that it wants."""
+"""`tools/rows`, by the program of rows as the gate has proved and built it: on the repository's rows, of which all
+pass, also where each connection has a thread of its own and the state is shared; on each of them with one byte changed
+in what it wants, which has to fail by its name, also in these other ways, and so on those with orders, with something
+else wanted of one; on files with a broken line, each of which has to be reported by file, line and reason; on folders
+that can't be read; and by programs that run out of memory, end early, or leave another journal. The journal that each
+row leaves has to be the model's; and the model has to give the replies that it wants."""
 import os
 import re
 import subprocess

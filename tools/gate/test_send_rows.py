@@ -42,17 +42,8 @@ PARTS = 2
 # The seconds that a run of send_rows has, on however busy a machine.
 PATIENCE = 600
 
-TREE = """[[file]]
-path = "export/z"
-[[file]]
-path = "export/rows/z"
-[[file]]
-path = "export/rows/b"
-[[file]]
-path = "export/rows/d/c"
-[[file]]
-path = "export/rows/a"
-text = "hello"
+TREE = """file = [{ path = "export/z" }, { path = "export/rows/z" }, { path = "export/rows/b" },
+        { path = "export/rows/d/c" }, { path = "export/rows/a", text = "hello" }]
 """
 KNOWN = """# By --uid a call without a credential is uid 100's, who isn't nobody; and this tree has a node 5.
 credentials.rows: the principal is the uid
@@ -350,66 +341,34 @@ def test_alone(files, tell):
 # Rows that have to fail by their names: of a reply that doesn't come, of one that isn't wanted, also where no reply is
 # waited for; of a fault that there isn't, of another one, of one that isn't wanted; of a tree that is taken, and of one
 # that is refused otherwise or without being wanted so; and of another lease and epoch.
-WRONG_ALONE = """row another reply
-  send null 7
-  want null 8
-row no reply
-  send null 7
-  want null 7
-  want null 8
-row more replies
-  send null 7
-  send null 8
-  want null 7
-row nothing wanted
-  send null 7
-  want nothing
-row no fault
-  send null 7
-  want null 7
-  fault record too long
-row another fault
-  send bytes
-    0x80040001
-  want nothing
-  fault input ends inside a record
-row a fault
-  send bytes
-    0x80040001
-  want nothing
-row a tree that is taken
-  tree [[file]]
-  tree path = "a"
-  send null 7
-  want nothing
-  fault tree refused (1)
-row another refusal
-  tree [[file]]
-  tree path = ".."
-  send null 7
-  want nothing
-  fault tree refused (1)
-row a tree that is refused
-  tree [[file]]
-  tree path = ".."
-  send null 7
-  want null 7
-row another lease
-  lease 91
+NULL, TOO_LONG = "  send null 7\n", "  send bytes\n    0x80040001\n  want nothing\n"
+TAKEN, REFUSED_TREE = (f'  tree [[file]]\n  tree path = "{path}"\n' for path in ("a", ".."))
+WRONG_ALONE = {
+    "another reply": NULL + "  want null 8\n",
+    "no reply": NULL + "  want null 7\n  want null 8\n",
+    "more replies": NULL + "  send null 8\n  want null 7\n",
+    "nothing wanted": NULL + "  want nothing\n",
+    "no fault": NULL + "  want null 7\n  fault record too long\n",
+    "another fault": TOO_LONG + "  fault input ends inside a record\n",
+    "a fault": TOO_LONG,
+    "a tree that is taken": TAKEN + NULL + "  want nothing\n  fault tree refused (1)\n",
+    "another refusal": REFUSED_TREE + NULL + "  want nothing\n  fault tree refused (1)\n",
+    "a tree that is refused": REFUSED_TREE + NULL + "  want null 7\n",
+    "another lease": """  lease 91
   send compound 9
     PUTROOTFH
     GETATTR 1 0x400
   want compound 9 NFS4_OK
     PUTROOTFH NFS4_OK
     GETATTR NFS4_OK 1 0x400 4 90
-"""
+"""}
 
 
 def test_wrong_alone(path_of):
-    names = re.findall(r"(?m)^row (.*)", WRONG_ALONE)
-    status, said = send("--serve", f"{PROGRAM} serve", written(path_of("wrong.rows"), WRONG_ALONE))
-    assert [name for name in names if f": {name}\n" not in said] == []
-    wanted = f"{len(names)} rows: {len(names)} failed; 2 of them want their tree refused\n"
+    path = written(path_of("wrong.rows"), "".join(f"row {name}\n{lines}" for name, lines in WRONG_ALONE.items()))
+    status, said = send("--serve", f"{PROGRAM} serve", path)
+    assert [name for name in WRONG_ALONE if f": {name}\n" not in said] == []
+    wanted = f"{len(WRONG_ALONE)} rows: {len(WRONG_ALONE)} failed; 2 of them want their tree refused\n"
     assert status == 1 and said.endswith(wanted)
 
 
