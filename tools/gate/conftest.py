@@ -6,12 +6,13 @@ import signal
 import subprocess
 import sys
 from collections.abc import Callable, Iterator
-from functools import partial
+from functools import cache, partial
 from tempfile import TemporaryDirectory
 from typing import Any
 
 import pytest
 
+from nfs4.preload import preloading
 from nfs4.served import TOP
 
 sys.dont_write_bytecode = True
@@ -54,6 +55,25 @@ def path_of() -> Iterator[Callable[[str], str]]:
     """The path of a file of this name in a folder that the test has for itself, and that is gone behind it."""
     with TemporaryDirectory() as room:
         yield partial(os.path.join, room)
+
+
+@pytest.fixture(scope="session")
+def preloaded(tmp_path_factory: pytest.TempPathFactory) -> Callable[..., dict[str, str]]:
+    """The environment in which a program is loaded with a library that is made of this file of `tools`, once, and with
+    these variables. CC names the compiler, if it isn't cc."""
+    folder = str(tmp_path_factory.mktemp("libraries"))
+    environment = cache(lambda source: preloading(os.path.join(TOP, "tools", source), folder))
+    return lambda source, **variables: {**environment(source), **variables}
+
+
+@pytest.fixture
+def file_of(path_of: Callable[[str], str]) -> Callable[[str, str | bytes], str]:
+    """The path of a file of this name there, with this text or these bytes."""
+    def write(name: str, content: str | bytes) -> str:
+        with open(path_of(name), "wb") as out:
+            out.write(content if isinstance(content, bytes) else content.encode())
+        return path_of(name)
+    return write
 
 
 def build(name: str) -> None:

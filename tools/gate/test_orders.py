@@ -17,7 +17,7 @@ from nfs4.messages import NULL, PUTROOTFH, call, compound, confirmation, setclie
 from nfs4.preload import preloading
 from nfs4.wire import Opnum, Status, u32, u64
 from sending.driver import (ALONE, Driver, FORGET, FULL, Forgotten, MARK, Marked, NOT_LIVE, PENDING, PROBE, PROGRAM,
-                            REVOKE, Revoked, SERVE, SHARED, SWEEP, Swept, TAKE, TOP, head, part)
+                            REVOKE, Revoked, SERVE, SHARED, SWEEP, Swept, TAKE, head, part)
 
 pytestmark = pytest.mark.usefixtures("built_rows")
 ROOT = compound(9, words(PUTROOTFH))
@@ -95,19 +95,16 @@ def test_sweeps():
     expect("sweeps", (calls.sweeps in (1, 2, 3), calls.expired, ends), (True, 1, [(1, 0, 2)]))
 
 
-def test_last_sweep(path_of):
+def test_last_sweep(preloaded):
     """Without a thread there is one sweep, at the end."""
-    environment = preloading(os.path.join(TOP, "tools/refuse_threads.c"), path_of(""), MOST_THREADS="0")
-    with begin(SHARED, environment, seats=1) as driver:
+    with begin(SHARED, preloaded("refuse_threads.c", MOST_THREADS="0"), seats=1) as driver:
         expect("sweeps without a thread", driver.serve([ROOT], 1, 1, is_swept=True).sweeps, 1)
         driver.end()
 
 
-def test_pieces(path_of):
-    source, counted = path_of("yields.c"), path_of("yields")
-    with open(source, "w", encoding="utf-8") as file:
-        file.write(YIELDS)
-    environment, sent = preloading(source, path_of(""), YIELDS=counted), ROOT * 30
+def test_pieces(path_of, file_of):
+    counted, sent = path_of("yields"), ROOT * 30
+    environment = preloading(file_of("yields.c", YIELDS), path_of(""), YIELDS=counted)
     for piece, length in ((1, 1), (0, 1), (7, 7), (len(sent), len(sent))):
         with begin(ALONE, environment) as driver:
             driver.serve([sent], 0, piece)

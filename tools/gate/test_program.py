@@ -1,7 +1,6 @@
 """The program as the gate has proved and built it: with each option, with each fault that can be brought about, with
 words that it doesn't take, with documents of trees, up to its limits, and behind pipes. Expected bytes were worked out
-by hand; of a long journal the model says that it is lawful. The texts of help are in files beside this folder. CC names
-the C compiler, if it isn't cc."""
+by hand; of a long journal the model says that it is lawful. The texts of help are in files beside this folder."""
 import os
 import resource
 import signal
@@ -19,7 +18,6 @@ from nfs4.messages import (GETATTR, GETFH, LEASE_TIME, LOOKUP, NFS4ERR_BADHANDLE
                            NFS4ERR_STALE_CLIENTID, NFS4_OK, NULL, OPEN, PUTFH, PUTROOTFH, RENEW, SETCLIENTID,
                            SETCLIENTID_CONFIRM, TYPE_SIZE_FILEID, call, compound, confirmation, given, handle, lookup,
                            reply, results, setclientid, words)
-from nfs4.preload import preloading
 from nfs4.served import PROGRAM, Piped, TOP
 from nfs4.wire import opaque
 
@@ -27,16 +25,6 @@ pytestmark = pytest.mark.usefixtures("built_program")
 SAMPLE = os.path.join(TOP, "samples/files.toml")
 # The seconds that a run has, on however busy a machine.
 PATIENCE = 300
-
-
-@pytest.fixture
-def file_of(path_of):
-    """The path of a file of this name, with these bytes."""
-    def write(name, data):
-        with open(path_of(name), "wb") as out:
-            out.write(data)
-        return path_of(name)
-    return write
 
 
 def shown(data):
@@ -300,13 +288,13 @@ DOCUMENTS = {
 def test_documents(path_of, file_of):
     """A refused document serves nothing. Of a tree the last node has a filehandle, and no node after it."""
     for wanted, document in [(wanted, document) for wanted, found in DOCUMENTS.items() for document in found]:
-        path = file_of("tree.toml", document if isinstance(document, bytes) else document.encode())
+        path = file_of("tree.toml", document)
         if isinstance(wanted, str):
             want(["once", "--tree", path], call(7, NULL), fault=wanted, what=path)
             continue
         want(["once", "--tree", path], *exchange(1, put(wanted - 1), put(wanted, NFS4ERR_BADHANDLE)))
     # Directories come first, wherever they stand.
-    path = file_of("tree.toml", (file("f") + directory("d/e")).encode())
+    path = file_of("tree.toml", file("f") + directory("d/e"))
     want(["once", "--tree", path], *exchange(1, ROOT, look(b"d"), handle_is(1), look(b"e"), handle_is(2), ROOT,
                                              look(b"f"), handle_is(3)))
     for path in path_of("missing"), path_of(""):
@@ -327,10 +315,10 @@ def test_faults(path_of):
     os.close(folder)
 
 
-def test_random_seed(path_of, file_of):
+def test_random_seed(path_of, file_of, preloaded):
     """Without random bytes of the system nothing is read, served or judged. Before they are asked for, the tree's file
     is read, or the file of an audit; and after that comes the address."""
-    how = {"env": preloading(os.path.join(TOP, "tools/refuse_random.c"), path_of(""))}
+    how = {"env": preloaded("refuse_random.c")}
     fault, unread = "fault: no random seed", "fault: file not read"
     missing, journal = path_of("missing"), path_of("unseeded.journal")
     tree = file_of("tree.toml", b"file")
@@ -424,7 +412,7 @@ def test_journal_file(path_of, file_of):
     want(["audit", path], output=b"lawful: 3 entries\n")
     for rest, fault in (words(0x80000028, 8, 0), "input ends inside a record"), (words(0x80040001), "record too long"):
         want_journal(path, journal_of(*CLIENT_IDS), [], sent + rest, replies, f"fault: {fault}")
-    tree = file_of("tree.toml", file("b").encode())
+    tree = file_of("tree.toml", file("b"))
     want_journal(path, journal_of(nodes=NODE_B), ["--tree", tree], b"", b"")
     want(["audit", path], output=b"lawful: 0 entries\n")
     # Each field of the opening and of a Call.
@@ -433,7 +421,7 @@ def test_journal_file(path_of, file_of):
     asked = node_is(1, 0, 2)
     entry = entry_of(*asked, (0xFF, 0xFFFFFFFD), (1, 5), (1, 1))
     wanted = journal_of(entry, epoch=7, lease=86400, policy=(1, 1, 1), nodes=NODE_B)
-    want_journal(path, wanted, [*options, file_of("tree.toml", document.encode())],
+    want_journal(path, wanted, [*options, file_of("tree.toml", document)],
                  *exchange(1, ROOT, look(b"b"), asked, uid=5))
     want(["audit", path], output=b"lawful: 1 entries\n")
 
@@ -466,18 +454,17 @@ def long_run():
     return b"".join(sent), b"".join(replies), journal_of(*sum(entries, []))
 
 
-def test_long_journal(path_of):
+def test_long_journal(path_of, preloaded):
     """A long journal, also where each write takes a part of it only. Where its file takes no more bytes after a while,
     a beginning of it stands there, and that is the fault, unless the connection had one before."""
     (sent, replies, wanted), path, line = long_run(), path_of("run.journal"), "lawful: 3603 entries"
     want_journal(path, wanted, [], sent, replies)
     want(["audit", path], output=f"{line}\n".encode())
     expect("the model's verdict", verdict(wanted), (True, line))
-    environment = preloading(SHORT_WRITES, path_of(""))
     for most in "1000", "65537":
-        want_journal(path, wanted, [], sent, replies, env={**environment, "MOST_WRITTEN": most})
+        want_journal(path, wanted, [], sent, replies, env=preloaded("short_writes.c", MOST_WRITTEN=most))
     want_journal(path, b"", [], sent, replies, "fault: file not written", what=path,
-                 env={**environment, "MOST_WRITTEN": "0"})
+                 env=preloaded("short_writes.c", MOST_WRITTEN="0"))
     for limit in 1, 65536, 100001, 600000, len(wanted) - 1:
         for rest, fault in (b"", "file not written"), (b"\0", "input ends inside a record"):
             want_journal(path, wanted[:limit], [], sent + rest, replies, f"fault: {fault}", what=path,
@@ -486,14 +473,12 @@ def test_long_journal(path_of):
 
 # The bytes that are written together, and those of the buffer that they are gathered in.
 PIECE, BUFFER = 65536, 524288
-SHORT_WRITES = os.path.join(TOP, "tools/short_writes.c")
 
 
-def test_pieces(path_of):
+def test_pieces(path_of, preloaded):
     """A long journal's file is written in pieces, none of which is longer than the buffer; and they aren't many."""
     (sent, replies, wanted), path = long_run(), path_of("writes")
-    want_journal(path_of("run.journal"), wanted, [], sent, replies,
-                 env=preloading(SHORT_WRITES, path_of(""), WRITES=path))
+    want_journal(path_of("run.journal"), wanted, [], sent, replies, env=preloaded("short_writes.c", WRITES=path))
     with open(path, encoding="utf-8") as lines:
         lengths = [int(line) for line in lines]
     most = 2 * len(wanted) // PIECE

@@ -31,9 +31,8 @@ from nfs4.callbacks import recall_call
 from nfs4.client import Wrong
 from nfs4.messages import (DELEGRETURN, GETATTR, NFS4ERR_RESOURCE, NFS4_OK, OPEN, OPEN_CONFIRM, PUTFH, PUTROOTFH, RENEW,
                            TYPE_SIZE_FILEID, compound, confirmation, handle, results, setclientid, words)
-from nfs4.preload import preloading
 from nfs4.wire import Opnum, Status, opaque, record
-from sending.driver import Driver, Failed, MEMORY, Marked, NoMemory, SHARED, Swept, TAKE, TOP
+from sending.driver import Driver, Failed, MEMORY, Marked, NoMemory, SHARED, Swept, TAKE
 
 pytestmark = pytest.mark.usefixtures("built_rows")
 READ, WRITE, NONE = 1, 2, 0
@@ -407,14 +406,13 @@ def is_refused(lending, wanted, environment, growth):
 
 
 @pytest.mark.parametrize("part", range(PARTS))
-def test_refused(part, driver, lending, path_of, tell):
+def test_refused(part, driver, lending, path_of, preloaded, tell):
     """Each growth of a part of them is refused in turn."""
     wanted = Wanted(lending)
     undisturbed = Run(driver, lending, wanted)
     undisturbed.go()
-    limits = {"REFUSED_AFTER": str(undisturbed.first), "REFUSED_UNTIL": str(undisturbed.last)}
-    environment = preloading(os.path.join(TOP, "tools/refuse_growth.c"), path_of(""), **limits,
-                             REFUSED_MARK=path_of("mark"))
+    environment = preloaded("refuse_growth.c", REFUSED_AFTER=str(undisturbed.first),
+                            REFUSED_UNTIL=str(undisturbed.last), REFUSED_MARK=path_of("mark"))
     answered = []
     for growth in count(1 + part, PARTS):
         was_refused, has_memory = is_refused(lending, wanted, environment, growth)

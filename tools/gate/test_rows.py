@@ -34,12 +34,6 @@ def run(*words, program=PROGRAM):
     return ran.returncode, ran.stdout
 
 
-def written(path, text):
-    with open(path, "w", encoding="utf-8") as out:
-        out.write(text)
-    return path
-
-
 @pytest.fixture(params=range(PARTS), ids="part {}".format)
 def files(request):
     """The files of a part of the rows."""
@@ -144,7 +138,7 @@ def places_of(path, rows):
 
 
 @each_way
-def test_changed(words, files, path_of, tell):
+def test_changed(words, files, path_of, file_of, tell):
     """Each row that is changed fails, by its name."""
     places, counts = [], dict.fromkeys((changed_byte, changed_orders), 0)
     for file in files:
@@ -152,7 +146,7 @@ def test_changed(words, files, path_of, tell):
             rows = rows_of(source.read())
         for change in counts:
             others = [other for lines in rows for other in change(lines)]
-            path = written(path_of(f"{change.__name__}.{os.path.basename(file)}"),
+            path = file_of(f"{change.__name__}.{os.path.basename(file)}",
                            "".join("\n".join(lines) + "\n" for lines in others))
             places += places_of(path, others)
             counts[change] += len(others)
@@ -216,8 +210,8 @@ BROKEN = [
       for word in words]]
 
 
-def test_broken_lines(path_of, tell):
-    paths = [written(path_of(f"{number}.rows"), "\n".join(lines) + "\n") for number, (lines, _, _) in enumerate(BROKEN)]
+def test_broken_lines(file_of, tell):
+    paths = [file_of(f"{number}.rows", "\n".join(lines) + "\n") for number, (lines, _, _) in enumerate(BROKEN)]
     status, report = run(*paths)
     for path, (lines, at, reason) in zip(paths, BROKEN):
         assert f"\n{path}:{at}: {reason}" in f"\n{report}", lines
@@ -226,21 +220,20 @@ def test_broken_lines(path_of, tell):
     tell(f"{count} broken lines are told")
 
 
-def test_folders(path_of):
+def test_folders(path_of, file_of):
     """A folder that isn't there, one without rows, and a file that is no text."""
     status, report = run(path_of("missing"))
     assert status == 2 and report.startswith("rows: ")
     os.mkdir(path_of("empty"))
     assert run(path_of("empty")) == (1, "0 rows in 0 files: 0 failed, 0 files not read\n")
-    with open(path_of("bytes.rows"), "wb") as out:
-        out.write(b"row \xff\n")
-    status, report = run(path_of(""))
-    assert status == 1 and report.startswith(path_of("bytes.rows: "))
+    path = file_of("bytes.rows", b"row \xff\n")
+    status, report = run(path)
+    assert status == 1 and report.startswith(f"{path}: ")
 
 
 @pytest.fixture
-def null_row(path_of):
-    return written(path_of("null.rows"), "row NULL\n  send null 7\n  want null 7\n")
+def null_row(file_of):
+    return file_of("null.rows", "row NULL\n  send null 7\n  want null 7\n")
 
 
 def test_hex(null_row):
@@ -283,8 +276,8 @@ PROGRAMS = {
 
 
 @pytest.mark.parametrize("text, wanted, words", PROGRAMS.values(), ids=PROGRAMS)
-def test_programs(text, wanted, words, null_row, path_of):
+def test_programs(text, wanted, words, null_row, file_of):
     status, report = wanted
-    program = written(path_of("program"), text)
+    program = file_of("program", text)
     os.chmod(program, 0o755)
     assert run(*words, null_row, program=program) == (status, report.format(row=null_row))

@@ -87,12 +87,6 @@ def send_named(port, path, *words):
     return send("--names", *words, "127.0.0.1", port, path)
 
 
-def written(path, text):
-    with open(path, "w", encoding="utf-8") as out:
-        out.write(text)
-    return path
-
-
 def rows_in(files):
     return [row for file in files for row in File(file).rows]
 
@@ -125,9 +119,9 @@ def test_all(command, path_of, tell):
     tell(f"{ending().partition(':')[0]}, with {count} ids of clients")
 
 
-def test_elsewhere(path_of):
+def test_elsewhere(path_of, file_of):
     """Another epoch, other nodes, a path, a uid, known differences and reports."""
-    tree, known = written(path_of("tree.toml"), TREE), written(path_of("known"), KNOWN)
+    tree, known = file_of("tree.toml", TREE), file_of("known", KNOWN)
     tap, junit = path_of("tap"), path_of("junit")
     with serving([*MODEL, "--epoch", "7", "--tree", tree]) as port:
         got = send_named(port, DATA, "--path", "export/rows", "--uid", "500", "--known", known, "--tap", tap, "--junit",
@@ -151,12 +145,12 @@ def changed(text):
     return f"row {text[:found[-1].start(1)]}NFS4ERR_PERM{text[found[-1].end(1):]}" if found else ""
 
 
-def test_changed(files, port, path_of, tell):
+def test_changed(files, port, path_of, file_of, tell):
     """Each row with a status wanted at last that nothing has: it fails, and leaves nothing to those behind it."""
     for file in files:
         with open(file, encoding="utf-8") as source:
             rows = re.split("(?m)^row ", source.read())[1:]
-        written(path_of(os.path.basename(file)), "".join(map(changed, rows)))
+        file_of(os.path.basename(file), "".join(map(changed, rows)))
     count = sum(not row.is_alone for row in rows_in(files_of(path_of(""))))
     status, said = send_named(port, path_of(""))
     told = said.count(": status of the COMPOUND wanted NFS4ERR_PERM, got ")
@@ -228,10 +222,10 @@ row by itself
 """
 
 
-def test_wrong(port, path_of):
+def test_wrong(port, file_of):
     """Rows that have to fail, by their words, and rows that are left out."""
     text = "".join(f"row wrong {number}\n  {row}\n" for number, (row, _) in enumerate(WRONG)) + RIGHT
-    path = written(path_of("wrong.rows"), text)
+    path = file_of("wrong.rows", text)
     status, said = send_named(port, path)
     for number, (_, words) in enumerate(WRONG):
         assert re.search(rf": wrong {number}( .*)?\n", said) and words in said
@@ -240,22 +234,22 @@ def test_wrong(port, path_of):
     assert send_named(port, path, "--only", "it passes") == (0, "1 rows: 0 failed\n")
     got = send_named(port, path, "--only", "no such row")
     assert got == (1, "send_rows: there is no row 'no such row'\n")
-    known = written(path_of("better"), "wrong.rows: it passes\n  Not so.\n")
+    known = file_of("better", "wrong.rows: it passes\n  Not so.\n")
     status, said = send_named(port, path, "--only", "it passes", "--known", known)
     assert status == 0 and "it passes, though it is known to differ\n" in said
     got = send_named(port, path, "--path", "d")
     assert got == (1, "send_rows: /d/a can't be found: LOOKUP is NFS4ERR_NOENT\n")
 
 
-def test_in_vain(port, path_of):
-    path = written(path_of("vain.rows"), "row of no call\n  send record\n    1\n  want null 1\n")
+def test_in_vain(port, file_of):
+    path = file_of("vain.rows", "row of no call\n  send record\n    1\n  want null 1\n")
     status, said = send_named(port, path, "--patience", "1")
     assert status == 1 and "call 1: no reply within 1 s\n" in said and said.endswith("1 rows: 1 failed\n")
 
 
-def test_unwanted(port, path_of):
+def test_unwanted(port, file_of):
     """A reply that isn't wanted may come later than it is waited for, though not each time."""
-    path = written(path_of("unwanted.rows"), "row of a reply\n  send null 1\n  want nothing\n")
+    path = file_of("unwanted.rows", "row of a reply\n  send null 1\n  want nothing\n")
     came = (send_named(port, path) for _ in range(TIMES))
     status, said = next((got for got in came if got[0] != 0), (0, ""))
     assert status == 1 and "    behind the last call: a reply that isn't wanted\n" in said
@@ -270,9 +264,9 @@ REFUSED = {
 
 
 @pytest.mark.parametrize("kind, text, words", REFUSED.values(), ids=REFUSED)
-def test_refused(kind, text, words, path_of):
+def test_refused(kind, text, words, file_of):
     """Lines that can't be read, of rows and of known differences."""
-    path, right = written(path_of(f"refused.{kind}"), text), written(path_of("right.rows"), RIGHT)
+    path, right = file_of(f"refused.{kind}", text), file_of("right.rows", RIGHT)
     status, said = send("127.0.0.1", "1", *([path] if kind == "rows" else [right, "--known", path]))
     assert status == 1 and said.startswith(f"send_rows: {path}{words}")
 
@@ -285,9 +279,9 @@ def test_other_server():
 
 # Byte by byte.
 
-def test_plain(port, path_of):
+def test_plain(port, file_of):
     """Without names a row that comes again fails, by words."""
-    path = written(path_of("plain.rows"), f"row c{INTRODUCED}\n")
+    path = file_of("plain.rows", f"row c{INTRODUCED}\n")
     assert send("127.0.0.1", port, path) == (0, "1 rows: 0 failed\n")
     status, said = send("127.0.0.1", port, path)
     assert status == 1
@@ -298,7 +292,7 @@ OTHER_BYTE = "row of another reply\n  rule None.\n  send null 7\n  want null 8\n
 SWEEP = "row NULL\n  send null 7\n  want null 7\nrow of a sweep\n  want nothing\n  sweep 9 expired 1 kept 0\n"
 
 
-def test_model(path_of):
+def test_model(file_of):
     with Served([sys.executable, os.path.join(TOP, "tools/model/serve.py"), "--each", "--until-killed", "--listen",
                  "127.0.0.1:0"]) as served:
         server = "127.0.0.1", str(served.port)
@@ -306,9 +300,9 @@ def test_model(path_of):
         for words in ["--portable", *server, DATA], [*server, *files]:
             status, said = send(*words)
             assert status == 0 and said.endswith(" rows: 0 failed\n")
-        status, said = send(*server, written(path_of("byte.rows"), OTHER_BYTE))
+        status, said = send(*server, file_of("byte.rows", OTHER_BYTE))
         assert status == 1 and ": of another reply\n" in said and said.endswith("1 rows: 1 failed\n")
-        got = send(*server, written(path_of("sweep.rows"), SWEEP))
+        got = send(*server, file_of("sweep.rows", SWEEP))
         assert got == (0, "1 rows: 0 failed, 1 with orders left out\n")
 
 
@@ -364,16 +358,16 @@ WRONG_ALONE = {
 """}
 
 
-def test_wrong_alone(path_of):
-    path = written(path_of("wrong.rows"), "".join(f"row {name}\n{lines}" for name, lines in WRONG_ALONE.items()))
+def test_wrong_alone(file_of):
+    path = file_of("wrong.rows", "".join(f"row {name}\n{lines}" for name, lines in WRONG_ALONE.items()))
     status, said = send("--serve", f"{PROGRAM} serve", path)
     assert [name for name in WRONG_ALONE if f": {name}\n" not in said] == []
     wanted = f"{len(WRONG_ALONE)} rows: {len(WRONG_ALONE)} failed; 2 of them want their tree refused\n"
     assert status == 1 and said.endswith(wanted)
 
 
-def test_no_beginning(path_of):
+def test_no_beginning(file_of):
     """A server that doesn't begin."""
-    path = written(path_of("right.rows"), OTHER_BYTE.replace("want null 8", "want null 7"))
+    path = file_of("right.rows", OTHER_BYTE.replace("want null 8", "want null 7"))
     status, said = send("--serve", "false", path)
     assert status == 1 and ": of another reply\n" in said
