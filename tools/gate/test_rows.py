@@ -28,9 +28,10 @@ each_way = pytest.mark.parametrize("words", WAYS.values(), ids=WAYS)
 
 
 def run(*words, program=PROGRAM):
-    """The status of the command with these words, and what it reports."""
+    """The status of the command with these words, and what it reports, of which the end is shown where a test fails."""
     ran = subprocess.run([sys.executable, os.path.join(TOP, "tools/rows"), "--program", program, *words],
                          stdout=subprocess.PIPE, stderr=subprocess.STDOUT, timeout=600, text=True)
+    print(ran.stdout[-10_000:])
     return ran.returncode, ran.stdout
 
 

@@ -77,9 +77,10 @@ def files(request):
 
 
 def send(*words):
-    """The status of send_rows, and what it prints."""
+    """The status of send_rows, and what it prints, of which the end is shown where a test fails."""
     ran = subprocess.run([sys.executable, os.path.join(TOP, "tools/send_rows"), *words], stdout=subprocess.PIPE,
                          stderr=subprocess.STDOUT, text=True, timeout=PATIENCE)
+    print(ran.stdout[-10_000:])
     return ran.returncode, ran.stdout
 
 
