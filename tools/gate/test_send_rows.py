@@ -15,6 +15,7 @@ import socket
 import subprocess
 import sys
 from contextlib import contextmanager
+from functools import cache
 from xml.etree import ElementTree
 
 import pytest
@@ -92,16 +93,20 @@ def rows_in(files):
     return [row for file in files for row in File(file).rows]
 
 
+@cache
 def all_rows():
     return rows_in(files_of(DATA))
 
 
-def ending(failed=0, known=0):
+def count_alone():
+    return sum(row.is_alone for row in all_rows())
+
+
+def ending(known=0):
     """What is told at last, where all rows are sent that can be."""
-    alone = sum(row.is_alone for row in all_rows())
     told = f", {known} differ as is known" if known else ""
-    return (f"{len(all_rows()) - alone} rows: {failed} failed{told}, {alone} that need a server that has just been "
-            "started are left out\n")
+    return (f"{len(all_rows()) - count_alone()} rows: 0 failed{told}, {count_alone()} that need a server that has just "
+            "been started are left out\n")
 
 
 # By names.
@@ -117,7 +122,7 @@ def test_all(command, path_of, tell):
     clients = {entry.arguments[:2] for entry in calls if entry.opnum == Opnum.SETCLIENTID}
     count = len({name for _, name in clients})
     assert count <= IDS_LIMIT and len(clients) > 1000
-    tell(f"{ending().partition(':')[0]}, with {count} ids of clients")
+    tell(f"{len(all_rows()) - count_alone()} rows by names, with {count} ids of clients")
 
 
 def test_elsewhere(path_of, file_of):
@@ -128,7 +133,7 @@ def test_elsewhere(path_of, file_of):
         got = send_named(port, DATA, "--path", "export/rows", "--uid", "500", "--known", known, "--tap", tap, "--junit",
                          junit)
     assert got == (0, ending(known=2))
-    count, alone = len(all_rows()), sum(row.is_alone for row in all_rows())
+    count, alone = len(all_rows()), count_alone()
     with open(tap, encoding="utf-8") as source:
         lines = source.read().split("\n")
     *kinds, sections = [sum(bool(re.search(kind, line)) for line in lines) for kind in (
