@@ -22,17 +22,17 @@ from itertools import count
 
 import pytest
 
+from model.check_rows import is_marked
 from model.entries import Call
 from model.journal import journal_bytes, read_journal
 from model.recall_queue import Queuing, ROOM
-from model.states import Unchanged
 from model.tree import Tree
 from nfs4.callbacks import recall_call
 from nfs4.client import Wrong
 from nfs4.messages import (DELEGRETURN, GETATTR, NFS4ERR_RESOURCE, NFS4_OK, OPEN, OPEN_CONFIRM, PUTFH, PUTROOTFH, RENEW,
                            TYPE_SIZE_FILEID, compound, confirmation, handle, results, setclientid, words)
 from nfs4.wire import Opnum, Status, opaque, record
-from sending.driver import Driver, Failed, MEMORY, Marked, NoMemory, SHARED, Swept, TAKE
+from sending.driver import Driver, Failed, MEMORY, Marked, NOT_LIVE, NoMemory, SHARED, Swept, TAKE
 
 pytestmark = pytest.mark.usefixtures("built_rows")
 READ, WRITE, NONE = 1, 2, 0
@@ -166,11 +166,7 @@ class Both:
 
     def mark(self, client):
         """Says that the client can be called back."""
-        try:
-            self.model.mark_path(client, True)
-            wanted = Marked(0)
-        except Unchanged as why:
-            wanted = Marked(why.args[0])
+        wanted = Marked(0 if is_marked(self.model, client, True) else NOT_LIVE)
         expect("a mark", self.driver.mark(client, True), wanted)
 
     def probe(self):
