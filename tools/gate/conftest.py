@@ -1,7 +1,9 @@
 """What the gate's tests have in common. `pytest tools/gate -n 4` runs them side by side; those that are marked `alone`
 are judged by a clock, by memory or by processor time, and run beside nothing else: `.ci/run` has both commands."""
+import fcntl
 import os
 import signal
+import subprocess
 import sys
 from collections.abc import Callable, Iterator
 from functools import cache, partial
@@ -62,3 +64,34 @@ def preloaded(tmp_path_factory: pytest.TempPathFactory) -> Callable[..., dict[st
     folder = str(tmp_path_factory.mktemp("libraries"))
     environment = cache(lambda source: preloading(os.path.join(TOP, "tools", source), folder))
     return lambda source, **variables: {**environment(source), **variables}
+
+
+@pytest.fixture
+def file_of(path_of: Callable[[str], str]) -> Callable[[str, str | bytes], str]:
+    """The path of a file of this name there, with this text or these bytes."""
+    def write(name: str, content: str | bytes) -> str:
+        with open(path_of(name), "wb") as out:
+            out.write(content if isinstance(content, bytes) else content.encode())
+        return path_of(name)
+    return write
+
+
+def build(name: str) -> None:
+    """Proves and builds this program where it isn't there; in one process, and the others wait for it."""
+    folder = os.path.join(TOP, "crates", name)
+    with open(os.path.join(folder, "stdin"), "rb") as sent:
+        fcntl.flock(sent, fcntl.LOCK_EX)
+        if not os.path.exists(os.path.join(folder, "out", name)):
+            subprocess.run(["rt", "run"], cwd=folder, stdin=sent, stdout=subprocess.DEVNULL, check=True)
+
+
+@pytest.fixture(scope="session")
+def built_program() -> None:
+    """The program `nfs4state` is there."""
+    build("nfs4state")
+
+
+@pytest.fixture(scope="session")
+def built_rows() -> None:
+    """The program `rows` is there."""
+    build("rows")

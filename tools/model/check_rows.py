@@ -3,6 +3,7 @@
 
 The status is 1 where a row differs, or a file can't be read; and where a row without orders would get something else
 from a server that finds nobody at the callback addresses: over TCP it calls there at any time."""
+import argparse
 import sys
 from collections.abc import Set
 from typing import Any
@@ -135,6 +136,6 @@ def main(paths: list[str]) -> int:
 
 
 if __name__ == "__main__":
-    if len(sys.argv) < 2:
-        sys.exit(__doc__)
-    sys.exit(main(sys.argv[1:]))
+    parser = argparse.ArgumentParser(description=__doc__, formatter_class=argparse.RawDescriptionHelpFormatter)
+    parser.add_argument("paths", nargs="+", metavar="FOLDER|FILE.rows")
+    sys.exit(main(parser.parse_args().paths))

@@ -1,6 +1,5 @@
-#!/usr/bin/env python3
-"""try_recall_queue [--refuse] [PROGRAM]: the queue by which a state that threads share hands its recalls over, at the
-limit of its room, by the program of rows.
+"""The queue by which a state that threads share hands its recalls over, at the limit of its room, by the program of
+rows.
 
 41 clients have READ delegations of each of 25 files, and another client opens the files for writing: each OPEN is
 answered DELAY and calls 41 delegations back. Nothing is taken meanwhile, so that 1,024 recalls are in the queue, and
@@ -11,33 +10,31 @@ OPEN comes on its own at once with the others, and where no lock is held while t
 more, of which more recalls wait, some are taken after each OPEN, and in between the lock is held for each purpose that
 there is. All replies and outcomes are the model's, and so is the journal.
 
-With --refuse each growth of memory is refused in turn, from the first of these OPENs on, each of which comes on a
-connection of its own, up to the first recall that is taken. The OPEN is answered NFS4ERR_RESOURCE then, or its call
-SYSTEM_ERR, or its connection ends for want of memory; the queue has the recalls that it had before, and as many wait;
-and sent again it gets its reply. At the end the same recalls are taken in the same order, and the journal is the same.
-Or the program of rows says that it has no memory for itself."""
-import argparse
+Each growth of memory is refused in turn, from the first of these OPENs on, each of which comes on a connection of its
+own, up to the first recall that is taken. The OPEN is answered NFS4ERR_RESOURCE then, or its call SYSTEM_ERR, or its
+connection ends for want of memory; the queue has the recalls that it had before, and as many wait; and sent again it
+gets its reply. At the end the same recalls are taken in the same order, and the journal is the same. Or the program of
+rows says that it has no memory for itself."""
 import copy
 import os
-import sys
-import tempfile
 from collections import namedtuple
-from concurrent.futures import ThreadPoolExecutor
 from itertools import count
 
-sys.dont_write_bytecode = True
+import pytest
+
+from model.check_rows import is_marked
 from model.entries import Call
 from model.journal import journal_bytes, read_journal
 from model.recall_queue import Queuing, ROOM
-from model.states import Unchanged
 from model.tree import Tree
 from nfs4.callbacks import recall_call
+from nfs4.client import Wrong
 from nfs4.messages import (DELEGRETURN, GETATTR, NFS4ERR_RESOURCE, NFS4_OK, OPEN, OPEN_CONFIRM, PUTFH, PUTROOTFH, RENEW,
                            TYPE_SIZE_FILEID, compound, confirmation, handle, results, setclientid, words)
-from nfs4.preload import preloading
 from nfs4.wire import Opnum, Status, opaque, record
-from sending.driver import Driver, Failed, MEMORY, Marked, NoMemory, PROGRAM, SHARED, Swept, TAKE, TOP, build
+from sending.driver import Driver, Failed, MEMORY, Marked, NOT_LIVE, NoMemory, SHARED, Swept, TAKE
 
+pytestmark = pytest.mark.usefixtures("built_rows")
 READ, WRITE, NONE = 1, 2, 0
 LEASE = 90
 HOLDERS = 41
@@ -49,12 +46,8 @@ FILES, MORE_FILES = 25, 29
 SHORT_ADDRESS, LONG_ADDRESS = b"127.0.0.1.3.232", b"127.100.100.100.3.232"
 # A read of the server gives a whole order.
 WHOLE = 1 << 20
-# How many runs there are between two looks whether a growth was refused.
-AT_ONCE = 32
-
-
-class Wrong(Exception):
-    """Something else comes than is wanted."""
+# How many tests share the growths between them: each refuses one of so many.
+PARTS = 8
 
 
 def expect(what, got, wanted):
@@ -173,11 +166,7 @@ class Both:
 
     def mark(self, client):
         """Says that the client can be called back."""
-        try:
-            self.model.mark_path(client, True)
-            wanted = Marked(0)
-        except Unchanged as why:
-            wanted = Marked(why.args[0])
+        wanted = Marked(0 if is_marked(self.model, client, True) else NOT_LIVE)
         expect("a mark", self.driver.mark(client, True), wanted)
 
     def probe(self):
@@ -213,42 +202,49 @@ class Both:
         expect("what was taken", self.taken, [(name, number) for name in files for number in lent[name]])
 
 
-# What is tried.
+@pytest.fixture(scope="module")
+def lending():
+    return Lending(FILES)
 
-def try_one_seat(path, lending):
+
+@pytest.fixture
+def driver():
+    """A program of rows, which is gone at the end."""
+    with Driver() as program:
+        yield program
+
+
+def test_one_seat(driver, lending):
     """All calls come on one connection, and a sweep leaves none waiting."""
-    with Driver(path) as driver:
-        both = Both(driver, lending, lending.opens)
-        expect("waiting", (both.waiting(), both.waiting()), (1, 1))
-        both.take(1)
-        both.sweep(0)
-        expect("waiting after a sweep", both.waiting(), 0)
-        both.take(ROOM)
-        both.end()
+    both = Both(driver, lending, lending.opens)
+    expect("waiting", (both.waiting(), both.waiting()), (1, 1))
+    both.take(1)
+    both.sweep(0)
+    expect("waiting after a sweep", both.waiting(), 0)
+    both.take(ROOM)
+    both.end()
 
 
-def try_seats(path, lending):
+def test_seats(driver, lending):
     """Each OPEN comes on its own connection, at once with the others. A mark leaves none waiting."""
-    with Driver(path) as driver:
-        both = Both(driver, lending, seats=1 + len(lending.opens))
-        both.serve(*lending.opens)
-        expect("waiting", both.waiting(), 1)
-        both.take(1)
-        both.mark(1)
-        expect("waiting after a mark", both.waiting(), 0)
-        both.take(ROOM)
-        both.end()
+    both = Both(driver, lending, seats=1 + len(lending.opens))
+    both.serve(*lending.opens)
+    expect("waiting", both.waiting(), 1)
+    both.take(1)
+    both.mark(1)
+    expect("waiting after a mark", both.waiting(), 0)
+    both.take(ROOM)
+    both.end()
 
 
-def try_no_hold(path, lending):
+def test_no_hold(driver, lending):
     """Where the lock isn't held while the queue is emptied, what waits isn't taken."""
-    with Driver(path) as driver:
-        both = Both(driver, lending, lending.opens)
-        both.take(ROOM)
-        both.expect_none()
-        expect("waiting beside an empty queue", both.waiting(), 1)
-        both.take(1)
-        both.end()
+    both = Both(driver, lending, lending.opens)
+    both.take(ROOM)
+    both.expect_none()
+    expect("waiting beside an empty queue", both.waiting(), 1)
+    both.take(1)
+    both.end()
 
 
 def holds_of(both):
@@ -266,29 +262,29 @@ def holds_of(both):
         "a sweep that ends all": lambda: both.sweep(LEASE + 1)}
 
 
-def try_holds(path, lending):
+def test_holds(driver):
     """More recalls wait than one, and some are taken after each OPEN. After each hold so many wait less as were taken
     before it; after a call that takes no lock, as many as before: one that asks nothing of the state, and a RENEW."""
-    with Driver(path) as driver:
-        both = Both(driver, lending, seats=40)
-        for place, call in enumerate(lending.opens):
-            both.serve(call)
-            both.take(place % 5)
-        both.waiting()
-        for times, (name, hold) in enumerate(holds_of(both).items(), 1):
-            waiting = both.waiting()
-            both.take(times)
-            hold()
-            expect(f"waiting after {name}", both.waiting(), waiting - times)
+    lending = Lending(MORE_FILES)
+    both = Both(driver, lending, seats=40)
+    for place, call in enumerate(lending.opens):
+        both.serve(call)
+        both.take(place % 5)
+    both.waiting()
+    for times, (name, hold) in enumerate(holds_of(both).items(), 1):
         waiting = both.waiting()
-        both.take(1)
-        both.serve(compound(2, words(RENEW, 1, 1)))
-        both.serve(compound(4, words(PUTROOTFH)))
-        expect("waiting after no hold, and then after one", (both.waiting(), both.waiting()), (waiting, waiting - 1))
-        both.take(ROOM)
-        both.expect_none()
-        both.take(both.waiting())
-        both.end()
+        both.take(times)
+        hold()
+        expect(f"waiting after {name}", both.waiting(), waiting - times)
+    waiting = both.waiting()
+    both.take(1)
+    both.serve(compound(2, words(RENEW, 1, 1)))
+    both.serve(compound(4, words(PUTROOTFH)))
+    expect("waiting after no hold, and then after one", (both.waiting(), both.waiting()), (waiting, waiting - 1))
+    both.take(ROOM)
+    both.expect_none()
+    both.take(both.waiting())
+    both.end()
 
 
 # Memory that is refused.
@@ -390,10 +386,10 @@ class Run:
         expect("a recall behind the last one", self.driver.take_recall(0), b"")
 
 
-def run_refused(path, lending, wanted, environment, growth):
-    """Whether this growth was refused, and whether the program had memory for itself."""
+def is_refused(lending, wanted, environment, growth):
+    """Whether this growth was refused; and whether the program had memory for itself."""
     mark, has_memory = f'{environment["REFUSED_MARK"]}.{growth}', True
-    with Driver(path, {**environment, "REFUSED_MARK": mark, "REFUSED_GROWTH": str(growth)}) as driver:
+    with Driver(environment={**environment, "REFUSED_MARK": mark, "REFUSED_GROWTH": str(growth)}) as driver:
         try:
             Run(driver, lending, wanted).go()
         except NoMemory:
@@ -405,52 +401,19 @@ def run_refused(path, lending, wanted, environment, growth):
     return was_refused, has_memory
 
 
-def refuse(path):
-    """Refuses each growth in turn: how many there are, and how many of them the program didn't need for itself."""
-    lending = Lending(FILES)
-    wanted, refused = Wanted(lending), []
-    with Driver(path) as driver:
-        undisturbed = Run(driver, lending, wanted)
-        undisturbed.go()
-    with tempfile.TemporaryDirectory() as folder, ThreadPoolExecutor(os.cpu_count()) as pool:
-        limits = {"REFUSED_AFTER": str(undisturbed.first), "REFUSED_UNTIL": str(undisturbed.last)}
-        environment = preloading(os.path.join(TOP, "tools/refuse_growth.c"), folder, **limits,
-                                 REFUSED_MARK=os.path.join(folder, "mark"))
-        for first in count(1, AT_ONCE):
-            growths = range(first, first + AT_ONCE)
-            refused += pool.map(lambda growth: run_refused(path, lending, wanted, environment, growth), growths)
-            if not all(was_refused for was_refused, _ in refused):
-                break
-    answered = [has_memory for was_refused, has_memory in refused if was_refused]
-    expect("whether growths were refused to calls", any(answered), True)
-    return len(answered), sum(answered)
-
-
-def tell(path, is_refusing):
-    if is_refusing:
-        growths, answered = refuse(path)
-        print(f"try_recall_queue: with each of {answered} growths refused in turn {HOLDERS * FILES} recalls are taken "
-              f"in their order, each once; with each of {growths - answered} others the program of rows has no memory")
-        return
-    lending = Lending(FILES)
-    for attempt in (try_one_seat, try_seats, try_no_hold):
-        attempt(path, lending)
-    try_holds(path, Lending(MORE_FILES))
-    print(f"try_recall_queue: {HOLDERS * FILES} and {HOLDERS * MORE_FILES} recalls go through a queue with room for "
-          f"{ROOM} in their order, each once")
-
-
-def main():
-    parser = argparse.ArgumentParser(description=__doc__, formatter_class=argparse.RawDescriptionHelpFormatter)
-    parser.add_argument("--refuse", action="store_true", help="refuse each growth of memory")
-    parser.add_argument("program", nargs="?", default=PROGRAM, help="a built `rows`")
-    given = parser.parse_args()
-    path = os.path.abspath(given.program)
-    try:
-        build(path)
-        tell(path, given.refuse)
-    except (Wrong, Failed) as wrong:
-        sys.exit(f"try_recall_queue: {wrong}")
-
-
-main()
+@pytest.mark.parametrize("part", range(PARTS))
+def test_refused(part, driver, lending, path_of, preloaded, tell):
+    """Each growth of a part of them is refused in turn."""
+    wanted = Wanted(lending)
+    undisturbed = Run(driver, lending, wanted)
+    undisturbed.go()
+    environment = preloaded("refuse_growth.c", REFUSED_AFTER=str(undisturbed.first),
+                            REFUSED_UNTIL=str(undisturbed.last), REFUSED_MARK=path_of("mark"))
+    answered = []
+    for growth in count(1 + part, PARTS):
+        was_refused, has_memory = is_refused(lending, wanted, environment, growth)
+        if not was_refused:
+            break
+        answered.append(has_memory)
+    assert any(answered)
+    tell(f"{sum(answered)} growths are refused to calls, {len(answered) - sum(answered)} to the program for itself")

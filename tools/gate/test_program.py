@@ -1,66 +1,57 @@
-#!/usr/bin/env python3
-"""Runs the program as the gate has proved and built it: with each option, with each fault that can be brought about,
-with words that it doesn't take, with documents of trees, up to its limits, and behind pipes. Expected bytes were worked
-out by hand; of a long journal the model says that it is lawful. The texts of help are in files beside this one. CC
-names the C compiler, if it isn't cc."""
+"""The program as the gate has proved and built it: with each option, with each fault that can be brought about, with
+words that it doesn't take, with documents of trees, up to its limits, and behind pipes. Expected bytes were worked out
+by hand; of a long journal the model says that it is lawful. The texts of help are in files beside this folder."""
 import os
 import resource
 import signal
 import socket
 import string
 import subprocess
-import sys
-import tempfile
+from tempfile import TemporaryFile
 
-sys.dont_write_bytecode = True
+import pytest
+
 from model.journal import verdict
+from model.program import bytes_of
+from nfs4.client import Wrong, done, expect
 from nfs4.messages import (GETATTR, GETFH, LEASE_TIME, LOOKUP, NFS4ERR_BADHANDLE, NFS4ERR_NOENT, NFS4ERR_RESOURCE,
                            NFS4ERR_STALE_CLIENTID, NFS4_OK, NULL, OPEN, PUTFH, PUTROOTFH, RENEW, SETCLIENTID,
                            SETCLIENTID_CONFIRM, TYPE_SIZE_FILEID, call, compound, confirmation, given, handle, lookup,
                            reply, results, setclientid, words)
-from nfs4.preload import preloading
 from nfs4.served import PROGRAM, Piped, TOP
 from nfs4.wire import opaque
 
+pytestmark = pytest.mark.usefixtures("built_program")
 SAMPLE = os.path.join(TOP, "samples/files.toml")
-ROOM = tempfile.TemporaryDirectory()
-tried = 0
+# The seconds that a run has, on however busy a machine.
+PATIENCE = 300
 
 
-def fail(what, output=b"", errors=b""):
-    sys.exit(f"try_program: {what}; output and errors:\n{output[:4096].hex(' ', 4)}\n{errors.decode(errors='replace')}")
-
-
-def file_of(name, data):
-    """The path of a file with these bytes."""
-    path = os.path.join(ROOM.name, name)
-    with open(path, "wb") as out:
-        out.write(data)
-    return path
-
-
-def run(arguments, sent=b"", **how):
-    """What the program, given these words and this input as a file, writes, and its status."""
-    global tried
-    tried += 1
-    with open(file_of("input", sent), "rb") as source:
-        how = {"stdin": source, "stdout": subprocess.PIPE, "stderr": subprocess.PIPE, "timeout": 60, **how}
-        return subprocess.run([PROGRAM, *arguments], **how)
+def shown(data):
+    """Bytes in hexadecimal, shortened where they are many."""
+    return f"{len(data)} bytes, {data[:1024].hex(' ', 4)}"
 
 
 def want(arguments, sent=b"", output=b"", fault=None, status=None, what=None, **how):
-    """The program writes these bytes and, on standard error, this line, and has this status, or 1 after a fault. Before the
-    line comes one that says what is wrong with this file, if one is named."""
-    ran = run(arguments, sent, **how)
+    """The program, with these words and this input as a file, writes these bytes and, on standard error, this line, and
+    has this status, or 1 after a fault. Before the line comes one that says what is wrong with this file, if one is
+    named."""
+    pipe = subprocess.PIPE
+    with TemporaryFile() as source:
+        source.write(sent)
+        source.seek(0)
+        how = {"stdin": source, "stdout": pipe, "stderr": pipe, "timeout": PATIENCE, **how}
+        ran = subprocess.run([PROGRAM, *arguments], **how)
     errors = b"" if fault is None else fault.encode() + b"\n"
     wanted = (1 if fault else 0) if status is None else status
-    said = ran.stderr
+    said, got = ran.stderr, ran.stdout or b""
     if what is not None and said.startswith(what.encode() + b": "):
         said = said.partition(b"\n")[2]
     elif what is not None:
         errors = what.encode() + b": .. and " + errors
-    if (ran.returncode, ran.stdout or b"", said) != (wanted, output, errors):
-        fail(f"nfs4state {arguments}: status {ran.returncode}, wanted {wanted}", ran.stdout or b"", ran.stderr)
+    if (ran.returncode, got, said) != (wanted, output, errors):
+        raise Wrong(f"nfs4state {arguments}: status {ran.returncode}, wanted {wanted}; output {shown(got)}, wanted "
+                    f"{shown(output)}; errors {ran.stderr}, wanted {errors}")
 
 
 def decline(message, usage, *arguments):
@@ -69,48 +60,67 @@ def decline(message, usage, *arguments):
     want(arguments, fault=text, status=2)
 
 
-def try_null():
+# An operation, and its result.
+ROOT = words(PUTROOTFH), done(PUTROOTFH)
+
+
+def look(name, status=NFS4_OK):
+    return lookup(name), done(LOOKUP, status=status)
+
+
+def put(node, status=NFS4_OK):
+    return words(PUTFH) + handle(node), done(PUTFH, status=status)
+
+
+def handle_is(node):
+    return words(GETFH), done(GETFH, handle(node))
+
+
+def node_is(kind, size, fileid):
+    """The type, the size and the fileid of the current node."""
+    return (words(GETATTR, 1, TYPE_SIZE_FILEID),
+            words(GETATTR, NFS4_OK, 1, TYPE_SIZE_FILEID, 20, kind, 0, size, 0, fileid))
+
+
+def exchange(xid, *pairs, uid=None):
+    """A call of operations, and the reply with their results. The last result has its status."""
+    sent, got = zip(*pairs)
+    return compound(xid, *sent, uid=uid), results(xid, int.from_bytes(got[-1][4:8], "big"), *got)
+
+
+def test_null():
     for arguments in [], ["once"]:
         want(arguments)
         want(arguments, call(7, NULL), reply(7))
 
 
-def try_files():
+def test_files(file_of):
     """The default tree, a file that says the same, and an empty one."""
-    sent = compound(1, words(PUTROOTFH), lookup(b"d"), lookup(b"c"), words(GETFH))
-    done = [words(operation, NFS4_OK) for operation in (PUTROOTFH, LOOKUP, LOOKUP, GETFH)]
-    found = results(1, NFS4_OK, *done[:3], done[3] + handle(4))
+    found = exchange(1, ROOT, look(b"d"), look(b"c"), handle_is(4))
     for arguments in ["once"], ["once", "--tree", SAMPLE], ["once", f"--tree={SAMPLE}"]:
-        want(arguments, sent, found)
-    missing = results(1, NFS4ERR_NOENT, done[0], words(LOOKUP, NFS4ERR_NOENT))
-    want(["once", "--tree", file_of("empty.toml", b"")], sent, missing)
+        want(arguments, *found)
+    want(["once", "--tree", file_of("empty.toml", b"")], *exchange(1, ROOT, look(b"d", NFS4ERR_NOENT)))
 
 
-def try_letters():
+def test_letters():
     """The sample of README, a tree and two records: type, change, size and handle of `letters/first`, and no `a`."""
-    found = [words(operation, NFS4_OK) for operation in (PUTROOTFH, LOOKUP, LOOKUP)]
-    has, at = words(GETATTR, NFS4_OK, 1, 0x1A, 20, 1, 0, 0, 0, 5), words(GETFH, NFS4_OK) + handle(3)
+    has = words(GETATTR, 1, 0x1A), words(GETATTR, NFS4_OK, 1, 0x1A, 20, 1, 0, 0, 0, 5)
+    first = exchange(1, ROOT, look(b"letters"), look(b"first"), has, handle_is(3))
     with open(os.path.join(TOP, "samples/letters.records"), "rb") as records:
         want(["once", "--tree", os.path.join(TOP, "samples/letters.toml")], records.read(),
-             results(1, NFS4_OK, *found, has, at)
-             + results(2, NFS4ERR_NOENT, found[0], words(LOOKUP, NFS4ERR_NOENT)))
+             first[1] + exchange(2, ROOT, look(b"a", NFS4ERR_NOENT))[1])
 
 
-def try_nodes():
+def test_nodes():
     """Type, size and fileid of the root, `a`, `b`, `d` and `d/c`, and no `c` in the root, as samples/files.toml says
     too. The policy shows in none of these answers."""
-    get, root = words(GETATTR, 1, TYPE_SIZE_FILEID), words(PUTROOTFH)
-    sent = compound(1, root, get, lookup(b"a"), get, root, lookup(b"b"), get, root, lookup(b"d"), get, lookup(b"c"),
-                    get, root, lookup(b"c"))
-    has = lambda kind, size, fileid: words(GETATTR, NFS4_OK, 1, TYPE_SIZE_FILEID, 20, kind, 0, size, 0, fileid)
-    root, found = words(PUTROOTFH, NFS4_OK), words(LOOKUP, NFS4_OK)
-    nodes = results(1, NFS4ERR_NOENT, root, has(2, 0, 1), found, has(1, 5, 2), root, found, has(1, 0, 3), root, found,
-                    has(2, 0, 4), found, has(1, 0, 5), root, words(LOOKUP, NFS4ERR_NOENT))
-    want(["once"], sent, nodes)
-    want(["once", "--tree", SAMPLE], sent, nodes)
+    nodes = exchange(1, ROOT, node_is(2, 0, 1), look(b"a"), node_is(1, 5, 2), ROOT, look(b"b"), node_is(1, 0, 3), ROOT,
+                     look(b"d"), node_is(2, 0, 4), look(b"c"), node_is(1, 0, 5), ROOT, look(b"c", NFS4ERR_NOENT))
+    want(["once"], *nodes)
+    want(["once", "--tree", SAMPLE], *nodes)
 
 
-def try_attributes():
+def test_attributes():
     """Attributes of nodes by the mask that asks for them, of two words at most: the mask and the values that come."""
     all_of = lambda kind, size, node: [1, 0x180FFF, kind, 0, 0, 0, 0, size, 0, 0, 0, 0, 1, 0, 0, 1, 90, 0,
                                        8, 0x6E666831, node, 0, node + 1]
@@ -127,35 +137,33 @@ def try_attributes():
         (1, [], [], []),
         (1, [2, 0xFFFFFFFF], [2], [1]),
     ]
-    sent, got = [], []
+    pairs = []
     for node, asked, mask, values in table:
-        sent += [words(PUTFH) + handle(node), words(GETATTR, len(asked), *asked)]
-        got += [words(PUTFH, NFS4_OK), words(GETATTR, NFS4_OK, len(mask), *mask) + opaque(words(*values))]
-    want(["once"], compound(1, *sent), results(1, NFS4_OK, *got))
+        got = done(GETATTR, words(len(mask), *mask) + opaque(words(*values)))
+        pairs += [put(node), (words(GETATTR, len(asked), *asked), got)]
+    want(["once"], *exchange(1, *pairs))
 
 
-def try_lease_and_epoch():
-    sent = compound(1, words(PUTROOTFH), words(GETATTR, 1, LEASE_TIME))
+def test_lease_and_epoch():
     for options, lease in [([], 90), (["--lease", "1"], 1), (["--lease", "86400"], 86400), (["--lease=0090"], 90)]:
-        attribute = words(GETATTR, NFS4_OK, 1, LEASE_TIME, 4, lease)
-        want(["once", *options], sent, results(1, NFS4_OK, words(PUTROOTFH, NFS4_OK), attribute))
-    sent = compound(1, setclientid(bytes(range(1, 9)), b"c1"))
+        has = words(GETATTR, 1, LEASE_TIME), words(GETATTR, NFS4_OK, 1, LEASE_TIME, 4, lease)
+        want(["once", *options], *exchange(1, ROOT, has))
+    coming = setclientid(bytes(range(1, 9)), b"c1")
     others = ["--lease", "7", "--tree", SAMPLE]
     for options, epoch in [([], 1), (["--epoch", "0"], 0), (["--epoch", "4294967295", *others], 4294967295)]:
-        want(["once", *options], sent, results(1, NFS4_OK, given(epoch, 1, 1)))
+        want(["once", *options], *exchange(1, (coming, given(epoch, 1, 1))))
 
 
-def try_now():
+def test_now():
     """At whatever moment the calls come, a client that was confirmed is live, and another isn't."""
-    sent = compound(1, setclientid(bytes(range(1, 9)), b"c1"), confirmation(1, 1, 1), words(RENEW, 1, 1),
-                    words(RENEW, 1, 2))
-    done = [words(operation, NFS4_OK) for operation in (SETCLIENTID_CONFIRM, RENEW)]
-    got = results(1, NFS4ERR_STALE_CLIENTID, given(1, 1, 1), *done, words(RENEW, NFS4ERR_STALE_CLIENTID))
+    pairs = [(setclientid(bytes(range(1, 9)), b"c1"), given(1, 1, 1)),
+             (confirmation(1, 1, 1), done(SETCLIENTID_CONFIRM)), (words(RENEW, 1, 1), done(RENEW)),
+             (words(RENEW, 1, 2), done(RENEW, status=NFS4ERR_STALE_CLIENTID))]
     for options in [], ["--now", "0"], ["--now=1"], ["--now", "4294967296"], ["--now", "1099511627773"]:
-        want(["once", *options], sent, got)
+        want(["once", *options], *exchange(1, *pairs))
 
 
-def try_help():
+def test_help():
     for name, arguments in (("help", []), ("help_once", ["once"]), ("help_serve", ["serve"]),
                             ("help_audit", ["audit"])):
         with open(os.path.join(TOP, f"tools/{name}.txt"), "rb") as file:
@@ -164,7 +172,7 @@ def try_help():
             want([*arguments, word], output=text)
 
 
-def try_version():
+def test_version():
     """It names the kit by which the gate has proved it, without the kit's letter."""
     version = subprocess.run(["rt", "version"], stdout=subprocess.PIPE, text=True, check=True).stdout
     kit = version.split()[0].rstrip(string.ascii_lowercase)
@@ -181,7 +189,9 @@ OPTIONS = {
 COMMON = ["--tree", "--lease", "--epoch", "--journal"]
 
 
-def try_options(command, names):
+@pytest.mark.parametrize("command, names", [
+    ("once", [*COMMON, "--now"]), ("serve", [*COMMON, "--listen", "--connections", "--memory"])], ids=["once", "serve"])
+def test_options(command, names):
     """Numbers outside their limits or in another spelling, and options given twice or without a value. None of these
     runs begins to serve."""
     usage = f"nfs4state {command} [OPTIONS]"
@@ -198,11 +208,9 @@ def try_options(command, names):
         decline(f"a value is required for '{option}' but none was supplied", None, command, name)
 
 
-def try_words():
+def test_words(path_of):
     """Options that aren't taken, an audit without a file, and other words."""
     once, alone = "nfs4state once [OPTIONS]", "nfs4state [COMMAND]"
-    try_options("once", [*COMMON, "--now"])
-    try_options("serve", [*COMMON, "--listen", "--connections", "--memory"])
     for name in OPTIONS:
         decline(f"unexpected argument '{name}' found", alone, name, "9")
     for command, other in ("once", "--connections"), ("once", "--memory"), ("serve", "--now"):
@@ -221,7 +229,7 @@ def try_words():
     want(["once", "--tree", b"\xff"], fault="error: a word isn't UTF-8", status=2)
     # Words come before the tree's file, and before the address.
     reason = "invalid value '0' for '--lease <SECONDS>': not a number from 1 to 86400"
-    decline(reason, once, "once", "--tree", os.path.join(ROOM.name, "missing"), "--lease", "0")
+    decline(reason, once, "once", "--tree", path_of("missing"), "--lease", "0")
     serve = "nfs4state serve [OPTIONS]"
     flags = "--until-input-ends", "--until-killed"
     decline("the argument '--until-input-ends' cannot be used with '--until-killed'", serve, "serve", *flags)
@@ -229,7 +237,7 @@ def try_words():
         decline(f"the argument '{flag}' cannot be used multiple times", serve, "serve", flag, flag)
         decline(f"unexpected value '1' for '{flag}' found; no more were expected", f"nfs4state serve {flag}", "serve",
                 f"{flag}=1")
-    decline(reason, serve, "serve", "--tree", os.path.join(ROOM.name, "missing"), "--listen", "nowhere", "--lease", "0")
+    decline(reason, serve, "serve", "--tree", path_of("missing"), "--listen", "nowhere", "--lease", "0")
 
 
 def numbered(directories, files, more=""):
@@ -248,80 +256,52 @@ def file(path, text=None):
 
 SYNTAX, NAME, TOO_MANY, DUPLICATE = (f"fault: tree refused ({number})" for number in (1, 2, 3, 4))
 
-# Documents, and how many nodes their trees have with the root, or why they are refused.
-DOCUMENTS = [
-    ("", 1),
-    ("# none\n[policy]\n", 1),
-    ('[policy]\ndelegations = "none"\n', 1),
-    ('policy = { delegations = "read" }\n', 1),
-    ('policy.callbacks = "assume"\n', 1),
-    ('[policy]\ndelegations = "all"\ncallbacks = "probe"\nclose_locks = "free"\n', 1),
-    ('policy.close_locks = "refuse"\n', 1),
-    ('policy.close_locks = "Refuse"\n', SYNTAX),
-    ('policy.close_locks = "keep"\n', SYNTAX),
-    ('policy.close_locks = true\n', SYNTAX),
-    ('file = [{ path = "a/b/c/d/e/f/g/h" }]\n', 9),
-    (directory("a/b") + directory("a"), 3),
-    (file("f") + directory("d/e"), 4),
-    ("file = 1", SYNTAX),
-    (b"# \xff", SYNTAX),
-    (b'[[file]]\npath = "\xff"\n', SYNTAX),
-    ('[[file]]\nname = "x"\n', SYNTAX),
-    (file("x/../y"), NAME),
-    ('file = [{ path = "x/../y" }]', NAME),
-    ('directory = [{ path = "a/a/a/a/a/a/a/a/a" }]', NAME),
-    (file("x") + file("x/y"), DUPLICATE),
-    ('file = [{ path = "x" }, { path = "x/y" }]', DUPLICATE),
-    # Names and texts.
-    (file("n" * 255, ""), 2),
-    (file("n" * 256, ""), NAME),
-    (file("n", "t" * 65536), 2),
-    (file("n", "t" * 65537), TOO_MANY),
-    (file("n" * 256, "t" * 65537), NAME),
-    # Files. The 65th is judged before what its path says, but not before its name.
-    (numbered(0, 64), 65),
-    (numbered(0, 65), TOO_MANY),
-    (numbered(0, 64, file("f0")), TOO_MANY),
-    (numbered(0, 64, file("f0/a")), TOO_MANY),
-    (numbered(0, 64, file("..")), NAME),
-    (numbered(0, 65, file("..")), TOO_MANY),
-    # Directories. One is named again, and files need none anew.
-    (numbered(64, 0), 65),
-    (numbered(65, 0), TOO_MANY),
-    (numbered(64, 0, directory("d63")), 65),
-    (numbered(64, 1, file("d0/a")), 67),
-    (numbered(64, 1, file("f0/a")), DUPLICATE),
-    (numbered(64, 1, file("f0/a/b")), TOO_MANY),
-    (numbered(63, 0, directory("e/f")), TOO_MANY),
-    (numbered(63, 0, file("e/f")), 66),
-    (numbered(63, 0, file("e/f/g")), TOO_MANY),
-    (numbered(64, 64), 129),
-]
+# Documents, by how many nodes their trees have with the root, or by why they are refused. The 65th file is judged before
+# what its path says, but not before its name; and a directory may be named again, and needed by a file.
+DOCUMENTS = {
+    1: ["", "# none\n[policy]\n", '[policy]\ndelegations = "none"\n', 'policy = { delegations = "read" }\n',
+        'policy.callbacks = "assume"\n', '[policy]\ndelegations = "all"\ncallbacks = "probe"\nclose_locks = "free"\n',
+        'policy.close_locks = "refuse"\n'],
+    2: [file("n" * 255, ""), file("n", "t" * 65536)],
+    3: [directory("a/b") + directory("a")],
+    4: [file("f") + directory("d/e")],
+    9: ['file = [{ path = "a/b/c/d/e/f/g/h" }]\n'],
+    65: [numbered(0, 64), numbered(64, 0), numbered(64, 0, directory("d63"))],
+    66: [numbered(63, 0, file("e/f"))],
+    67: [numbered(64, 1, file("d0/a"))],
+    129: [numbered(64, 64)],
+    SYNTAX: [
+        'policy.close_locks = "Refuse"\n', 'policy.close_locks = "keep"\n', 'policy.close_locks = true\n', "file = 1",
+        b"# \xff", b'[[file]]\npath = "\xff"\n', '[[file]]\nname = "x"\n'],
+    NAME: [
+        file("x/../y"), 'file = [{ path = "x/../y" }]', 'directory = [{ path = "a/a/a/a/a/a/a/a/a" }]',
+        file("n" * 256, ""), file("n" * 256, "t" * 65537), numbered(0, 64, file(".."))],
+    TOO_MANY: [
+        file("n", "t" * 65537), numbered(0, 65), numbered(0, 64, file("f0")), numbered(0, 64, file("f0/a")),
+        numbered(0, 65, file("..")), numbered(65, 0), numbered(64, 1, file("f0/a/b")),
+        numbered(63, 0, directory("e/f")), numbered(63, 0, file("e/f/g"))],
+    DUPLICATE: [
+        file("x") + file("x/y"), 'file = [{ path = "x" }, { path = "x/y" }]', numbered(64, 1, file("f0/a"))],
+}
 
 
-def try_documents():
+def test_documents(path_of, file_of):
     """A refused document serves nothing. Of a tree the last node has a filehandle, and no node after it."""
-    for document, wanted in DOCUMENTS:
-        path = file_of("tree.toml", document if isinstance(document, bytes) else document.encode())
+    for wanted, document in [(wanted, document) for wanted, found in DOCUMENTS.items() for document in found]:
+        path = file_of("tree.toml", document)
         if isinstance(wanted, str):
             want(["once", "--tree", path], call(7, NULL), fault=wanted, what=path)
             continue
-        sent = compound(1, *(words(PUTFH) + handle(node) for node in (wanted - 1, wanted)))
-        bad = words(PUTFH, NFS4ERR_BADHANDLE)
-        want(["once", "--tree", path], sent, results(1, NFS4ERR_BADHANDLE, words(PUTFH, NFS4_OK), bad))
+        want(["once", "--tree", path], *exchange(1, put(wanted - 1), put(wanted, NFS4ERR_BADHANDLE)))
     # Directories come first, wherever they stand.
-    path = file_of("tree.toml", (file("f") + directory("d/e")).encode())
-    root, get = words(PUTROOTFH), words(GETFH)
-    sent = compound(1, root, lookup(b"d"), get, lookup(b"e"), get, root, lookup(b"f"), get)
-    root, found, got = words(PUTROOTFH, NFS4_OK), words(LOOKUP, NFS4_OK), words(GETFH, NFS4_OK)
-    handles = [got + handle(node) for node in (1, 2, 3)]
-    want(["once", "--tree", path], sent,
-         results(1, NFS4_OK, root, found, handles[0], found, handles[1], root, found, handles[2]))
-    for path in os.path.join(ROOM.name, "missing"), ROOM.name:
+    path = file_of("tree.toml", file("f") + directory("d/e"))
+    want(["once", "--tree", path], *exchange(1, ROOT, look(b"d"), handle_is(1), look(b"e"), handle_is(2), ROOT,
+                                             look(b"f"), handle_is(3)))
+    for path in path_of("missing"), path_of(""):
         want(["once", "--tree", path], fault="fault: file not read", what=path)
 
 
-def try_faults():
+def test_faults(path_of):
     """Faults of a connection, after a record that was answered, and alone."""
     null, inside = call(7, NULL), words(0x80000028, 8, 0)
     want(["once"], null + inside, reply(7), "fault: input ends inside a record")
@@ -330,17 +310,17 @@ def try_faults():
     want(["once"], words(0x80040001), fault="fault: record too long")
     with open("/dev/full", "wb") as full:
         want(["once"], null, fault="fault: output not written", stdout=full)
-    folder = os.open(ROOM.name, os.O_RDONLY)
+    folder = os.open(path_of(""), os.O_RDONLY)
     want(["once"], fault="fault: input not read", stdin=folder)
     os.close(folder)
 
 
-def try_random_seed():
-    """Without random bytes of the system nothing is read, served or judged. Before they are asked for, the tree's file is
-    read, or the file of an audit; and after that comes the address."""
-    how = {"env": preloading(os.path.join(TOP, "tools/refuse_random.c"), ROOM.name)}
+def test_random_seed(path_of, file_of, preloaded):
+    """Without random bytes of the system nothing is read, served or judged. Before they are asked for, the tree's file
+    is read, or the file of an audit; and after that comes the address."""
+    how = {"env": preloaded("refuse_random.c")}
     fault, unread = "fault: no random seed", "fault: file not read"
-    missing, journal = os.path.join(ROOM.name, "missing"), os.path.join(ROOM.name, "unseeded.journal")
+    missing, journal = path_of("missing"), path_of("unseeded.journal")
     tree = file_of("tree.toml", b"file")
     want([], call(7, NULL), fault=fault, **how)
     for command in ["once"], ["serve", "--listen", "nowhere"]:
@@ -349,41 +329,38 @@ def try_random_seed():
         want([*command, "--tree", SAMPLE], fault=fault, **how)
         want([*command, "--tree", tree], fault=SYNTAX, what=tree, **how)
         want([*command, "--tree", missing], fault=unread, what=missing, **how)
-    if os.path.exists(journal):
-        fail("a journal of no run")
+    assert not os.path.exists(journal)
     for data in journal_of(*CLIENT_IDS), b"":
         want(["audit", file_of("other.journal", data)], fault=fault, **how)
     want(["audit", missing], fault=unread, what=missing, **how)
 
 
-def try_client_slots():
+def test_client_slots():
     """255 clients have a slot each, and there is none for another one, nor for one of them that begins anew; one that
     asks again keeps its own."""
     first, again, anew = b"\1" * 8, setclientid(b"\1" * 8, b"9"), setclientid(b"\2" * 8, b"9")
-    full, confirmed = words(SETCLIENTID, NFS4ERR_RESOURCE), words(SETCLIENTID_CONFIRM, NFS4_OK)
+    full, confirmed = done(SETCLIENTID, status=NFS4ERR_RESOURCE), done(SETCLIENTID_CONFIRM)
     script = []
     for number in range(1, 256):
         script += [(setclientid(first, b"%d" % number), given(7, number, number))]
         script += [(confirmation(7, number, number), confirmed)]
     script += [(setclientid(first, b"more"), full), (anew, full), (again, given(7, 9, 256)), (anew, full)]
-    script += [(confirmation(7, 9, 256), confirmed), (words(RENEW, 7, 9), words(RENEW, NFS4_OK))]
-    sent = b"".join(compound(xid, operation, uid=1) for xid, (operation, _) in enumerate(script))
-    answers = [results(xid, int.from_bytes(answer[4:8], "big"), answer) for xid, (_, answer) in enumerate(script)]
-    want(["once", "--epoch", "7"], sent, b"".join(answers))
+    script += [(confirmation(7, 9, 256), confirmed), (words(RENEW, 7, 9), done(RENEW))]
+    sent, answers = zip(*(exchange(xid, pair, uid=1) for xid, pair in enumerate(script)))
+    want(["once", "--epoch", "7"], b"".join(sent), b"".join(answers))
 
 
-def try_journal():
+def test_journal(file_of):
     """A COMPOUND's 63 GETATTRs have an entry each: sent 15,873 times, and once more, the 1,000,000th entry is the
     last, and in a file of more the next one is wrong."""
-    root, get = words(PUTROOTFH, NFS4_OK), words(GETATTR, NFS4_OK, 0, 0)
-    sent = compound(1, words(PUTROOTFH), *[words(GETATTR, 0)] * 63)
-    answered = results(1, NFS4_OK, root, *[get] * 63)
-    full = results(1, NFS4ERR_RESOURCE, root, get, words(GETATTR, NFS4ERR_RESOURCE))
+    get = words(GETATTR, 0), words(GETATTR, NFS4_OK, 0, 0)
+    sent, answered = exchange(1, ROOT, *[get] * 63)
+    full = exchange(1, ROOT, get, (get[0], done(GETATTR, status=NFS4ERR_RESOURCE)))[1]
     path = file_of("full.journal", b"")
     want(["once", "--journal", path], sent * 15874, answered * 15873 + full)
     want(["audit", path], output=b"lawful: 1000000 entries\n")
-    entry = entry_of(words(GETATTR, 0), words(GETATTR, NFS4_OK, 0, 0), filehandle=(1, 0))
-    want(["audit", file_of("full.journal", journal_of(*[entry] * 1000001))], fault="fault: wrong answer at entry 1000000")
+    more = journal_of(*[entry_of(*get, filehandle=(1, 0))] * 1000001)
+    want(["audit", file_of("full.journal", more)], fault="fault: wrong answer at entry 1000000")
 
 
 # Nodes as a journal's file has them, with their number: those of the default tree, and one file `b`.
@@ -418,102 +395,94 @@ def client_ids():
         return sent, replies.read()
 
 
-def want_journal(wanted, arguments, sent, output, fault=None, **how):
+def want_journal(path, wanted, arguments, sent, output, fault=None, **how):
     """The program writes this file too, in place of a longer one."""
-    path = file_of("run.journal", bytes(len(wanted) + 100))
+    with open(path, "wb") as out:
+        out.write(bytes(len(wanted) + 100))
     want(["once", *arguments, "--journal", path], sent, output, fault, **how)
-    with open(path, "rb") as file:
-        got = file.read()
-    if got != wanted:
-        fail("another journal", got)
-    return path
+    if (got := bytes_of(path)) != wanted:
+        raise Wrong(f"the journal has {shown(got)}, wanted {shown(wanted)}")
 
 
-def try_journal_file():
+def test_journal_file(path_of, file_of):
     """The journal of a run as a file, which the program finds lawful. It is written also after a fault."""
     sent, replies = client_ids()
-    path = want_journal(journal_of(*CLIENT_IDS), [], sent, replies)
+    path = path_of("run.journal")
+    want_journal(path, journal_of(*CLIENT_IDS), [], sent, replies)
     want(["audit", path], output=b"lawful: 3 entries\n")
     for rest, fault in (words(0x80000028, 8, 0), "input ends inside a record"), (words(0x80040001), "record too long"):
-        want_journal(journal_of(*CLIENT_IDS), [], sent + rest, replies, f"fault: {fault}")
-    path = want_journal(journal_of(nodes=NODE_B), ["--tree", file_of("tree.toml", file("b").encode())], b"", b"")
+        want_journal(path, journal_of(*CLIENT_IDS), [], sent + rest, replies, f"fault: {fault}")
+    tree = file_of("tree.toml", file("b"))
+    want_journal(path, journal_of(nodes=NODE_B), ["--tree", tree], b"", b"")
     want(["audit", path], output=b"lawful: 0 entries\n")
     # Each field of the opening and of a Call.
     document = file("b") + '[policy]\ndelegations = "read"\ncallbacks = "assume"\nclose_locks = "refuse"\n'
     options = ["--epoch", "7", "--lease", "86400", "--now", "1099511627773", "--tree"]
-    sent = compound(1, words(PUTROOTFH), lookup(b"b"), words(GETATTR, 1, TYPE_SIZE_FILEID), uid=5)
-    attributes = words(GETATTR, NFS4_OK, 1, TYPE_SIZE_FILEID, 20, 1, 0, 0, 0, 2)
-    output = results(1, NFS4_OK, words(PUTROOTFH, NFS4_OK), words(LOOKUP, NFS4_OK), attributes)
-    entry = entry_of(words(GETATTR, 1, TYPE_SIZE_FILEID), attributes, (0xFF, 0xFFFFFFFD), (1, 5), (1, 1))
+    asked = node_is(1, 0, 2)
+    entry = entry_of(*asked, (0xFF, 0xFFFFFFFD), (1, 5), (1, 1))
     wanted = journal_of(entry, epoch=7, lease=86400, policy=(1, 1, 1), nodes=NODE_B)
-    path = want_journal(wanted, [*options, file_of("tree.toml", document.encode())], sent, output)
+    want_journal(path, wanted, [*options, file_of("tree.toml", document)],
+                 *exchange(1, ROOT, look(b"b"), asked, uid=5))
     want(["audit", path], output=b"lawful: 1 entries\n")
 
 
-def try_journal_faults():
+def test_journal_faults(path_of, file_of):
     """A file that can't be written is the last fault of a run, and leaves its replies. Without a run there is no
     file."""
     sent, replies = client_ids()
-    missing = os.path.join(ROOM.name, "missing/run.journal")
-    for path in missing, ROOM.name, "/dev/full", "":
+    missing = path_of("missing/run.journal")
+    for path in missing, path_of(""), "/dev/full", "":
         want(["once", "--journal", path], sent, replies, "fault: file not written", what=path)
         want(["once", "--journal", path], sent + b"\0", replies, "fault: input ends inside a record", what=path)
-    path = os.path.join(ROOM.name, "refused.journal")
+    path = path_of("refused.journal")
     tree = file_of("tree.toml", b"file")
     want(["once", "--journal", path, "--tree", tree], sent, fault=SYNTAX, what=tree)
-    if os.path.exists(path):
-        fail("a journal of no run")
+    assert not os.path.exists(path)
 
 
 def long_run():
     """Records whose journal is long, with entries of 250,000 bytes among 3,600 small ones; their replies; and the
     journal."""
-    mask, values = words(1, TYPE_SIZE_FILEID), words(20, 2, 0, 0, 0, 1)
-    get, got = words(GETATTR) + mask, words(GETATTR, NFS4_OK) + mask + values
+    get = node_is(2, 0, 1)
     # By a clientid that nobody has.
     opening = words(OPEN, 1, 3, 0, 1, 1) + opaque(b"o") + words(0, 0) + opaque(b"n" * 250000)
-    refused, root = words(OPEN, NFS4ERR_STALE_CLIENTID), words(PUTROOTFH)
-    small = (compound(1, root, *[get] * 60), results(1, NFS4_OK, root + words(NFS4_OK), *[got] * 60),
-             [entry_of(get, got, filehandle=(1, 0))] * 60)
-    large = (compound(2, root, opening), results(2, NFS4ERR_STALE_CLIENTID, root + words(NFS4_OK), refused),
-             [entry_of(opening, refused, filehandle=(1, 0))])
+    refused = opening, done(OPEN, status=NFS4ERR_STALE_CLIENTID)
+    small = *exchange(1, ROOT, *[get] * 60), [entry_of(*get, filehandle=(1, 0))] * 60
+    large = *exchange(2, ROOT, refused), [entry_of(*refused, filehandle=(1, 0))]
     calls = [small] * 30 + [large] + [small] * 20 + [large] * 2 + [small] * 10
     sent, replies, entries = zip(*calls)
     return b"".join(sent), b"".join(replies), journal_of(*sum(entries, []))
 
 
-def try_long_journal():
+def test_long_journal(path_of, preloaded):
     """A long journal, also where each write takes a part of it only. Where its file takes no more bytes after a while,
     a beginning of it stands there, and that is the fault, unless the connection had one before."""
-    sent, replies, wanted = long_run()
-    lawful = b"lawful: 3603 entries\n"
-    want(["audit", want_journal(wanted, [], sent, replies)], output=lawful)
-    if verdict(wanted) != (True, lawful.decode().strip()):
-        fail("the model finds the journal unlawful")
+    (sent, replies, wanted), path, line = long_run(), path_of("run.journal"), "lawful: 3603 entries"
+    want_journal(path, wanted, [], sent, replies)
+    want(["audit", path], output=f"{line}\n".encode())
+    expect("the model's verdict", verdict(wanted), (True, line))
     for most in "1000", "65537":
-        want_journal(wanted, [], sent, replies, env={**os.environ, "LD_PRELOAD": short_writes(), "MOST_WRITTEN": most})
-    how = {"env": {**os.environ, "LD_PRELOAD": short_writes(), "MOST_WRITTEN": "0"}}
-    what = os.path.join(ROOM.name, "run.journal")
-    want_journal(b"", [], sent, replies, "fault: file not written", what=what, **how)
+        want_journal(path, wanted, [], sent, replies, env=preloaded("short_writes.c", MOST_WRITTEN=most))
+    want_journal(path, b"", [], sent, replies, "fault: file not written", what=path,
+                 env=preloaded("short_writes.c", MOST_WRITTEN="0"))
     for limit in 1, 65536, 100001, 600000, len(wanted) - 1:
         for rest, fault in (b"", "file not written"), (b"\0", "input ends inside a record"):
-            how = {"preexec_fn": lambda: limit_files(limit), "what": what}
-            want_journal(wanted[:limit], [], sent + rest, replies, f"fault: {fault}", **how)
+            want_journal(path, wanted[:limit], [], sent + rest, replies, f"fault: {fault}", what=path,
+                         preexec_fn=lambda: limit_files(limit))
 
 
 # The bytes that are written together, and those of the buffer that they are gathered in.
 PIECE, BUFFER = 65536, 524288
 
 
-def try_pieces():
+def test_pieces(path_of, preloaded):
     """A long journal's file is written in pieces, none of which is longer than the buffer; and they aren't many."""
-    (sent, replies, wanted), path = long_run(), os.path.join(ROOM.name, "writes")
-    want_journal(wanted, [], sent, replies, env={**os.environ, "LD_PRELOAD": short_writes(), "WRITES": path})
+    (sent, replies, wanted), path = long_run(), path_of("writes")
+    want_journal(path_of("run.journal"), wanted, [], sent, replies, env=preloaded("short_writes.c", WRITES=path))
     with open(path, encoding="utf-8") as lines:
         lengths = [int(line) for line in lines]
     most = 2 * len(wanted) // PIECE
-    if sum(lengths) != len(wanted) or max(lengths) > BUFFER or not 4 <= len(lengths) <= most:
-        fail(f"a journal of {len(wanted)} bytes is written in pieces of {lengths}")
+    assert sum(lengths) == len(wanted) and max(lengths) <= BUFFER and 4 <= len(lengths) <= most
 
 
 def limit_files(most):
@@ -522,17 +491,7 @@ def limit_files(most):
     resource.setrlimit(resource.RLIMIT_FSIZE, (most, most))
 
 
-def short_writes():
-    """A library that has writes take less, for LD_PRELOAD."""
-    path = os.path.join(ROOM.name, "short_writes.so")
-    if not os.path.exists(path):
-        source = os.path.join(TOP, "tools/short_writes.c")
-        command = [os.environ.get("CC", "cc"), "-O1", "-shared", "-fPIC", "-o", path, source, "-ldl"]
-        subprocess.run(command, check=True)
-    return path
-
-
-def try_audit():
+def test_audit(path_of, file_of):
     """Files that aren't lawful journals, and others that are; also of the version before."""
     ended, forgotten = lambda now: words(2, 1, 0, 100, 0, now), words(5, 1, 1, 1, 0x41000000, 0, 191)
     earlier = lambda *entries: journal_of(*entries, policy=(2, 0))
@@ -557,37 +516,30 @@ def try_audit():
         want(["audit", file_of("other.journal", data)], fault=fault)
     for data, count in (journal_of(*CLIENT_IDS, ended(191)), 4), (earlier(*CLIENT_IDS), 3), (earlier(), 0):
         want(["audit", file_of("other.journal", data)], output=b"lawful: %d entries\n" % count)
-    for path in os.path.join(ROOM.name, "missing"), ROOM.name, "":
+    for path in path_of("missing"), path_of(""), "":
         want(["audit", path], fault="fault: file not read", what=path)
     with open("/dev/full", "wb") as full:
         want(["audit", file_of("other.journal", whole)], fault="fault: output not written", stdout=full)
 
 
-def try_peer():
+def test_peer():
     """A peer that sends more only when it has the reply to what it sent: NULL, and NULL again and again with a part of
     the next record, cut anywhere, and then its rest."""
-    global tried
-    tried += 1
-    # One that waits for a reply in vain is ended after 20 seconds.
-    peer = Piped([PROGRAM, "once"])
+    # One that waits for a reply in vain is ended at last.
+    peer, record = Piped([PROGRAM, "once"]), call(9, NULL)
 
-    def want_reply(xid):
-        if (got := peer.receive(20)) != reply(xid):
-            fail("a peer that waits for its reply gets none", got)
-    peer.send(call(7, NULL))
-    want_reply(7)
-    record = call(9, NULL)
+    def ask(sent, xid):
+        peer.send(sent)
+        expect("a reply behind pipes", peer.receive(PATIENCE), reply(xid))
+    ask(call(7, NULL), 7)
     for cut in range(len(record)):
-        peer.send(call(8, NULL) + record[:cut])
-        want_reply(8)
-        peer.send(record[cut:])
-        want_reply(9)
+        ask(call(8, NULL) + record[:cut], 8)
+        ask(record[cut:], 9)
     output, errors = peer.program.communicate()
-    if peer.program.returncode or output or errors:
-        fail(f"behind pipes: status {peer.program.returncode}", output, errors)
+    expect("the end behind pipes", (peer.program.returncode, output, errors), (0, b"", b""))
 
 
-def try_writes():
+def test_writes():
     """100 records that come in one read: their replies go out in at most two writes. Each write is a message of its
     own to a socket that keeps messages apart."""
     near, far = socket.socketpair(socket.AF_UNIX, socket.SOCK_SEQPACKET)
@@ -596,28 +548,11 @@ def try_writes():
         want(["once"], sent, stdout=far)
         far.close()
         writes = list(iter(lambda: near.recv(65536), b""))
-    if b"".join(writes) != b"".join(reply(xid) for xid in range(100)) or len(writes) > 2:
-        fail(f"100 replies in {len(writes)} writes", b"".join(writes))
+    expect("the replies", b"".join(writes), b"".join(reply(xid) for xid in range(100)))
+    assert len(writes) <= 2
 
 
-def try_empty_fragments():
+def test_empty_fragments():
     """A record that never ends takes no memory: 100 MB of empty fragments, with 32 MB of memory."""
     limit = lambda: resource.setrlimit(resource.RLIMIT_AS, (1 << 25, 1 << 25))
     want(["once"], bytes(100000000), fault="fault: input ends inside a record", preexec_fn=limit)
-
-
-def main():
-    if not os.path.exists(PROGRAM):
-        with open(os.path.join(TOP, "crates/nfs4state/stdin"), "rb") as source:
-            folder = os.path.join(TOP, "crates/nfs4state")
-            subprocess.run(["rt", "run"], cwd=folder, stdin=source, stdout=subprocess.DEVNULL, check=True)
-    for part in (try_null, try_files, try_letters, try_nodes, try_attributes, try_lease_and_epoch, try_now, try_help,
-                 try_version, try_words, try_documents, try_faults, try_random_seed, try_client_slots, try_journal,
-                 try_journal_file, try_journal_faults, try_long_journal, try_pieces, try_audit, try_peer, try_writes,
-                 try_empty_fragments):
-        part()
-    ROOM.cleanup()
-    print(f"try_program: {tried} runs of the program ended as they should")
-
-
-main()

@@ -1,13 +1,5 @@
-#!/usr/bin/env python3
-"""check_callbacks.py: the records of callbacks, written out; what replies to them are; and where a client can be
-called. They were worked out from RFC 5531 and RFC 7531."""
-import sys
-from collections.abc import Iterator
-
-sys.dont_write_bytecode = True
-from packages import make_known
-make_known()
-
+"""The records of callbacks, written out; what replies to them are; and where a client can be called. They were worked
+out from RFC 5531 and RFC 7531."""
 from model.states import Recall
 from nfs4.callbacks import CallbackReply, address_of, null_call, read_reply, recall_call
 from nfs4.wire import Callback, Stateid, opaque, u32
@@ -70,33 +62,24 @@ ADDRESSES = [
 ]
 
 
-def differences() -> Iterator[str]:
-    for record, words in RECORDS:
-        if record != bytes.fromhex(words):
-            yield f"a record is {record.hex(' ', 4)}, not {words}"
+def test_records():
+    for record, written in RECORDS:
+        assert record == bytes.fromhex(written)
+
+
+def test_replies():
     for name, reply, wanted in REPLIES:
-        if read_reply(reply, XID, True) != wanted:
-            yield f"{name}: {read_reply(reply, XID, True)}, not {wanted}"
-        # CB_NULL has no results: a reply with SUCCESS is enough.
+        assert read_reply(reply, XID, True) == wanted, name
+
+
+def test_replies_to_null():
+    """CB_NULL has no results: a reply with SUCCESS is enough."""
+    for name, reply, wanted in REPLIES:
         has_success = reply[:20] == HEAD and reply[20:24] == u32(0)
-        if has_success and read_reply(reply, XID, False) != ACCEPTED:
-            yield f"{name}, to CB_NULL: {read_reply(reply, XID, False)}"
-        if not has_success and wanted != ACCEPTED and read_reply(reply, XID, False) != wanted:
-            yield f"{name}, to CB_NULL: {read_reply(reply, XID, False)}, not {wanted}"
+        if has_success or wanted != ACCEPTED:
+            assert read_reply(reply, XID, False) == (ACCEPTED if has_success else wanted), name
+
+
+def test_addresses():
     for netid, address, place in ADDRESSES:
-        found = address_of(Callback(1, netid, address, 1))
-        if found != place:
-            yield f"the address {address!r} over {netid!r}: {found}, not {place}"
-
-
-def main() -> int:
-    found = list(differences())
-    for line in found:
-        print(f"check_callbacks: {line}")
-    print(f"check_callbacks: {len(RECORDS)} records, {len(REPLIES)} replies and {len(ADDRESSES)} addresses: "
-          f"{len(found)} differ")
-    return 1 if found else 0
-
-
-if __name__ == "__main__":
-    sys.exit(main())
+        assert address_of(Callback(1, netid, address, 1)) == place, (netid, address)

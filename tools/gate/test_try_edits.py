@@ -1,6 +1,5 @@
-#!/usr/bin/env python3
-"""Shows that `try_edits` tells edits apart: over two small crates in a folder of its own it tries edits that mean the
-same, one of which breaks a written answer and one changes the function's arms; wrong ones, of functions that call one
+"""That `try_edits` tells edits apart: over two small crates in a folder of its own it tries edits that mean the same,
+one of which breaks a written answer and one changes the function's arms; wrong ones, of functions that call one
 another, by a search and by a written answer; and such that can't be applied or compiled, or take a name away. The
 refused ones are kept, by the files that they stand on; and where a library's contract says less, so that the control
 isn't proved, nothing counts. This takes a minute or two."""
@@ -8,10 +7,11 @@ import os
 import re
 import shutil
 import subprocess
-import sys
-import tempfile
 
-HERE = os.path.dirname(os.path.abspath(__file__))
+import pytest
+
+from nfs4.served import TOP
+
 SCRIPTS = ("try_edits", "edits.py", "edit_verdicts.py", "edits_kept.py")
 
 FILES = {
@@ -136,10 +136,6 @@ EDITS = {
 }
 
 
-def fail(what, got):
-    sys.exit(f"try_try_edits: {what}\n{got}")
-
-
 def read(path):
     with open(path, encoding="utf-8") as source:
         return source.read()
@@ -157,6 +153,20 @@ def edit_text(function, pairs):
     return f"It is told as what it is.\nfunction: {function}\nfile: src/lib.rt\n{lines}"
 
 
+@pytest.fixture
+def top(path_of):
+    """A folder with the crates, their edits and the scripts."""
+    folder = path_of("top")
+    write(folder, FILES)
+    write(folder, {f"crates/high/wrong/{name}.edit": edit_text(function, pairs)
+                   for name, (function, pairs, _) in EDITS.items()})
+    os.mkdir(os.path.join(folder, ".git"))
+    os.mkdir(os.path.join(folder, "tools"))
+    for name in SCRIPTS:
+        shutil.copy(os.path.join(TOP, "tools", name), os.path.join(folder, "tools", name))
+    return folder
+
+
 def run(top, *words):
     """The status of `try_edits` over the crates, and what it prints."""
     environment = os.environ | {"XDG_CACHE_HOME": os.path.join(top, "cache")}
@@ -165,64 +175,45 @@ def run(top, *words):
     return ran.returncode, ran.stdout
 
 
-def try_all(top):
-    """Each edit is told as what it is, and the caller is tried where its callee has no edit."""
+def expect_all(top):
+    """Each edit is told as what it is, and the caller is tried where its callee has no edit: how many are refused."""
     status, said = run(top, "--said", os.path.join(top, "said"))
     for name, (_, _, words) in EDITS.items():
-        if not re.search(f"(?m)^high/{name}: {words}", said):
-            fail(f"{name} isn't told as {words}", said)
+        assert re.search(f"(?m)^high/{name}: {words}", said), said
     refused = sum(words.startswith("REFUSED") for _, _, words in EDITS.values())
     failed = len(EDITS) - refused
-    if status != 1 or not said.endswith(f"{len(EDITS)} edits: {refused} refused, {failed} failed\n"
-                                        f"{refused} passed, {failed} failed\n"):
-        fail(f"status {status}, or another count", said)
-    checks = [os.path.join(top, "said", name) for name in os.listdir(os.path.join(top, "said"))]
-    if not any(re.search("(?m)^fn high::four_times: .*it calls `high::twice`", read(path)) for path in checks):
-        fail("the caller wasn't tried beside what it calls", said)
+    assert status == 1 and said.endswith(f"{len(EDITS)} edits: {refused} refused, {failed} failed\n"
+                                         f"{refused} passed, {failed} failed\n"), said
+    checks = [read(os.path.join(top, "said", name)) for name in os.listdir(os.path.join(top, "said"))]
+    assert any(re.search("(?m)^fn high::four_times: .*it calls `high::twice`", check) for check in checks), said
     return refused
 
 
-def try_kept(top, refused):
+def expect_kept(top, refused):
     """What was refused isn't tried again, and its number counts."""
     for name, (_, _, words) in EDITS.items():
         if not words.startswith("REFUSED"):
             os.remove(os.path.join(top, "crates/high/wrong", f"{name}.edit"))
-    folder = os.path.join(top, "cache/nfs4state/edits")
-    if os.stat(folder).st_mode & 0o777 != 0o700:
-        fail("others can read what is kept", folder)
+    mode = os.stat(os.path.join(top, "cache/nfs4state/edits")).st_mode & 0o777
+    assert mode == 0o700, "others can read what is kept"
     status, said = run(top, "high", "--at-least", str(refused))
-    if status or f"{refused} kept from before, 0 checks" not in said:
-        fail("what was refused is tried again", said)
+    assert status == 0 and f"{refused} kept from before, 0 checks" in said, said
     status, said = run(top, "high", "--at-least", str(refused + 1))
-    if status != 1 or not said.endswith(f"{refused} passed, 1 failed\n"):
-        fail("there are fewer edits than wanted", said)
+    assert status == 1 and said.endswith(f"{refused} passed, 1 failed\n"), said
 
 
-def try_below(top):
+def expect_below(top):
     """Where a library below changed, it is built anew, and all is tried again; and where its contract says too little
     for the control, nothing counts."""
     low = FILES["crates/low/src/lib.rt"].replace("ensures { result ≡ n + 1 }", "ensures { result ≤ n + 1 }")
     write(top, {"crates/low/src/lib.rt": low})
     status, said = run(top)
-    if "building the library low" not in said or "0 kept from before" not in said:
-        fail("a library below changed", said)
-    if status != 1 or "the control `after_next` isn't proved" not in said or "\n0 passed, " not in said:
-        fail("the control isn't proved, and edits count", said)
+    assert "building the library low" in said and "0 kept from before" in said, said
+    assert status == 1 and "the control `after_next` isn't proved" in said and "\n0 passed, " in said, said
 
 
-def main():
-    with tempfile.TemporaryDirectory(prefix="try_try_edits-") as top:
-        write(top, FILES)
-        write(top, {f"crates/high/wrong/{name}.edit": edit_text(function, pairs)
-                    for name, (function, pairs, _) in EDITS.items()})
-        os.mkdir(os.path.join(top, ".git"))
-        os.mkdir(os.path.join(top, "tools"))
-        for name in SCRIPTS:
-            shutil.copy(os.path.join(HERE, name), os.path.join(top, "tools", name))
-        refused = try_all(top)
-        try_kept(top, refused)
-        try_below(top)
-    print(f"try_try_edits: ok; {len(EDITS)} edits, each told as what it is")
-
-
-main()
+def test_try_edits(top, tell):
+    refused = expect_all(top)
+    expect_kept(top, refused)
+    expect_below(top)
+    tell(f"{len(EDITS)} edits are each told as what it is")

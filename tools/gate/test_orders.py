@@ -1,29 +1,27 @@
-#!/usr/bin/env python3
-"""try_orders [PROGRAM]: what the program of rows does by an order, where no row and no run under stress shows it: the
-clock that connections of one order share, and their receipts; how many bytes are left behind the last whole record; at
-which moments leases are swept meanwhile, and how often; in which pieces a connection is read, before each of which
-other threads may go on; that owners which are forgotten leave their places, and that none is where the journal is full;
-and which inputs it refuses."""
+"""What the program of rows does by an order, where no row and no run under stress shows it: the clock that connections
+of one order share, and their receipts; how many bytes are left behind the last whole record; at which moments leases
+are swept meanwhile, and how often; in which pieces a connection is read, before each of which other threads may go on;
+that owners which are forgotten leave their places, and that none is where the journal is full; and which inputs it
+refuses."""
 import os
 import subprocess
-import sys
-import tempfile
 
-sys.dont_write_bytecode = True
-from gate.trial import read_options
+import pytest
+
 from model import limits
 from model.entries import Expire, Path
 from model.journal import read_journal
 from model.server import JOURNAL_LIMIT, OWNERS_LIMIT
+from nfs4.client import expect
 from nfs4.messages import NULL, PUTROOTFH, call, compound, confirmation, setclientid, split, words
 from nfs4.preload import preloading
 from nfs4.wire import Opnum, Status, u32, u64
-from sending.driver import (ALONE, Driver, FORGET, FULL, Forgotten, MARK, Marked, NOT_LIVE, PENDING, PROBE, REVOKE,
-                            Revoked, SERVE, SHARED, SWEEP, Swept, TAKE, TOP, build, head, part)
+from sending.driver import (ALONE, Driver, FORGET, FULL, Forgotten, MARK, Marked, NOT_LIVE, PENDING, PROBE, PROGRAM,
+                            REVOKE, Revoked, SERVE, SHARED, SWEEP, Swept, TAKE, head, part)
 
-PATH = read_options(__doc__, name="rows").program
-ROOM = tempfile.TemporaryDirectory()
+pytestmark = pytest.mark.usefixtures("built_rows")
 ROOT = compound(9, words(PUTROOTFH))
+each_way = pytest.mark.parametrize("way", [ALONE, SHARED], ids=["alone", "shared"])
 # It writes a byte into the file YIELDS for each time that other threads are let go on.
 YIELDS = """#include <fcntl.h>
 #include <stdlib.h>
@@ -34,11 +32,6 @@ int sched_yield(void) {
     return close(file);
 }
 """
-
-
-def expect(what, got, wanted):
-    if got != wanted:
-        sys.exit(f"try_orders: {what}: {got}, wanted {wanted}")
 
 
 class Counting(Driver):
@@ -53,7 +46,7 @@ class Counting(Driver):
 
 
 def begin(way, environment=None, **given):
-    driver = Counting(PATH, environment)
+    driver = Counting(PROGRAM, environment)
     expect("the tree", driver.begin(way, **given), 0)
     return driver
 
@@ -62,7 +55,8 @@ def introduction(xid, name):
     return compound(xid, setclientid(b"verifier", name))
 
 
-def try_clock(way):
+@each_way
+def test_clock(way):
     """Two connections of one order have one clock, which a second order begins anew; and each gets its receipts."""
     with begin(way, seats=4 * way) as driver:
         first = [b"".join(introduction(xid, b"%s%d" % (name, xid)) for xid in range(count))
@@ -78,7 +72,8 @@ def try_clock(way):
     expect("moments in order", way == SHARED or moments[:5] == sorted(moments[:5]), True)
 
 
-def try_rests(way):
+@each_way
+def test_rests(way):
     whole = call(7, NULL)
     with begin(way, seats=8) as driver:
         for count in range(8):
@@ -87,7 +82,7 @@ def try_rests(way):
         driver.end()
 
 
-def try_sweeps():
+def test_sweeps():
     """A client that was heard of at 0 stays at the moment 1, which all calls have, and ends at 2, when they were
     answered. There is no more than a sweep at each moment that is seen, and one at the end."""
     with begin(SHARED, seats=2, lease=1) as driver:
@@ -100,19 +95,16 @@ def try_sweeps():
     expect("sweeps", (calls.sweeps in (1, 2, 3), calls.expired, ends), (True, 1, [(1, 0, 2)]))
 
 
-def try_last_sweep():
+def test_last_sweep(preloaded):
     """Without a thread there is one sweep, at the end."""
-    environment = preloading(os.path.join(TOP, "tools/refuse_threads.c"), ROOM.name, MOST_THREADS="0")
-    with begin(SHARED, environment, seats=1) as driver:
+    with begin(SHARED, preloaded("refuse_threads.c", MOST_THREADS="0"), seats=1) as driver:
         expect("sweeps without a thread", driver.serve([ROOT], 1, 1, is_swept=True).sweeps, 1)
         driver.end()
 
 
-def try_pieces():
-    source, counted = os.path.join(ROOM.name, "yields.c"), os.path.join(ROOM.name, "yields")
-    with open(source, "w", encoding="utf-8") as file:
-        file.write(YIELDS)
-    environment, sent = preloading(source, ROOM.name, YIELDS=counted), ROOT * 30
+def test_pieces(path_of, file_of):
+    counted, sent = path_of("yields"), ROOT * 30
+    environment = preloading(file_of("yields.c", YIELDS), path_of(""), YIELDS=counted)
     for piece, length in ((1, 1), (0, 1), (7, 7), (len(sent), len(sent))):
         with begin(ALONE, environment) as driver:
             driver.serve([sent], 0, piece)
@@ -155,7 +147,8 @@ VALID = [SHARING, SHARING + serving(1), head(SHARED, seats=3) + serving(2), SHAR
          LONE + u32(PENDING), SHARING + u32(PENDING), SHARING + u32(PROBE, 0), LONE + u32(PROBE, 2**32 - 1)]
 
 
-def try_changes(way):
+@each_way
+def test_changes(way):
     """Of a server with one client, which has nothing: what comes of a mark, a revocation, a forgetting, and of recalls;
     and the entry that the mark alone makes."""
     with begin(way, seats=1) as driver:
@@ -192,7 +185,8 @@ def idle_owners(count):
 RENEWAL = [[(u32(Opnum.RENEW, 1, 1), limits.result(Opnum.RENEW))]]
 
 
-def try_places(way):
+@each_way
+def test_places(way):
     """Owners that are forgotten leave their places to others."""
     with begin(way, seats=3, document=limits.TREE) as driver:
         last = limits.opening(OWNERS_LIMIT, 1, 0, status=Status.RESOURCE)
@@ -206,7 +200,7 @@ def try_places(way):
         driver.end()
 
 
-def try_full_journal():
+def test_full_journal():
     """Of two owners that are due one is forgotten, where the journal has one entry left; and it is told that another
     one is due."""
     asked = [(u32(Opnum.PUTROOTFH), limits.result(Opnum.PUTROOTFH))]
@@ -224,28 +218,9 @@ def try_full_journal():
         driver.end()
 
 
-def try_inputs():
+def test_inputs(tell):
     refusal = 2, b"rows: invalid input\n"
     for data, wanted in [(data, refusal) for data in INVALID] + [(data, (0, b"")) for data in VALID]:
-        ran = subprocess.run([PATH], input=data, stdout=subprocess.DEVNULL, stderr=subprocess.PIPE, timeout=60)
+        ran = subprocess.run([PROGRAM], input=data, stdout=subprocess.DEVNULL, stderr=subprocess.PIPE, timeout=60)
         expect(f"the input {data.hex()}", (ran.returncode, ran.stderr), wanted)
-
-
-def main():
-    build(PATH)
-    for way in (ALONE, SHARED):
-        try_clock(way)
-        try_rests(way)
-        try_changes(way)
-        try_places(way)
-    try_full_journal()
-    try_sweeps()
-    try_last_sweep()
-    try_pieces()
-    try_inputs()
-    ROOM.cleanup()
-    print("try_orders: clocks, receipts, rests, sweeps, marks, forgettings and pieces are as ordered; "
-          f"{len(INVALID)} inputs are refused, and {len(VALID)} aren't")
-
-
-main()
+    tell(f"{len(INVALID)} inputs are refused, and {len(VALID)} aren't")
