@@ -2,14 +2,13 @@
 import time
 from collections import namedtuple
 
-from model.entries import setclientid_bytes
-from model.server import CONFIRM
+from model.operations.open import CONFIRM
 from model.states import Recall
 from nfs4.client import NONE, VERIFIER, Client, done, Wrong
 from nfs4.messages import (DELEGRETURN, GETFH, NFS4_OK, OPEN_CONFIRM, PUTFH, PUTROOTFH, RENEW, SETCLIENTID,
                            SETCLIENTID_CONFIRM, confirmation, given, handle, opening, words)
 from nfs4.served import REPLY_PATIENCE
-from nfs4.wire import AUTH_NONE, AUTH_SYS, Setclientid, Stateid, opaque
+from nfs4.wire import AUTH_NONE, AUTH_SYS, FORMS, Stateid, opaque
 
 # What came of an OPEN: its status, and the delegation that it brings, or None.
 Opened = namedtuple("Opened", "status delegation")
@@ -26,7 +25,7 @@ class Borrower(Client):
 
     def introduce(self, callback, verifier=VERIFIER):
         """SETCLIENTID with this callback, and SETCLIENTID_CONFIRM; also once more, with another one."""
-        found = self.ask(words(SETCLIENTID) + setclientid_bytes(Setclientid(verifier, self.name, callback)))
+        found = self.ask(words(SETCLIENTID) + FORMS[SETCLIENTID].write((verifier, self.name, callback)))
         if len(found) < 15:
             raise Wrong(f"{self.name} gets {self.got[-1].hex(' ', 4)} for SETCLIENTID")
         self.number, confirm, self.callback = found[12], found[14], callback

@@ -63,8 +63,7 @@ import select
 import subprocess
 import sys
 import time
-from collections import namedtuple
-from typing import Any, BinaryIO
+from typing import Any, BinaryIO, NamedTuple
 
 from model.tree import DEFAULT
 from nfs4.served import TOP
@@ -83,16 +82,18 @@ FAULTS = {1: "input not read", 2: "output not written", 3: "record too long", 4:
 INSIDE = "input ends inside a record"
 
 # What came of a connection: the fault that ended it, or None; its replies; and the numbers of its receipts.
-Ended = namedtuple("Ended", "fault replies receipts")
+Ended = NamedTuple("Ended", [("fault", str | None), ("replies", bytes), ("receipts", list[int])])
 # What came of those that were served at once; and of the sweeps meanwhile: how many they were, and how many clients
 # they removed.
-Served = namedtuple("Served", "ended sweeps expired")
+Served = NamedTuple("Served", [("ended", list[Ended]), ("sweeps", int), ("expired", int)])
 # What came of a sweep; of a mark, the number of an error, or 0; of a revocation this, how many delegations were revoked
 # (0 or 1), and the number of the entry, or 0; and the same of a forgetting, with how many owners were forgotten.
-Swept = namedtuple("Swept", "expired kept changed refused revoked forgotten stopped")
-Marked = namedtuple("Marked", "error")
-Revoked = namedtuple("Revoked", "error revoked entry")
-Forgotten = namedtuple("Forgotten", "error forgotten entry")
+Swept = NamedTuple("Swept", [("expired", int), ("kept", int), ("changed", int), ("refused", int), ("revoked", int),
+                             ("forgotten", int), ("stopped", int)])
+Marked = NamedTuple("Marked", [("error", int)])
+Revoked = NamedTuple("Revoked", [("error", int), ("revoked", int), ("entry", int)])
+Forgotten = NamedTuple("Forgotten", [("error", int), ("forgotten", int), ("entry", int)])
+Came = Ended | Swept | Marked | Revoked | Forgotten | bytes | int
 # The errors of changes that no call asks for: the client isn't live, the journal is full, memory is refused.
 NOT_LIVE, FULL, MEMORY = 1, 3, 4
 
@@ -274,7 +275,7 @@ class Driver:
         """What there is to say where the output ends too early."""
         return failure_of(*self.ending())
 
-    def ending(self) -> tuple[int, str]:
+    def ending(self) -> tuple[int | None, str]:
         """The status, or None where the program doesn't end by itself; and what it wrote on standard error."""
         try:
             status = self.program.wait(PATIENCE)
@@ -284,7 +285,7 @@ class Driver:
         return status, self.program.stderr.read().decode(errors="replace")
 
 
-def failure_of(status: int, errors: str) -> Failed:
+def failure_of(status: int | None, errors: str) -> Failed:
     if (status, errors) == (2, "rows: out of memory\n"):
         return NoMemory("out of memory")
     return Failed(f"the program ends with status {status}: {errors.strip()}")
