@@ -231,9 +231,8 @@ KnownLocker = NamedTuple("KnownLocker", [("lock_stateid", Stateid), ("lock_seqid
 Callback = NamedTuple("Callback", [("program", Word), ("netid", Text), ("address", Text), ("ident", Word)])
 # How an OPEN creates: its opentype, and with OPEN4_CREATE the createmode and the attributes or the verifier.
 Openhow = NamedTuple("Openhow", [("create", int), ("mode", int | None), ("value", Any)])
-# Which file an OPEN names: the claim, the name, which is empty for CLAIM_PREVIOUS, and the delegation's type or
-# stateid, where the claim has it.
-Claim = NamedTuple("Claim", [("kind", int), ("name", bytes), ("delegation", Any)])
+# Which file an OPEN names: the claim, the name, and the delegation's type or stateid, each where the claim has it.
+Claim = NamedTuple("Claim", [("kind", int), ("name", Any), ("delegation", Any)])
 STATEID, FATTR, KNOWN_LOCKER, NEW_LOCKER = map(form_of, (Stateid, Fattr, KnownLocker, NewLocker))
 
 
@@ -254,7 +253,7 @@ def openhow_bytes(how: Openhow) -> bytes:
 def read_claim(reader: Reader) -> Claim:
     kind = reader.one_of(4)
     if kind == CLAIM_PREVIOUS:
-        return Claim(kind, b"", reader.one_of(3))
+        return Claim(kind, None, reader.one_of(3))
     delegation = STATEID.read(reader) if kind == CLAIM_DELEGATE_CUR else None
     return Claim(kind, reader.opaque(), delegation)
 
