@@ -4,13 +4,13 @@ arguments; what this server's answers may be is here.
 There is one spelling: what is read here is written again by the same bytes, so padding has to be zero.
 """
 from collections.abc import Callable
-from typing import Any, NamedTuple
+from typing import Annotated, Any, NamedTuple
 
 from model.server import CHANGING_DIRECTORIES, STATEFUL_BY_PROFILE
 from model.tree import CLIENTS, Tree
 from nfs4 import wire
-from nfs4.wire import (FORMS, OPEN_DELEGATE_NONE, OPEN_DELEGATE_WRITE, OpenOwner, Opnum, Principal, STATEID, Stateid,
-                       Status, Unreadable, form_of, u32, u64)
+from nfs4.wire import (Bool, FORMS, Form, OPEN_DELEGATE_NONE, OPEN_DELEGATE_WRITE, OpenOwner, Opnum, Principal, STATEID,
+                       Stateid, Status, Unreadable, Word, form_of, u32, u64)
 
 MOMENT_LIMIT = 2**40 - 2
 
@@ -20,22 +20,6 @@ WITHOUT_RULE = dict.fromkeys(CHANGING_DIRECTORIES, {Status.NOTSUPP, Status.ROFS}
 
 # How the bytes of the arguments are written, of each operation that makes an entry.
 ARGUMENT_BYTES = {opnum: FORMS[opnum].write for opnum in STATEFUL_BY_PROFILE[CLIENTS]}
-OPEN_OWNER = form_of(OpenOwner)
-
-# The operation that is answered, by its number; the status; and the bytes after it.
-Answer = NamedTuple("Answer", [("number", int), ("status", int), ("rest", bytes)])
-# A request with its answer: when it came, who sent it, and the current filehandle's node, or None.
-Call = NamedTuple("Call", [("moment", int), ("principal", Principal), ("filehandle", int | None), ("opnum", Opnum),
-                           ("arguments", Any), ("answer", Answer)])
-# A client's lease is over: it was seen last, and now it is removed.
-Expire = NamedTuple("Expire", [("client", int), ("seen", int), ("now", int)])
-# A delegation that was called back and not given back is taken.
-Revoke = NamedTuple("Revoke", [("state", int), ("now", int)])
-# A client can be called back, or can't.
-Path = NamedTuple("Path", [("client", int), ("is_up", int)])
-# An open owner without opens is forgotten.
-Forget = NamedTuple("Forget", [("owner", OpenOwner), ("now", int)])
-Entry = Call | Expire | Revoke | Path | Forget
 
 
 class NotJournal(Unreadable):
@@ -76,6 +60,36 @@ class StrictReader(wire.Reader):
         """Words that the layout leaves no choice of."""
         if self.fixed(4 * len(words)) != u32(*words):
             raise NotJournal("other words than the layout has")
+
+
+# The entries by their kinds.
+
+def read_moment(reader: wire.Reader) -> int:
+    moment = reader.u64()
+    if moment >= MOMENT_LIMIT:
+        raise NotJournal("a moment of 2^40 - 2 or more")
+    return moment
+
+
+Moment = Annotated[int, Form(read_moment, u64)]
+# The operation that is answered, by its number; the status; and the bytes after it.
+Answer = NamedTuple("Answer", [("number", int), ("status", int), ("rest", bytes)])
+# A request with its answer: when it came, who sent it, and the current filehandle's node, or None.
+Call = NamedTuple("Call", [("moment", int), ("principal", Principal), ("filehandle", int | None), ("opnum", Opnum),
+                           ("arguments", Any), ("answer", Answer)])
+# A client's lease is over: it was seen last, and now it is removed.
+Expire = NamedTuple("Expire", [("client", Word), ("seen", Moment), ("now", Moment)])
+# A delegation that was called back and not given back is taken.
+Revoke = NamedTuple("Revoke", [("state", Word), ("now", Moment)])
+# A client can be called back, or can't.
+Path = NamedTuple("Path", [("client", Word), ("is_up", Bool)])
+# An open owner without opens is forgotten.
+Forget = NamedTuple("Forget", [("owner", OpenOwner), ("now", Moment)])
+Entry = Call | Expire | Revoke | Path | Forget
+# The numbers of the kinds, and the forms of all but a Call.
+CALL, EXPIRE, REVOKE, PATH, FORGET = 1, 2, 3, 4, 5
+NUMBERS = {Expire: EXPIRE, Revoke: REVOKE, Path: PATH, Forget: FORGET}
+ENTRIES = {number: form_of(kind) for kind, number in NUMBERS.items()}
 
 
 # What follows the status of an answer, by the operation and the status; for all others nothing does.
@@ -137,15 +151,7 @@ def answer_bytes(answer: Answer) -> bytes:
     return u32(answer.number, answer.status) + answer.rest
 
 
-# The entries by their kinds. `nodes` is how many there are, with the root; which operations make an entry hangs on the
-# profile.
-
-def read_moment(reader: StrictReader) -> int:
-    moment = reader.u64()
-    if moment >= MOMENT_LIMIT:
-        raise NotJournal("a moment of 2^40 - 2 or more")
-    return moment
-
+# Calls. `nodes` is how many there are, with the root; which operations make an entry hangs on the profile.
 
 def read_principal(reader: StrictReader) -> Principal:
     flavor, uid = reader.one_of(2), reader.u32()
@@ -183,32 +189,19 @@ def request_bytes(call: Call) -> bytes:
     return head + u32(call.opnum) + ARGUMENT_BYTES[call.opnum](call.arguments)
 
 
-CALL, EXPIRE, REVOKE, PATH, FORGET = 1, 2, 3, 4, 5
-
-
 def read_entry(reader: StrictReader, tree: Tree, has_forgets: bool = True) -> Entry:
     """The next entry of a journal over this tree. Journals of an earlier version have no Forget."""
     kind = reader.u32()
     if kind == CALL:
         return read_call(reader, tree)
-    if kind == EXPIRE:
-        return Expire(reader.u32(), read_moment(reader), read_moment(reader))
-    if kind == REVOKE:
-        return Revoke(reader.u32(), read_moment(reader))
-    if kind == PATH:
-        return Path(reader.u32(), reader.one_of(2))
-    if kind == FORGET and has_forgets:
-        return Forget(OPEN_OWNER.read(reader), read_moment(reader))
-    raise NotJournal("no kind of entry")
+    if kind not in ENTRIES or kind == FORGET and not has_forgets:
+        raise NotJournal("no kind of entry")
+    entry: Entry = ENTRIES[kind].read(reader)
+    return entry
 
 
 def entry_bytes(entry: Entry) -> bytes:
     if isinstance(entry, Call):
         return u32(CALL) + request_bytes(entry) + answer_bytes(entry.answer)
-    if isinstance(entry, Expire):
-        return u32(EXPIRE, entry.client) + u64(entry.seen) + u64(entry.now)
-    if isinstance(entry, Revoke):
-        return u32(REVOKE, entry.state) + u64(entry.now)
-    if isinstance(entry, Forget):
-        return u32(FORGET) + OPEN_OWNER.write(entry.owner) + u64(entry.now)
-    return u32(PATH, entry.client, entry.is_up)
+    number = NUMBERS[type(entry)]
+    return u32(number) + ENTRIES[number].write(entry)

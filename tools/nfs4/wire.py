@@ -14,74 +14,23 @@ FILEHANDLE_LIMIT = 128
 BODY_LIMIT = 400
 
 
-class Status(IntEnum):
-    """nfsstat4 of RFC 7531: the ones that this server gives."""
-    OK = 0
-    NOENT = 2
-    ACCESS = 13
-    EXIST = 17
-    NOTDIR = 20
-    ISDIR = 21
-    INVAL = 22
-    FBIG = 27
-    ROFS = 30
-    NAMETOOLONG = 63
-    BADHANDLE = 10001
-    BAD_COOKIE = 10003
-    NOTSUPP = 10004
-    TOOSMALL = 10005
-    DELAY = 10008
-    DENIED = 10010
-    EXPIRED = 10011
-    LOCKED = 10012
-    SHARE_DENIED = 10015
-    CLID_INUSE = 10017
-    RESOURCE = 10018
-    NOFILEHANDLE = 10020
-    MINOR_VERS_MISMATCH = 10021
-    STALE_CLIENTID = 10022
-    STALE_STATEID = 10023
-    OLD_STATEID = 10024
-    BAD_STATEID = 10025
-    BAD_SEQID = 10026
-    NOT_SAME = 10027
-    RESTOREFH = 10030
-    ATTRNOTSUPP = 10032
-    NO_GRACE = 10033
-    BADXDR = 10036
-    LOCKS_HELD = 10037
-    OPENMODE = 10038
-    OP_ILLEGAL = 10044
+# nfsstat4 of RFC 7531: the ones that this server gives.
+Status = IntEnum("Status", {
+    "OK": 0, "NOENT": 2, "ACCESS": 13, "EXIST": 17, "NOTDIR": 20, "ISDIR": 21, "INVAL": 22, "FBIG": 27, "ROFS": 30,
+    "NAMETOOLONG": 63, "BADHANDLE": 10001, "BAD_COOKIE": 10003, "NOTSUPP": 10004, "TOOSMALL": 10005, "DELAY": 10008,
+    "DENIED": 10010, "EXPIRED": 10011, "LOCKED": 10012, "SHARE_DENIED": 10015, "CLID_INUSE": 10017, "RESOURCE": 10018,
+    "NOFILEHANDLE": 10020, "MINOR_VERS_MISMATCH": 10021, "STALE_CLIENTID": 10022, "STALE_STATEID": 10023,
+    "OLD_STATEID": 10024, "BAD_STATEID": 10025, "BAD_SEQID": 10026, "NOT_SAME": 10027, "RESTOREFH": 10030,
+    "ATTRNOTSUPP": 10032, "NO_GRACE": 10033, "BADXDR": 10036, "LOCKS_HELD": 10037, "OPENMODE": 10038,
+    "OP_ILLEGAL": 10044})
 
 
-class Opnum(IntEnum):
-    """nfs_opnum4 of RFC 7531: the operations that have a rule in the model, and ILLEGAL."""
-    ACCESS = 3
-    CLOSE = 4
-    COMMIT = 5
-    DELEGRETURN = 8
-    GETATTR = 9
-    GETFH = 10
-    LOCK = 12
-    LOCKT = 13
-    LOCKU = 14
-    LOOKUP = 15
-    OPEN = 18
-    OPEN_CONFIRM = 20
-    OPEN_DOWNGRADE = 21
-    PUTFH = 22
-    PUTROOTFH = 24
-    READ = 25
-    READDIR = 26
-    RENEW = 30
-    RESTOREFH = 31
-    SAVEFH = 32
-    SETATTR = 34
-    SETCLIENTID = 35
-    SETCLIENTID_CONFIRM = 36
-    WRITE = 38
-    RELEASE_LOCKOWNER = 39
-    ILLEGAL = 10044
+# nfs_opnum4 of RFC 7531: the operations that have a rule in the model, and ILLEGAL.
+Opnum = IntEnum("Opnum", {
+    "ACCESS": 3, "CLOSE": 4, "COMMIT": 5, "DELEGRETURN": 8, "GETATTR": 9, "GETFH": 10, "LOCK": 12, "LOCKT": 13,
+    "LOCKU": 14, "LOOKUP": 15, "OPEN": 18, "OPEN_CONFIRM": 20, "OPEN_DOWNGRADE": 21, "PUTFH": 22, "PUTROOTFH": 24,
+    "READ": 25, "READDIR": 26, "RENEW": 30, "RESTOREFH": 31, "SAVEFH": 32, "SETATTR": 34, "SETCLIENTID": 35,
+    "SETCLIENTID_CONFIRM": 36, "WRITE": 38, "RELEASE_LOCKOWNER": 39, "ILLEGAL": 10044})
 
 
 # The other operations of RFC 7531, which have no rule in the model.

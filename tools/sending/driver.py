@@ -66,7 +66,7 @@ import time
 from typing import Any, BinaryIO, NamedTuple
 
 from model.tree import DEFAULT
-from nfs4.served import TOP
+from nfs4.served import Process, TOP
 from nfs4.wire import u32, u64
 
 
@@ -131,27 +131,15 @@ def head(way: int, lease: int = 90, epoch: int = 1, seats: int = 0, document: st
     return u32(way, lease, epoch, seats) + part(document.encode())
 
 
-class Driver:
+class Driver(Process):
     """A program that runs. All that it was sent, and all that it sent, is kept."""
 
     def __init__(self, path: str = PROGRAM, environment: dict[str, str] | None = None) -> None:
-        self.program: Any = subprocess.Popen([path], env=environment, bufsize=0, stdin=subprocess.PIPE,
-                                             stdout=subprocess.PIPE, stderr=subprocess.PIPE)
+        super().__init__([path], env=environment)
         self.orders, self.answers, self.at = bytearray(), bytearray(), 0
         # The numbers of all receipts so far.
         self.receipts: list[int] = []
         os.set_blocking(self.program.stdin.fileno(), False)
-
-    def __enter__(self) -> "Driver":
-        return self
-
-    def __exit__(self, *_: Any) -> None:
-        """However it comes to this, the program is gone then."""
-        if self.program.poll() is None:
-            self.program.kill()
-            self.program.wait()
-        for stream in (self.program.stdin, self.program.stdout, self.program.stderr):
-            stream.close()
 
     # The orders.
 
