@@ -1,10 +1,11 @@
 #!/usr/bin/env python3
-"""journal.py FILE: audits the file of a journal. It says `lawful: K entries`, or with status 1 that the file is no
+"""Audits the file of a journal. It says `lawful: K entries`, or with status 1 that the file is no
 journal, or at which entry an answer is wrong.
 
 A journal has what a server began with, and an entry for each operation on its state and each other change of it:
 docs/JOURNAL.md has the file's layout. It is lawful where each entry may come next, by the model's rules, after those
 before it. `Recorder` is a model that keeps its journal. `Growing` reads a file that is no whole journal yet."""
+import argparse
 import sys
 from collections.abc import Callable, Iterator
 from dataclasses import dataclass, field
@@ -288,9 +289,11 @@ def fault_of(ended: WrongAnswer) -> str:
     return f"fault: wrong answer at entry {ended.args[0]}"
 
 
-def main(path: str) -> int:
+def main() -> int:
+    parser = argparse.ArgumentParser(description=__doc__, formatter_class=argparse.RawDescriptionHelpFormatter)
+    parser.add_argument("journal", metavar="FILE")
     try:
-        with open(path, "rb") as source:
+        with open(parser.parse_args().journal, "rb") as source:
             data = source.read()
     except OSError:
         sys.exit("fault: file not read")
@@ -300,6 +303,4 @@ def main(path: str) -> int:
 
 
 if __name__ == "__main__":
-    if len(sys.argv) != 2:
-        sys.exit(__doc__)
-    sys.exit(main(sys.argv[1]))
+    sys.exit(main())
