@@ -48,8 +48,8 @@ class Told(Server):
         self.is_stale = is_refused
         return super().run_next(call, handles, room, False)
 
-    def effect(self, opnum, arguments, given):
-        return self.renew(arguments) if opnum == Opnum.RENEW else super().effect(opnum, arguments, given)
+    def effect(self, opnum, arguments, subject):
+        return self.renew(arguments) if opnum == Opnum.RENEW else super().effect(opnum, arguments, subject)
 
     def renew(self, arguments):
         """By a state behind the entry of the last receipt, and not behind that of the next one. What comes after it is

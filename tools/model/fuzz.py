@@ -80,17 +80,17 @@ class Counting(Recorder):
         self.counts, self.introduced, self.forgotten = Counter(), [], {}
         self.pages = Pages(self.counts)
 
-    def effect(self, opnum, arguments, given):
-        size = len(self.text_of(given)) if opnum == Opnum.WRITE and given is not None else 0
-        rest = super().effect(opnum, arguments, given)
+    def effect(self, opnum, arguments, subject):
+        size = len(self.text_of(subject)) if opnum == Opnum.WRITE and subject is not None else 0
+        rest = super().effect(opnum, arguments, subject)
         if opnum == Opnum.SETCLIENTID:
             self.introduced.append(self.records[-1])
         elif opnum == Opnum.READ:
             begin, count = arguments.offset, int.from_bytes(rest[4:8], "big")
-            self.pages.read(given, begin, begin + count)
+            self.pages.read(subject, begin, begin + count)
         elif opnum == Opnum.WRITE:
             begin = arguments.offset
-            self.pages.write(given, size, begin, begin + len(arguments.data))
+            self.pages.write(subject, size, begin, begin + len(arguments.data))
         return rest
 
     def new_number(self, replaced):

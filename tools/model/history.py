@@ -54,8 +54,8 @@ class History(Recorder):
         self.ended.update((number, entry) for number in self.present - present)
         self.present = present
 
-    def effect(self, opnum: Opnum, arguments: Any, given: Any) -> bytes:
-        rest = super().effect(opnum, arguments, given)
+    def effect(self, opnum: Opnum, arguments: Any, subject: Any) -> bytes:
+        rest = super().effect(opnum, arguments, subject)
         if opnum == Opnum.SETCLIENTID:
             self.introductions[self.last_confirm] = Introduction(self.entries, self.records[-1])
         elif opnum == Opnum.OPEN_CONFIRM:

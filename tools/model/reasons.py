@@ -16,7 +16,7 @@ from model.journal import Journal, states
 from model.operations.close import holding
 from model.operations.readdir import LISTING_ENDS, LISTING_LIMIT, NO_VERIFIER, room_of_entries
 from model.ranges import LAST_BYTE, READ_MODE, Run, denial, range_of
-from model.server import Given, OPERATIONS
+from model.server import Subject, OPERATIONS
 from model.state import JOURNAL_LIMIT
 from model.states import (ClientRecord, Delegation, KeptState, LockState, OpenState, Owner, OwnerName, Refusal, Request,
                           closed_by, conflict, is_lawful_downgrade, is_special, mode_of, next_sequence_id, replay,
@@ -112,10 +112,10 @@ class Causes:
         return reason
 
     def of_call(self, call: Call) -> Reasons:
-        kind = OPERATIONS[call.opnum].given
-        if kind == Given.NODE_OF_OWNER:
+        kind = OPERATIONS[call.opnum].subject
+        if kind == Subject.REQUEST:
             return self.of_sequenced(Request(call.opnum, call.arguments, call.filehandle))
-        return self.rule_of(call.opnum)(call.arguments, call.filehandle if kind == Given.NODE else call.principal)
+        return self.rule_of(call.opnum)(call.arguments, call.filehandle if kind == Subject.NODE else call.principal)
 
     def rule_of(self, opnum: Opnum) -> Callable[..., Reasons]:
         rule: Callable[..., Reasons] = getattr(self, f"of_{opnum.name.lower()}")
@@ -156,6 +156,13 @@ class Causes:
         if filehandle is None:
             text = "no filehandle is current: no operation before it in its COMPOUND made one so"
             yield Reason(Status.NOFILEHANDLE, text, "COMPOUND")
+
+    def of_node(self, node: int, status: Status, heading: str) -> Reasons:
+        """That a file is wanted, where it would be ISDIR, or a directory, where it would be NOTDIR."""
+        is_file = status == Status.ISDIR
+        if self.server.tree.is_file(node) != is_file:
+            wanted = "file's" if is_file else "directory's"
+            yield Reason(status, f"the current filehandle is that of {self.place_words(node)}, and no {wanted}", heading)
 
     def of_clientid(self, epoch: int, number: int) -> Reasons:
         """What is wrong with a clientid, if its client isn't live."""
@@ -348,9 +355,7 @@ class Causes:
     def of_file_name(self, arguments: Open, directory: int) -> Reasons:
         """What is wrong with the name that an OPEN has."""
         tree, name, how = self.server.tree, arguments.claim.name, arguments.how
-        if tree.is_file(directory):
-            text = f"the current filehandle is that of {self.place_words(directory)}, and no directory's"
-            yield Reason(Status.NOTDIR, text, "OPEN")
+        yield from self.of_node(directory, Status.NOTDIR, "OPEN")
         if name == b"":
             yield Reason(Status.INVAL, "the name is empty", "OPEN")
         if len(name) > NAME_LIMIT:
@@ -500,9 +505,7 @@ class Causes:
     def of_lockt(self, arguments: Lockt, file: int) -> Reasons:
         yield from self.of_filehandle(file)
         yield from self.of_clientid(arguments.owner.epoch, arguments.owner.client)
-        if not self.server.tree.is_file(file):
-            text = f"the current filehandle is that of {self.place_words(file)}, and no file's"
-            yield Reason(Status.ISDIR, text, "LOCKT")
+        yield from self.of_node(file, Status.ISDIR, "LOCKT")
         yield from self.of_range(arguments)
         yield from self.of_conflict(arguments, arguments.owner, file)
 
@@ -526,9 +529,7 @@ class Causes:
     def of_access(self, stateid: Stateid, file: int, wanted: int, heading: str) -> Reasons:
         """What is wrong with a stateid by which a file is to be read, or written."""
         yield from self.of_filehandle(file)
-        if not self.server.tree.is_file(file):
-            text = f"the current filehandle is that of {self.place_words(file)}, and no file's"
-            yield Reason(Status.ISDIR, text, heading)
+        yield from self.of_node(file, Status.ISDIR, heading)
         if is_special(stateid):
             yield from self.of_access_of_nobody(file, wanted, heading)
             return
@@ -575,9 +576,7 @@ class Causes:
     def of_readdir(self, arguments: Readdir, directory: int) -> Reasons:
         yield from self.of_filehandle(directory)
         tree, cookie = self.server.tree, arguments.cookie
-        if tree.is_file(directory):
-            text = f"the current filehandle is that of {self.place_words(directory)}, and no directory's"
-            yield Reason(Status.NOTDIR, text, "READDIR")
+        yield from self.of_node(directory, Status.NOTDIR, "READDIR")
         yield from self.of_set_only(arguments.mask, "READDIR")
         children = tree.children(directory)
         if cookie != 0 and cookie - FIRST_COOKIE not in children:

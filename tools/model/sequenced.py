@@ -14,7 +14,7 @@ NOT_COUNTED = {Status.STALE_CLIENTID, Status.STALE_STATEID, Status.BAD_STATEID, 
 class Sequencing(State):
     """What a server does with the requests of owners."""
 
-    def effect(self, opnum: Opnum, arguments: Any, given: Any) -> bytes:
+    def effect(self, opnum: Opnum, arguments: Any, subject: Any) -> bytes:
         """What the operation's rule answers: `Server` has the rules."""
         raise NotImplementedError
 

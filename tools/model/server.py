@@ -34,62 +34,62 @@ CLIENTS_LIMIT = SLOTS - 1
 
 # The operations.
 
-class Given(Enum):
-    """What the rule of an operation is given besides its arguments. By the filehandles of its COMPOUND it works on
-    these and the tree alone, or renews a lease, and makes no entry of the journal. By the current filehandle it works
-    on a file or a node, as a request of an owner or as nobody's; by the principal on clients and what they have."""
+class Subject(Enum):
+    """What a rule works on: on the filehandles of its COMPOUND, and makes no entry of the journal then; on the node of
+    the current one, by an owner's request; on that node, by nobody's; or on clients, by the principal that calls."""
     HANDLES = auto()
-    NODE_OF_OWNER = auto()
+    REQUEST = auto()
     NODE = auto()
     PRINCIPAL = auto()
 
 
-class Renewing(Enum):
-    """What among the arguments names the client whose lease is renewed (section 9.5)."""
-    NOTHING = auto()
-    CLIENTID = auto()
-    STATEID = auto()
+class Lease(Enum):
+    """Whose lease is renewed: nobody's, or that of the client which a clientid or a stateid among the arguments names
+    (section 9.5). SETCLIENTID and its confirmation never renew any."""
+    OF_NOBODY = auto()
+    BY_CLIENTID = auto()
+    BY_STATEID = auto()
 
 
 class Operation(NamedTuple):
     rule: Callable[[Any, Any, Any], bytes]
-    given: Given
-    renewing: Renewing = Renewing.NOTHING
+    subject: Subject
+    lease: Lease = Lease.OF_NOBODY
 
 
 OPERATIONS = {
-    Opnum.ACCESS: Operation(access.rule, Given.HANDLES),
-    Opnum.CLOSE: Operation(close.rule, Given.NODE_OF_OWNER, Renewing.STATEID),
-    Opnum.COMMIT: Operation(commit.rule, Given.HANDLES),
-    Opnum.DELEGRETURN: Operation(delegreturn.rule, Given.NODE, Renewing.STATEID),
-    Opnum.GETATTR: Operation(getattr.rule, Given.NODE),
-    Opnum.GETFH: Operation(filehandles.getfh, Given.HANDLES),
-    Opnum.LOCK: Operation(lock.rule, Given.NODE_OF_OWNER, Renewing.STATEID),
-    Opnum.LOCKT: Operation(lockt.rule, Given.NODE, Renewing.CLIENTID),
-    Opnum.LOCKU: Operation(locku.rule, Given.NODE_OF_OWNER, Renewing.STATEID),
-    Opnum.LOOKUP: Operation(filehandles.lookup, Given.HANDLES),
-    Opnum.OPEN: Operation(open.rule, Given.NODE_OF_OWNER, Renewing.CLIENTID),
-    Opnum.OPEN_CONFIRM: Operation(open_confirm.rule, Given.NODE_OF_OWNER, Renewing.STATEID),
-    Opnum.OPEN_DOWNGRADE: Operation(open_downgrade.rule, Given.NODE_OF_OWNER, Renewing.STATEID),
-    Opnum.PUTFH: Operation(filehandles.putfh, Given.HANDLES),
-    Opnum.PUTROOTFH: Operation(filehandles.putrootfh, Given.HANDLES),
-    Opnum.READ: Operation(read.rule, Given.NODE, Renewing.STATEID),
-    Opnum.READDIR: Operation(readdir.rule, Given.NODE),
-    Opnum.RENEW: Operation(renew.rule, Given.HANDLES, Renewing.CLIENTID),
-    Opnum.RESTOREFH: Operation(filehandles.restorefh, Given.HANDLES),
-    Opnum.SAVEFH: Operation(filehandles.savefh, Given.HANDLES),
-    Opnum.SETATTR: Operation(setattr.rule, Given.NODE, Renewing.STATEID),
-    Opnum.SETCLIENTID: Operation(setclientid.rule, Given.PRINCIPAL),
-    Opnum.SETCLIENTID_CONFIRM: Operation(setclientid_confirm.rule, Given.PRINCIPAL),
-    Opnum.WRITE: Operation(write.rule, Given.NODE, Renewing.STATEID),
-    Opnum.RELEASE_LOCKOWNER: Operation(release_lockowner.rule, Given.PRINCIPAL, Renewing.CLIENTID),
+    Opnum.ACCESS: Operation(access.rule, Subject.HANDLES),
+    Opnum.CLOSE: Operation(close.rule, Subject.REQUEST, Lease.BY_STATEID),
+    Opnum.COMMIT: Operation(commit.rule, Subject.HANDLES),
+    Opnum.DELEGRETURN: Operation(delegreturn.rule, Subject.NODE, Lease.BY_STATEID),
+    Opnum.GETATTR: Operation(getattr.rule, Subject.NODE),
+    Opnum.GETFH: Operation(filehandles.getfh, Subject.HANDLES),
+    Opnum.LOCK: Operation(lock.rule, Subject.REQUEST, Lease.BY_STATEID),
+    Opnum.LOCKT: Operation(lockt.rule, Subject.NODE, Lease.BY_CLIENTID),
+    Opnum.LOCKU: Operation(locku.rule, Subject.REQUEST, Lease.BY_STATEID),
+    Opnum.LOOKUP: Operation(filehandles.lookup, Subject.HANDLES),
+    Opnum.OPEN: Operation(open.rule, Subject.REQUEST, Lease.BY_CLIENTID),
+    Opnum.OPEN_CONFIRM: Operation(open_confirm.rule, Subject.REQUEST, Lease.BY_STATEID),
+    Opnum.OPEN_DOWNGRADE: Operation(open_downgrade.rule, Subject.REQUEST, Lease.BY_STATEID),
+    Opnum.PUTFH: Operation(filehandles.putfh, Subject.HANDLES),
+    Opnum.PUTROOTFH: Operation(filehandles.putrootfh, Subject.HANDLES),
+    Opnum.READ: Operation(read.rule, Subject.NODE, Lease.BY_STATEID),
+    Opnum.READDIR: Operation(readdir.rule, Subject.NODE),
+    Opnum.RENEW: Operation(renew.rule, Subject.HANDLES, Lease.BY_CLIENTID),
+    Opnum.RESTOREFH: Operation(filehandles.restorefh, Subject.HANDLES),
+    Opnum.SAVEFH: Operation(filehandles.savefh, Subject.HANDLES),
+    Opnum.SETATTR: Operation(setattr.rule, Subject.NODE, Lease.BY_STATEID),
+    Opnum.SETCLIENTID: Operation(setclientid.rule, Subject.PRINCIPAL),
+    Opnum.SETCLIENTID_CONFIRM: Operation(setclientid_confirm.rule, Subject.PRINCIPAL),
+    Opnum.WRITE: Operation(write.rule, Subject.NODE, Lease.BY_STATEID),
+    Opnum.RELEASE_LOCKOWNER: Operation(release_lockowner.rule, Subject.PRINCIPAL, Lease.BY_CLIENTID),
 }
 # Those that have a rule under the profile "clients" alone; and those whose arguments aren't read under either, but
 # which are known then to change a directory.
 OF_CLIENTS = {Opnum.COMMIT, Opnum.READDIR, Opnum.SETATTR}
 CHANGING_DIRECTORIES = {wire.OTHER_OPERATIONS[name] for name in ("CREATE", "LINK", "REMOVE", "RENAME")}
 # Those that ask the state, and so make an entry of the journal, under each profile.
-STATEFUL = {opnum for opnum, operation in OPERATIONS.items() if operation.given != Given.HANDLES}
+STATEFUL = {opnum for opnum, operation in OPERATIONS.items() if operation.subject != Subject.HANDLES}
 STATEFUL_BY_PROFILE = {PLAIN: STATEFUL - OF_CLIENTS, CLIENTS: STATEFUL}
 # Those whose answer may be as long as a READ's.
 LONG = {Opnum.READ, Opnum.READDIR}
@@ -167,7 +167,7 @@ class Server(Files, Sequencing, Sweeping):
         if room < (READ_ROOM if opnum in LONG else ANSWER_ROOM):
             return opnum, refused(opnum, Status.RESOURCE)
         self.renew_by(opnum, arguments)
-        if OPERATIONS[opnum].given == Given.HANDLES:
+        if OPERATIONS[opnum].subject == Subject.HANDLES:
             return opnum, answer(lambda: self.effect(opnum, arguments, handles))
         result = self.apply(opnum, arguments, handles.current, call.principal, is_refused)
         if opnum == Opnum.OPEN and result.status == Status.OK and handles.current is not None:
@@ -186,27 +186,27 @@ class Server(Files, Sequencing, Sweeping):
         """Runs an operation that asks the state, which makes an entry of the journal, unless it is RESOURCE."""
         if is_refused or self.entries >= self.journal_limit:
             return refused(opnum, Status.RESOURCE)
-        kind = OPERATIONS[opnum].given
-        if kind == Given.NODE_OF_OWNER:
+        kind = OPERATIONS[opnum].subject
+        if kind == Subject.REQUEST:
             result = self.sequenced(Request(opnum, arguments, filehandle))
         else:
-            given = filehandle if kind == Given.NODE else principal
-            result = answer(lambda: self.effect(opnum, arguments, given))
+            subject = filehandle if kind == Subject.NODE else principal
+            result = answer(lambda: self.effect(opnum, arguments, subject))
         self.entries += result.status != Status.RESOURCE
         return result
 
-    def effect(self, opnum: Opnum, arguments: Any, given: Any) -> bytes:
+    def effect(self, opnum: Opnum, arguments: Any, subject: Any) -> bytes:
         """What the operation's rule answers."""
-        return OPERATIONS[opnum].rule(self, arguments, given)
+        return OPERATIONS[opnum].rule(self, arguments, subject)
 
     # Leases (section 9.5).
 
     def renewed_by(self, opnum: Opnum, arguments: Any) -> int | None:
         """The number of the client whose lease the operation renews, if that is open; or None."""
-        renewing = OPERATIONS[opnum].renewing
-        if renewing == Renewing.NOTHING:
+        lease = OPERATIONS[opnum].lease
+        if lease == Lease.OF_NOBODY:
             return None
-        if renewing == Renewing.STATEID:
+        if lease == Lease.BY_STATEID:
             named = stateid_of(opnum, arguments)
             return None if is_special(named) or named.epoch != self.epoch else named.client
         named = arguments if opnum == Opnum.RENEW else arguments.owner
