@@ -161,8 +161,8 @@ class Causes:
         """That a file is wanted, where it would be ISDIR, or a directory, where it would be NOTDIR."""
         is_file = status == Status.ISDIR
         if self.server.tree.is_file(node) != is_file:
-            wanted = "file's" if is_file else "directory's"
-            yield Reason(status, f"the current filehandle is that of {self.place_words(node)}, and no {wanted}", heading)
+            text = f"the current filehandle is that of {self.place_words(node)}, and no "
+            yield Reason(status, text + ("file's" if is_file else "directory's"), heading)
 
     def of_clientid(self, epoch: int, number: int) -> Reasons:
         """What is wrong with a clientid, if its client isn't live."""
