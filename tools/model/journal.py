@@ -37,7 +37,7 @@ class Journal(NamedTuple):
     epoch: int
     lease: int
     tree: Tree
-    entries: list[Entry]
+    entries: list[Any]
     # How its file begins, which it has again when it is written.
     head: bytes = HEAD
 
@@ -49,7 +49,7 @@ class WrongAnswer(Exception):
 @dataclass
 class Recorder(Server):
     """A server that keeps its journal."""
-    recorded: list[Entry] = field(default_factory=list)
+    recorded: list[Any] = field(default_factory=list)
 
     def apply(self, opnum: Opnum, arguments: Any, filehandle: int | None, principal: Principal,
               is_refused: bool = False) -> Result:
