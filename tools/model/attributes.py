@@ -1,5 +1,7 @@
 """The attributes of files and directories (RFC 7530, section 5), which `model.Server` has with its others: which there
 are under each profile, what they are, and which can be set. Sections are those of RFC 7530."""
+from collections.abc import Sequence
+
 from model.state import State
 from model.states import Refusal, handle_of
 from model.tree import FILES, NAME_LIMIT, TEXT_LIMIT
@@ -31,7 +33,7 @@ SPACE = FILES * TEXT_LIMIT
 FIRST_COOKIE = 2
 
 
-def numbers_of(mask: tuple[int, ...]) -> set[int]:
+def numbers_of(mask: Sequence[int]) -> set[int]:
     """The numbers of the attributes that a mask has."""
     return {32 * place + bit for place, word in enumerate(mask) for bit in range(32) if word >> bit & 1}
 
@@ -79,23 +81,23 @@ class Attributes(State):
         """The numbers of those that supported_attrs names."""
         return numbers_of(wire.Reader(self.attributes(0)[0]).bitmap())
 
-    def values_asked(self, node: int, mask: tuple[int, ...]) -> bytes:
+    def values_asked(self, node: int, mask: Sequence[int]) -> bytes:
         """A fattr4: of the attributes that the mask has those that there are."""
         values = self.attributes(node)
         asked = sorted(numbers_of(mask) & set(values))
         return wire.bitmap(mask_of(asked)) + wire.opaque(b"".join(values[number] for number in asked))
 
-    def listing_entry(self, child: int, mask: tuple[int, ...]) -> bytes:
+    def listing_entry(self, child: int, mask: Sequence[int]) -> bytes:
         """A child in a listing of its directory: that it is one, its cookie and name, and its own attributes."""
         name = wire.opaque(self.tree.nodes[child].name)
         return u32(1) + u64(child + FIRST_COOKIE) + name + self.values_asked(child, mask)
 
-    def expect_readable(self, mask: tuple[int, ...]) -> None:
+    def expect_readable(self, mask: Sequence[int]) -> None:
         """Under the profile "clients" what can only be set can't be asked for; under the other it is left out."""
         if self.is_for_clients() and numbers_of(mask) & SET_ONLY:
             raise Refusal(Status.INVAL)
 
-    def settable(self, mask: tuple[int, ...]) -> set[int]:
+    def settable(self, mask: Sequence[int]) -> set[int]:
         """The numbers of the attributes that are to be set, each of which can be."""
         asked = numbers_of(mask)
         if not asked <= self.supported():

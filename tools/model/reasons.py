@@ -4,7 +4,7 @@ heading of docs/RULES.md that says so.
 `Causes` goes through the rules of an operation in their order, as the model does, and says of each that refuses the
 call what it found. The first one is the reason. `check_reasons.py` sees that each refusal has one, of the status that
 was answered, and that no other call has any."""
-from collections.abc import Callable, Iterable, Iterator
+from collections.abc import Callable, Iterable, Iterator, Sequence
 from typing import Any, NamedTuple, TypeVar
 
 from model.attributes import FIRST_COOKIE, FIXED, NAMES, SET_ONLY, SIZE, WRITABLE, numbers_of
@@ -568,7 +568,7 @@ class Causes:
         yield from self.of_filehandle(filehandle)
         yield from self.of_set_only(arguments.mask, "GETATTR")
 
-    def of_set_only(self, mask: tuple[int, ...], heading: str) -> Reasons:
+    def of_set_only(self, mask: Sequence[int], heading: str) -> Reasons:
         asked = numbers_of(mask) & SET_ONLY
         if asked and self.server.is_for_clients():
             yield Reason(Status.INVAL, f"{attribute_words(asked)} can only be set", heading)

@@ -3,7 +3,7 @@
 A record has its form in the annotations of its fields, by which it is read and written. Two operations are the same
 where their values are, whatever the padding.
 """
-from collections.abc import Callable, Iterator
+from collections.abc import Callable, Iterator, Sequence
 from enum import IntEnum
 from io import BytesIO
 from typing import Annotated, Any, NamedTuple, get_origin, get_type_hints
@@ -114,7 +114,7 @@ def opaque(value: bytes) -> bytes:
     return u32(len(value)) + value + bytes(-len(value) % 4)
 
 
-def bitmap(words: list[int] | tuple[int, ...]) -> bytes:
+def bitmap(words: Sequence[int]) -> bytes:
     return u32(len(words), *words)
 
 
@@ -146,7 +146,7 @@ def bytes_up_to(limit: int) -> Form:
 Word = Annotated[int, Form(lambda reader: reader.u32(), u32)]
 Long = Annotated[int, Form(lambda reader: reader.u64(), u64)]
 Bool = Annotated[int, one_of(2)]
-Mask = Annotated[tuple[int, ...], Form(lambda reader: reader.bitmap(), bitmap)]
+Mask = Annotated[Sequence[int], Form(lambda reader: reader.bitmap(), bitmap)]
 Verifier = Annotated[bytes, Form(lambda reader: reader.fixed(8), bytes)]
 Text = Annotated[bytes, Form(lambda reader: reader.opaque(), opaque)]
 Data = Annotated[bytes, Form(lambda reader: reader.file_bytes(), opaque)]
@@ -171,8 +171,9 @@ Stateid = NamedTuple("Stateid", [("seqid", Word), ("epoch", Word), ("client", Wo
 # An open owner and a lock owner: a clientid by its two halves, and the owner's bytes.
 OpenOwner = NamedTuple("OpenOwner", [("epoch", Word), ("client", Word), ("name", Name)])
 LockOwner = NamedTuple("LockOwner", [("epoch", Word), ("client", Word), ("name", Name)])
-# Values of attributes: which these are, and all of them behind one another.
-Fattr = NamedTuple("Fattr", [("mask", Mask), ("values", Text)])
+# Values of attributes: the mask, and all of them behind one another.
+FATTR = Form(lambda reader: (reader.bitmap(), reader.opaque()), lambda pair: bitmap(pair[0]) + opaque(pair[1]))
+Fattr = Annotated[tuple[Sequence[int], bytes], FATTR]
 # Who locks: an owner that has no lock state on the file yet, by an open; or one that has, by its lock state.
 NewLocker = NamedTuple("NewLocker", [
     ("open_seqid", Word), ("open_stateid", Stateid), ("lock_seqid", Word), ("owner", LockOwner)])
@@ -182,7 +183,7 @@ Callback = NamedTuple("Callback", [("program", Word), ("netid", Text), ("address
 Openhow = NamedTuple("Openhow", [("create", int), ("mode", int | None), ("value", Any)])
 # Which file an OPEN names: the claim, the name, and the delegation's type or stateid, each where the claim has it.
 Claim = NamedTuple("Claim", [("kind", int), ("name", Any), ("delegation", Any)])
-STATEID, FATTR, KNOWN_LOCKER, NEW_LOCKER = map(form_of, (Stateid, Fattr, KnownLocker, NewLocker))
+STATEID, KNOWN_LOCKER, NEW_LOCKER = map(form_of, (Stateid, KnownLocker, NewLocker))
 
 
 def read_openhow(reader: Reader) -> Openhow:

@@ -1,4 +1,6 @@
 """READDIR (section 16.24). The verifier that it gives is zero for good, as no cookie ever means another child."""
+from collections.abc import Sequence
+
 from model.attributes import Attributes, FIRST_COOKIE
 from model.states import Refusal, expect_filehandle
 from nfs4.wire import Readdir, Status, u32
@@ -32,7 +34,7 @@ def rule(server: Attributes, arguments: Readdir, filehandle: int | None) -> byte
     return NO_VERIFIER + b"".join(entries) + u32(0, len(entries) == len(left))
 
 
-def entries_within(server: Attributes, children: list[int], mask: tuple[int, ...], room: int) -> list[bytes]:
+def entries_within(server: Attributes, children: list[int], mask: Sequence[int], room: int) -> list[bytes]:
     """The entries of as many of these children as fit whole, one behind the other, up to the first that doesn't."""
     entries = []
     for child in children:
