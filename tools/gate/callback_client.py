@@ -2,14 +2,13 @@
 import time
 from typing import Any, NamedTuple
 
-from model.entries import setclientid_bytes
-from model.server import CONFIRM
+from model.operations.open import CONFIRM
 from model.states import Recall
 from nfs4.client import NONE, VERIFIER, Client, done, Wrong
 from nfs4.messages import (DELEGRETURN, GETFH, NFS4_OK, OPEN_CONFIRM, PUTFH, PUTROOTFH, RENEW, SETCLIENTID,
                            SETCLIENTID_CONFIRM, confirmation, given, handle, opening, words)
 from nfs4.served import REPLY_PATIENCE
-from nfs4.wire import AUTH_NONE, AUTH_SYS, Callback, Setclientid, Stateid, opaque
+from nfs4.wire import AUTH_NONE, AUTH_SYS, Callback, FORMS, Stateid, opaque
 
 
 class Lent(NamedTuple):
@@ -36,7 +35,7 @@ class Borrower(Client):
 
     def introduce(self, callback: Callback, verifier: bytes = VERIFIER) -> None:  # type: ignore[override]
         """SETCLIENTID with this callback, and SETCLIENTID_CONFIRM; also once more, with another one."""
-        found = self.ask(words(SETCLIENTID) + setclientid_bytes(Setclientid(verifier, self.name, callback)))
+        found = self.ask(words(SETCLIENTID) + FORMS[SETCLIENTID].write((verifier, self.name, callback)))
         if len(found) < 15:
             raise Wrong(f"{self.name!r} gets {self.got[-1].hex(' ', 4)} for SETCLIENTID")
         self.number, confirm, self.callback = found[12], found[14], callback
@@ -76,5 +75,6 @@ class Borrower(Client):
 
     def recall_of(self, lent: Lent) -> Recall:
         """What the server has to say to call this delegation back."""
+        assert self.callback is not None
         principal = (AUTH_NONE, 0) if self.uid is None else (AUTH_SYS, self.uid)
         return Recall(Stateid(1, self.epoch, self.number, lent.number), lent.file, principal, self.callback)

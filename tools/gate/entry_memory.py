@@ -105,4 +105,4 @@ def entry_of(sent: bytes, got: bytes) -> Call:
     assert asked is not None, sent.hex(" ", 4)
     answers = [read_answer(reader) for _ in asked.operations]
     last = asked.operations[-1]
-    return Call(None, None, None, Opnum(last.number), last.arguments, answers[-1])
+    return Call(0, (0, 0), None, Opnum(last.number), last.arguments, answers[-1])

@@ -21,7 +21,8 @@ from model.attributes import SIZE
 from model.entries import Call, Expire
 from model.journal import NotJournal, read_journal, verdict
 from model.program import bytes_of
-from model.server import NOT_COUNTED, RENEWING_BY_CLIENTID, RENEWING_BY_STATEID
+from model.sequenced import NOT_COUNTED
+from model.server import OPERATIONS, Lease
 from model.states import SLOTS
 from nfs4.client import Client, numbers_of as words_of, way_to, Wrong
 from nfs4.messages import (CLOSE, DELEGRETURN, GETATTR, LOCKU, NFS4_OK, NFS4ERR_STALE_CLIENTID, OPEN_CONFIRM,
@@ -42,7 +43,7 @@ NEAR, SPREAD, MOST = 0.6, 0.0005, 0.01
 SILENT, AGAIN, EARLIER, ONLY_RENEW = 0.06, 0.03, 0.3, 0.4
 # How many writes keep the lock busy at an edge; each is one batch.
 BUSY = 2
-RENEWING = RENEWING_BY_CLIENTID | RENEWING_BY_STATEID
+RENEWING = {opnum for opnum, operation in OPERATIONS.items() if operation.lease != Lease.OF_NOBODY}
 
 # What came of a server: by the users of its connections what went over each; its journal; and how many of the
 # renewals at the last moment came in time, and how many missed.

@@ -11,8 +11,7 @@ import random
 from collections import namedtuple
 from dataclasses import dataclass, field
 
-from model.attributes import SIZE
-from model.server import FIRST_COOKIE
+from model.attributes import FIRST_COOKIE, SIZE
 from model.states import SLOTS
 from model.tree import DEFAULT
 from nfs4.messages import COMPOUND, call, handle, opening, setclientid, split

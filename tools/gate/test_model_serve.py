@@ -27,8 +27,9 @@ from gate.crowd import GOOD, MOST, OTHERS, crowd, garbage
 from gate.trial import Late, judged, lawful_journal, peer_of, tried_again
 from model.entries import Expire
 from model.journal import Recorder
-from model.server import CLIENTS_LIMIT, JOURNAL_LIMIT
+from model.server import CLIENTS_LIMIT
 from model.serving import Desk
+from model.state import JOURNAL_LIMIT
 from nfs4.client import Client, done, expect, Wrong
 from nfs4.messages import (COMPOUND, GETATTR, GETFH, NFS4ERR_STALE_CLIENTID, NFS4_OK, NULL, PUTROOTFH, RENEW, call,
                            compound, confirmation, lookup, reply, setclientid, words)

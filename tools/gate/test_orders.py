@@ -11,7 +11,7 @@ import pytest
 from model import limits
 from model.entries import Expire, Path
 from model.journal import read_journal
-from model.server import JOURNAL_LIMIT, OWNERS_LIMIT
+from model.state import JOURNAL_LIMIT, OWNERS_LIMIT
 from nfs4.client import expect
 from nfs4.messages import NULL, PUTROOTFH, call, compound, confirmation, setclientid, split, words
 from nfs4.preload import preloading

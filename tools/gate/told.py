@@ -6,8 +6,8 @@ from typing import Any, NamedTuple
 
 from model.entries import Call, Expire, Forget, MOMENT_LIMIT, Revoke
 from model.journal import Journal, states
-from model.server import Filehandles, Server
-from model.states import Refusal, Result, slot_of
+from model.server import Server
+from model.states import Filehandles, Refusal, Result, slot_of
 from nfs4.client import Wrong
 from nfs4.wire import CompoundCall, Opnum, Status, split_records, u32
 
@@ -58,6 +58,9 @@ class Told(Server):
     def run_next(self, call: CompoundCall, handles: Filehandles, room: int, is_refused: bool) -> tuple[int, Result]:
         self.is_stale = is_refused
         return super().run_next(call, handles, room, False)
+
+    def effect(self, opnum: Any, arguments: Any, subject: Any) -> Any:
+        return self.renew(arguments) if opnum == Opnum.RENEW else super().effect(opnum, arguments, subject)
 
     def renew(self, arguments: Any) -> bytes:
         """By a state behind the entry of the last receipt, and not behind that of the next one. What comes after it is

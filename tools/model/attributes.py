@@ -1,7 +1,8 @@
 """The attributes of files and directories (RFC 7530, section 5), which `model.Server` has with its others: which there
 are under each profile, what they are, and which can be set. Sections are those of RFC 7530."""
-from typing import Any
+from collections.abc import Sequence
 
+from model.state import State
 from model.states import Refusal, handle_of
 from model.tree import FILES, NAME_LIMIT, TEXT_LIMIT
 from nfs4 import wire
@@ -28,9 +29,11 @@ SET_TO_SERVER_TIME, SET_TO_CLIENT_TIME = 0, 1
 FILE_MODE, DIRECTORY_MODE = 0o666, 0o555
 # The bytes that all files may have together.
 SPACE = FILES * TEXT_LIMIT
+# A child's cookie is its node's number and this: 0 is the beginning, and 1 and 2 are nobody's.
+FIRST_COOKIE = 2
 
 
-def numbers_of(mask: tuple[int, ...]) -> set[Any] | set[int]:
+def numbers_of(mask: Sequence[int]) -> set[int]:
     """The numbers of the attributes that a mask has."""
     return {32 * place + bit for place, word in enumerate(mask) for bit in range(32) if word >> bit & 1}
 
@@ -43,7 +46,7 @@ def mask_of(numbers: list[int] | set[int]) -> list[int]:
     return words
 
 
-class Attributes:
+class Attributes(State):
     """What a server says of its files and directories, beside their bytes."""
 
     def attributes(self, node: int) -> dict[int, bytes]:
@@ -54,7 +57,7 @@ class Attributes:
             8: u64(1) + u64(0), 9: u32(1), 10: u32(self.lease), 11: u32(0), 19: wire.opaque(handle_of(node)),
             20: u64(node + 1),
         }
-        set_only = set()
+        set_only: set[int] = set()
         if self.is_for_clients():
             found |= self.attributes_for_clients(is_file, size, change)
             set_only = {TIME_MODIFY_SET}
@@ -78,18 +81,23 @@ class Attributes:
         """The numbers of those that supported_attrs names."""
         return numbers_of(wire.Reader(self.attributes(0)[0]).bitmap())
 
-    def values_asked(self, node: int, mask: tuple[int, ...]) -> bytes:
+    def values_asked(self, node: int, mask: Sequence[int]) -> bytes:
         """A fattr4: of the attributes that the mask has those that there are."""
         values = self.attributes(node)
         asked = sorted(numbers_of(mask) & set(values))
         return wire.bitmap(mask_of(asked)) + wire.opaque(b"".join(values[number] for number in asked))
 
-    def expect_readable(self, mask: tuple[int, ...]) -> None:
+    def listing_entry(self, child: int, mask: Sequence[int]) -> bytes:
+        """A child in a listing of its directory: that it is one, its cookie and name, and its own attributes."""
+        name = wire.opaque(self.tree.nodes[child].name)
+        return u32(1) + u64(child + FIRST_COOKIE) + name + self.values_asked(child, mask)
+
+    def expect_readable(self, mask: Sequence[int]) -> None:
         """Under the profile "clients" what can only be set can't be asked for; under the other it is left out."""
         if self.is_for_clients() and numbers_of(mask) & SET_ONLY:
             raise Refusal(Status.INVAL)
 
-    def settable(self, mask: tuple[int, ...]) -> set[Any] | set[int]:
+    def settable(self, mask: Sequence[int]) -> set[int]:
         """The numbers of the attributes that are to be set, each of which can be."""
         asked = numbers_of(mask)
         if not asked <= self.supported():
@@ -100,9 +108,10 @@ class Attributes:
             raise Refusal(Status.ROFS)
         return asked
 
-    def size_of(self, asked: set[Any] | set[int], values: bytes) -> int | None:
+    def size_of(self, asked: set[int], values: bytes) -> int | None:
         """The size that is to be set, or None where it isn't. A time is the server's own, which can't be chosen."""
-        reader, size, how = wire.Reader(values), None, SET_TO_SERVER_TIME
+        reader, how = wire.Reader(values), SET_TO_SERVER_TIME
+        size: int | None = None
         try:
             if SIZE in asked:
                 size = reader.u64()

@@ -12,7 +12,9 @@ sys.dont_write_bytecode = True
 from packages import make_known
 make_known()
 
-from model.server import FIRST_COOKIE, LISTING_LIMIT, NO_VERIFIER, Server
+from model.attributes import FIRST_COOKIE
+from model.operations.readdir import LISTING_LIMIT, NO_VERIFIER
+from model.server import Server
 from model.states import Result
 from model.tree import DIRECTORIES, FILES, Tree
 from nfs4 import wire

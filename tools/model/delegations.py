@@ -1,7 +1,8 @@
 """The rules of delegations (RFC 7530, section 10.4), which `model.Server` has with its others: what one is in the way
 of, when it is given, called back, given back and taken. Sections are those of RFC 7530."""
-from model.states import Delegation, Recall, Refusal, UNKNOWN, UP, expect_filehandle, expect_seqid
-from nfs4.wire import (CLAIM_NULL, Delegreturn, OPEN_DELEGATE_NONE, OPEN_DELEGATE_READ, OPEN_DELEGATE_WRITE, Open, READ,
+from model.state import State
+from model.states import Delegation, Recall, Refusal, UNKNOWN, UP, expect_seqid
+from nfs4.wire import (CLAIM_NULL, OPEN_DELEGATE_NONE, OPEN_DELEGATE_READ, OPEN_DELEGATE_WRITE, Open, READ,
                        Stateid, Status, WRITE, opaque, u32, u64)
 
 # How many bytes a file may get under a write delegation, and that it is bytes which are counted.
@@ -31,7 +32,7 @@ def delegation_bytes(kind: int, stateid: bytes = b"") -> bytes:
     return u32(kind) + stateid + u32(0) + space + u32(0, 0, 0) + opaque(b"")
 
 
-class Delegating:
+class Delegating(State):
     """What a server does with its delegations."""
 
     def delegations_of_others(self, client: int, file: int) -> list[Delegation]:
@@ -41,7 +42,7 @@ class Delegating:
 
     def expect_claimed(self, stateid: Stateid, client: int, file: int) -> None:
         """CLAIM_DELEGATE_CUR names a delegation of the client on the file that is opened (section 16.16)."""
-        found = self.state_of(Delegation, stateid, file)
+        found: Delegation = self.state_of(Delegation, stateid, file)
         if found.client != client:
             raise Refusal(Status.BAD_STATEID)
         expect_seqid(stateid, found)
@@ -56,7 +57,7 @@ class Delegating:
     def kind_given(self, arguments: Open, file: int) -> int:
         """The kind of the delegation that an OPEN brings whose owner was confirmed before."""
         client, share = arguments.owner.client, (arguments.access, arguments.deny)
-        path = self.record_where(True, lambda it: it.number == client).path
+        path = self.live_record(client).path
         has_one = any((it.client, it.file) == (client, file) for it in self.delegations)
         if arguments.claim.kind != CLAIM_NULL or path != UP or has_one:
             return OPEN_DELEGATE_NONE
@@ -80,14 +81,6 @@ class Delegating:
         return delegation_bytes(kind, self.spelled(given))
 
     # To the end.
-
-    def delegreturn(self, arguments: Delegreturn, file: int | None) -> bytes:
-        """Section 16.6."""
-        expect_filehandle(file)
-        found = self.state_of(Delegation, arguments.stateid, file)
-        expect_seqid(arguments.stateid, found)
-        self.end_delegation(found)
-        return b""
 
     def due(self, now: int) -> Delegation | None:
         """The delegation of the least number among those that were called back more seconds ago than the lease has,
@@ -119,7 +112,7 @@ class Delegating:
         """Calls delegations back, in the order of their numbers, unless they have been."""
         for found in sorted((it for it in held if it.recalled is None), key=lambda it: it.number):
             found.recalled = self.moment
-            record = self.record_where(True, lambda it: it.number == found.client)
+            record = self.live_record(found.client)
             stateid = Stateid(found.seqid, self.epoch, found.client, found.number)
             self.recalls.append(Recall(stateid, found.file, record.principal, record.callback))
 

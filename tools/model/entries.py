@@ -1,18 +1,16 @@
-"""The entries of a journal as bytes: docs/JOURNAL.md has the layout. Arguments of operations are read by `nfs4.wire`,
-and written here; answers are read here.
+"""The entries of a journal as bytes: docs/JOURNAL.md has the layout. `nfs4.wire` has the forms of the operations'
+arguments; what this server's answers may be is here.
 
 There is one spelling: what is read here is written again by the same bytes, so padding has to be zero.
 """
-from collections import namedtuple
 from collections.abc import Callable
-from typing import Any
+from typing import Annotated, Any, NamedTuple
 
 from model.server import CHANGING_DIRECTORIES, STATEFUL_BY_PROFILE
+from model.tree import CLIENTS, Tree
 from nfs4 import wire
-from nfs4.wire import (CLAIM_DELEGATE_CUR, CLAIM_PREVIOUS, Claim, EXCLUSIVE4, KnownLocker, Lock, LockOwner, Lockt,
-                       Locku, NewLocker, OPEN4_NOCREATE, OPEN_DELEGATE_NONE, OPEN_DELEGATE_WRITE, Open, OpenOwner,
-                       Openhow, Opnum, READ_LT, Setclientid, Stateid, Status, Unreadable, bitmap, opaque,
-                       read_attributes, read_directory, read_lock_owner, read_open_owner, read_stateid, u32, u64)
+from nfs4.wire import (Bool, FORMS, Form, OPEN_DELEGATE_NONE, OPEN_DELEGATE_WRITE, OpenOwner, Opnum, Principal, STATEID,
+                       Stateid, Status, Unreadable, Word, form_of, u32, u64)
 
 MOMENT_LIMIT = 2**40 - 2
 
@@ -20,18 +18,8 @@ MOMENT_LIMIT = 2**40 - 2
 STATUSES = set(Status)
 WITHOUT_RULE = dict.fromkeys(CHANGING_DIRECTORIES, {Status.NOTSUPP, Status.ROFS})
 
-# A request with its answer: when it came, who sent it, and the current filehandle's node, or None.
-Call = namedtuple("Call", "moment principal filehandle opnum arguments answer")
-# The operation that is answered, by its number; the status; and the bytes after it.
-Answer = namedtuple("Answer", "number status rest")
-# A client's lease is over: it was seen last, and now it is removed.
-Expire = namedtuple("Expire", "client seen now")
-# A delegation that was called back and not given back is taken.
-Revoke = namedtuple("Revoke", "state now")
-# A client can be called back, or can't.
-Path = namedtuple("Path", "client is_up")
-# An open owner without opens is forgotten.
-Forget = namedtuple("Forget", "owner now")
+# How the bytes of the arguments are written, of each operation that makes an entry.
+ARGUMENT_BYTES = {opnum: FORMS[opnum].write for opnum in STATEFUL_BY_PROFILE[CLIENTS]}
 
 
 class NotJournal(Unreadable):
@@ -74,85 +62,44 @@ class StrictReader(wire.Reader):
             raise NotJournal("other words than the layout has")
 
 
-# The arguments of each operation that makes an entry.
+# The entries by their kinds.
 
-def owner_bytes(owner: LockOwner | OpenOwner) -> bytes:
-    return u32(owner.epoch, owner.client) + opaque(owner.name)
-
-
-def range_bytes(arguments: Lock | Lockt | Locku) -> bytes:
-    return u64(arguments.offset) + u64(arguments.length)
-
-
-def locker_bytes(locker: KnownLocker | NewLocker) -> bytes:
-    if isinstance(locker, NewLocker):
-        return u32(1, locker.open_seqid, *locker.open_stateid, locker.lock_seqid) + owner_bytes(locker.owner)
-    return u32(0, *locker.lock_stateid, locker.lock_seqid)
+def read_moment(reader: wire.Reader) -> int:
+    moment = reader.u64()
+    if moment >= MOMENT_LIMIT:
+        raise NotJournal("a moment of 2^40 - 2 or more")
+    return moment
 
 
-def fattr_bytes(attributes: tuple[tuple[int, ...], bytes]) -> bytes:
-    mask, values = attributes
-    return bitmap(mask) + opaque(values)
-
-
-def openhow_bytes(how: Openhow) -> bytes:
-    if how.create == OPEN4_NOCREATE:
-        return u32(how.create)
-    if how.mode == EXCLUSIVE4:
-        return u32(how.create, how.mode) + how.value
-    return u32(how.create, how.mode) + fattr_bytes(how.value)
-
-
-def claim_bytes(claim: Claim) -> bytes:
-    if claim.kind == CLAIM_PREVIOUS:
-        return u32(claim.kind, claim.delegation)
-    stateid = claim.delegation if claim.kind == CLAIM_DELEGATE_CUR else ()
-    return u32(claim.kind, *stateid) + opaque(claim.name)
-
-
-def open_bytes(arguments: Open) -> bytes:
-    head = u32(arguments.seqid, arguments.access, arguments.deny) + owner_bytes(arguments.owner)
-    return head + openhow_bytes(arguments.how) + claim_bytes(arguments.claim)
-
-
-def setclientid_bytes(arguments: Setclientid) -> bytes:
-    callback = arguments.callback
-    address = opaque(callback.netid) + opaque(callback.address)
-    return arguments.verifier + opaque(arguments.id) + u32(callback.program) + address + u32(callback.ident)
-
-
-ARGUMENT_BYTES: dict[int, Callable[[Any], bytes]] = {
-    Opnum.CLOSE: lambda a: u32(a.seqid, *a.stateid),
-    Opnum.DELEGRETURN: lambda a: u32(*a.stateid),
-    Opnum.GETATTR: lambda a: bitmap(a.mask),
-    Opnum.LOCK: lambda a: u32(a.locktype, a.reclaim) + range_bytes(a) + locker_bytes(a.locker),
-    Opnum.LOCKT: lambda a: u32(a.locktype) + range_bytes(a) + owner_bytes(a.owner),
-    Opnum.LOCKU: lambda a: u32(a.locktype, a.seqid, *a.stateid) + range_bytes(a),
-    Opnum.OPEN: open_bytes,
-    Opnum.OPEN_CONFIRM: lambda a: u32(*a.stateid, a.seqid),
-    Opnum.OPEN_DOWNGRADE: lambda a: u32(*a.stateid, a.seqid, a.access, a.deny),
-    Opnum.READ: lambda a: u32(*a.stateid) + u64(a.offset) + u32(a.count),
-    Opnum.READDIR: lambda a: u64(a.cookie) + a.verifier + u32(a.dircount, a.maxcount) + bitmap(a.mask),
-    Opnum.RELEASE_LOCKOWNER: lambda a: owner_bytes(a.owner),
-    Opnum.SETATTR: lambda a: u32(*a.stateid) + fattr_bytes(a.attributes),
-    Opnum.SETCLIENTID: setclientid_bytes,
-    Opnum.SETCLIENTID_CONFIRM: lambda a: u32(a.epoch, a.client) + u64(a.confirm),
-    Opnum.WRITE: lambda a: u32(*a.stateid) + u64(a.offset) + u32(a.stable) + opaque(a.data),
-}
+Moment = Annotated[int, Form(read_moment, u64)]
+# The operation that is answered, by its number; the status; and the bytes after it.
+Answer = NamedTuple("Answer", [("number", int), ("status", int), ("rest", bytes)])
+# A request with its answer: when it came, who sent it, and the current filehandle's node, or None.
+Call = NamedTuple("Call", [("moment", int), ("principal", Principal), ("filehandle", int | None), ("opnum", Opnum),
+                           ("arguments", Any), ("answer", Answer)])
+# A client's lease is over: it was seen last, and now it is removed.
+Expire = NamedTuple("Expire", [("client", Word), ("seen", Moment), ("now", Moment)])
+# A delegation that was called back and not given back is taken.
+Revoke = NamedTuple("Revoke", [("state", Word), ("now", Moment)])
+# A client can be called back, or can't.
+Path = NamedTuple("Path", [("client", Word), ("is_up", Bool)])
+# An open owner without opens is forgotten.
+Forget = NamedTuple("Forget", [("owner", OpenOwner), ("now", Moment)])
+Entry = Call | Expire | Revoke | Path | Forget
+# The numbers of the kinds, and the forms of all but a Call.
+CALL, EXPIRE, REVOKE, PATH, FORGET = 1, 2, 3, 4, 5
+NUMBERS = {Expire: EXPIRE, Revoke: REVOKE, Path: PATH, Forget: FORGET}
+ENTRIES = {number: form_of(kind) for kind, number in NUMBERS.items()}
 
 
 # What follows the status of an answer, by the operation and the status; for all others nothing does.
 
-def read_denied(reader: StrictReader) -> tuple[int, int, int, LockOwner]:
-    return reader.u64(), reader.u64(), reader.one_of(4, first=READ_LT), read_lock_owner(reader)
-
-
-def read_delegation(reader: Any) -> tuple[int, Stateid | None]:
+def read_delegation(reader: StrictReader) -> tuple[int, Stateid | None]:
     """Its kind, and its stateid if there is one. What the server can't choose of a delegation is fixed: it isn't called
     back, its space is 65,536 bytes, and its access list entry permits nobody anything."""
     kind, stateid = reader.one_of(3), None
     if kind != OPEN_DELEGATE_NONE:
-        stateid = read_stateid(reader)
+        stateid = STATEID.read(reader)
         reader.fixed_words(0)
     if kind == OPEN_DELEGATE_WRITE:
         reader.fixed_words(1, 0, 65536)
@@ -161,14 +108,14 @@ def read_delegation(reader: Any) -> tuple[int, Stateid | None]:
     return kind, stateid
 
 
-def read_open_answer(reader: Any) -> tuple[int, Stateid | None]:
+def read_open_answer(reader: StrictReader) -> tuple[int, Stateid | None]:
     """The delegation that it brings."""
-    read_stateid(reader), reader.one_of(2), reader.u64(), reader.u64()
+    STATEID.read(reader), reader.one_of(2), reader.u64(), reader.u64()
     reader.u32(), reader.bitmap()
     return read_delegation(reader)
 
 
-def delegation_given(entry: Call | Expire) -> tuple[int, Stateid] | None:
+def delegation_given(entry: Entry) -> tuple[int, Stateid] | None:
     """The kind and the stateid of the delegation that an entry gives, or None."""
     if not isinstance(entry, Call) or (entry.answer.number, entry.answer.status) != (Opnum.OPEN, Status.OK):
         return None
@@ -177,26 +124,12 @@ def delegation_given(entry: Call | Expire) -> tuple[int, Stateid] | None:
 
 
 RESTS: dict[tuple[int, int], Callable[[Any], Any]] = {
-    (Opnum.ACCESS, Status.OK): lambda r: (r.u32(), r.u32()),
-    (Opnum.CLOSE, Status.OK): read_stateid,
-    (Opnum.COMMIT, Status.OK): lambda r: r.fixed(8),
-    (Opnum.GETATTR, Status.OK): read_attributes,
-    (Opnum.GETFH, Status.OK): lambda r: r.opaque(wire.FILEHANDLE_LIMIT),
-    (Opnum.LOCK, Status.OK): read_stateid,
-    (Opnum.LOCK, Status.DENIED): read_denied,
-    (Opnum.LOCKT, Status.DENIED): read_denied,
-    (Opnum.LOCKU, Status.OK): read_stateid,
+    **{(number, Status.OK): read for number, read in wire.RESULTS.items() if number in wire.ARGUMENTS},
+    **wire.OTHER_RESULTS,
     (Opnum.OPEN, Status.OK): read_open_answer,
-    (Opnum.OPEN_CONFIRM, Status.OK): read_stateid,
-    (Opnum.OPEN_DOWNGRADE, Status.OK): read_stateid,
-    # The end of the file, and as many bytes as there are; and how many were written, how safe they are by
-    # stable_how4, and the verifier.
-    (Opnum.READ, Status.OK): lambda r: (r.one_of(2), r.file_bytes()),
+    # How many bytes were written, how safe they are by stable_how4, and the verifier.
     (Opnum.WRITE, Status.OK): lambda r: (r.u32(), r.one_of(3), r.u32(), r.u32()),
-    (Opnum.READDIR, Status.OK): read_directory,
     **{(Opnum.SETATTR, status): lambda r: r.bitmap() for status in Status},
-    (Opnum.SETCLIENTID, Status.OK): lambda r: (r.u32(), r.u32(), r.u64()),
-    (Opnum.SETCLIENTID, Status.CLID_INUSE): lambda r: (r.opaque(), r.opaque()),
 }
 
 
@@ -218,17 +151,9 @@ def answer_bytes(answer: Answer) -> bytes:
     return u32(answer.number, answer.status) + answer.rest
 
 
-# The entries by their kinds. `nodes` is how many there are, with the root; which operations make an entry hangs on the
-# profile.
+# Calls. `nodes` is how many there are, with the root; which operations make an entry hangs on the profile.
 
-def read_moment(reader: StrictReader) -> int:
-    moment = reader.u64()
-    if moment >= MOMENT_LIMIT:
-        raise NotJournal("a moment of 2^40 - 2 or more")
-    return moment
-
-
-def read_principal(reader: StrictReader) -> tuple[int, int]:
+def read_principal(reader: StrictReader) -> Principal:
     flavor, uid = reader.one_of(2), reader.u32()
     if flavor == wire.AUTH_NONE and uid != 0:
         raise NotJournal("a uid behind AUTH_NONE")
@@ -251,7 +176,7 @@ def read_operation(reader: StrictReader, profile: str) -> tuple[Opnum, Any]:
     return Opnum(number), wire.ARGUMENTS[number](reader)
 
 
-def read_call(reader: StrictReader, tree: Any) -> Call:
+def read_call(reader: StrictReader, tree: Tree) -> Call:
     moment, principal = read_moment(reader), read_principal(reader)
     filehandle, operation = read_filehandle(reader, len(tree.nodes)), read_operation(reader, tree.policy.profile)
     return Call(moment, principal, filehandle, *operation, read_answer(reader))
@@ -264,32 +189,19 @@ def request_bytes(call: Call) -> bytes:
     return head + u32(call.opnum) + ARGUMENT_BYTES[call.opnum](call.arguments)
 
 
-CALL, EXPIRE, REVOKE, PATH, FORGET = 1, 2, 3, 4, 5
-
-
-def read_entry(reader: StrictReader, tree: Any, has_forgets: bool = True) -> Any:
+def read_entry(reader: StrictReader, tree: Tree, has_forgets: bool = True) -> Entry:
     """The next entry of a journal over this tree. Journals of an earlier version have no Forget."""
     kind = reader.u32()
     if kind == CALL:
         return read_call(reader, tree)
-    if kind == EXPIRE:
-        return Expire(reader.u32(), read_moment(reader), read_moment(reader))
-    if kind == REVOKE:
-        return Revoke(reader.u32(), read_moment(reader))
-    if kind == PATH:
-        return Path(reader.u32(), reader.one_of(2))
-    if kind == FORGET and has_forgets:
-        return Forget(read_open_owner(reader), read_moment(reader))
-    raise NotJournal("no kind of entry")
+    if kind not in ENTRIES or kind == FORGET and not has_forgets:
+        raise NotJournal("no kind of entry")
+    entry: Entry = ENTRIES[kind].read(reader)
+    return entry
 
 
-def entry_bytes(entry: Any) -> bytes:
+def entry_bytes(entry: Entry) -> bytes:
     if isinstance(entry, Call):
         return u32(CALL) + request_bytes(entry) + answer_bytes(entry.answer)
-    if isinstance(entry, Expire):
-        return u32(EXPIRE, entry.client) + u64(entry.seen) + u64(entry.now)
-    if isinstance(entry, Revoke):
-        return u32(REVOKE, entry.state) + u64(entry.now)
-    if isinstance(entry, Forget):
-        return u32(FORGET) + owner_bytes(entry.owner) + u64(entry.now)
-    return u32(PATH, entry.client, entry.is_up)
+    number = NUMBERS[type(entry)]
+    return u32(number) + ENTRIES[number].write(entry)

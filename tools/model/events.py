@@ -1,9 +1,10 @@
 """What entries of a journal do about delegations: which they give, and which of them end; and the marks of clients'
 paths, by which clients get any. What stands in the way of an operation is told as its reason, by `reasons.py`."""
 from collections.abc import Iterator
-from typing import Any
 
-from model.entries import Path, Revoke, delegation_given
+from model.entries import Entry, Path, Revoke, delegation_given
+from model.history import History
+from model.states import Delegation
 from model.words import client_words, place_words, purpose_of
 
 
@@ -11,18 +12,19 @@ class Events:
     """What an entry does to the state of a server that follows a journal. `begin` is called before it does, and `texts`
     afterwards."""
 
-    def __init__(self, server: Any) -> None:
+    def __init__(self, server: History) -> None:
         self.server = server
-        self.held: list[Any] = []
-        self.path: Any = None
+        self.held: list[Delegation] = []
+        # What the path of a Path's client was, and which entry marked it so.
+        self.path: tuple[str | None, int] | None = None
 
-    def begin(self, entry: Any) -> None:
+    def begin(self, entry: Entry) -> None:
         self.held = list(self.server.delegations)
         if isinstance(entry, Path):
-            self.path = self.server.record_where(True, lambda it: it.number == entry.client)
-            self.path = self.path and (self.path.path, self.server.path_marks[entry.client])
+            is_live, client = self.server.is_live(entry.client), entry.client
+            self.path = (self.server.live_record(client).path, self.server.path_marks[client]) if is_live else None
 
-    def texts(self, number: int, entry: Any) -> Iterator[str]:
+    def texts(self, number: int, entry: Entry) -> Iterator[str]:
         """Of the entry of this number."""
         given = delegation_given(entry)
         if given is not None:
@@ -30,22 +32,23 @@ class Events:
         for found in self.held:
             if not any(it is found for it in self.server.delegations):
                 yield self.end_words(found, entry)
-        if isinstance(entry, Path):
+        if isinstance(entry, Path) and self.path is not None:
             was, since = self.path
             yield f"the path of {client_words(entry.client)} was {was} since {self.server.entry_words(since)}"
 
-    def delegation_words(self, found: Any) -> str:
+    def delegation_words(self, found: Delegation) -> str:
         place = place_words(found.file, self.server.tree)
         return f"state {found.number}, a delegation of {place} for {purpose_of(found.kind)}"
 
     def gift_words(self, number: int, state: int) -> str:
         found, begun = self.server.given[state], self.server.begun[state]
+        assert isinstance(found, Delegation)
         client, delegation = client_words(found.client), self.delegation_words(found)
         if begun == number:
             return f"{client} gets {delegation}"
         return f"{client} is told again of {delegation}, which entry {begun} gave it"
 
-    def end_words(self, found: Any, entry: Any) -> str:
+    def end_words(self, found: Delegation, entry: Entry) -> str:
         """How a delegation ends by the entry."""
         client, delegation = client_words(found.client), self.delegation_words(found)
         ended = f"{client} gives back {delegation}"

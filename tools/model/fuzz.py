@@ -25,12 +25,14 @@ from collections import Counter
 sys.dont_write_bytecode = True
 from packages import make_known
 make_known()
+from model.attributes import FIRST_COOKIE
 from model.check_rows import outcome_of
 from model.entries import Expire, Forget as Forgetting, Path, Revoke as Revocation
 from model.journal import Recorder, journal_bytes
+from model.operations.readdir import LISTING_ENDS
 from model.pages import CASES, CUTS, LENGTHS, PAGE, Pages
 from model.ranges import ALL_ONES, LAST_BYTE
-from model.server import CLIENTS_LIMIT, FIRST_COOKIE, LISTING_ENDS
+from model.server import CLIENTS_LIMIT
 from model.states import Delegation, LockState, Refusal, SLOTS, handle_of, next_sequence_id
 from model.tree import CLIENTS, CLOSE_LOCKS, DEFAULT, PROFILES, TEXT_LIMIT, Tree
 from nfs4 import rows, wire
@@ -78,9 +80,17 @@ class Counting(Recorder):
         self.counts, self.introduced, self.forgotten = Counter(), [], {}
         self.pages = Pages(self.counts)
 
-    def setclientid(self, arguments, principal):
-        rest = super().setclientid(arguments, principal)
-        self.introduced.append(self.records[-1])
+    def effect(self, opnum, arguments, subject):
+        size = len(self.text_of(subject)) if opnum == Opnum.WRITE and subject is not None else 0
+        rest = super().effect(opnum, arguments, subject)
+        if opnum == Opnum.SETCLIENTID:
+            self.introduced.append(self.records[-1])
+        elif opnum == Opnum.READ:
+            begin, count = arguments.offset, int.from_bytes(rest[4:8], "big")
+            self.pages.read(subject, begin, begin + count)
+        elif opnum == Opnum.WRITE:
+            begin = arguments.offset
+            self.pages.write(subject, size, begin, begin + len(arguments.data))
         return rest
 
     def new_number(self, replaced):
@@ -108,19 +118,6 @@ class Counting(Recorder):
     def delegate(self, client, file, kind):
         self.counts.update([LENT[kind]] if kind in LENT else [])
         return super().delegate(client, file, kind)
-
-    def read(self, arguments, file):
-        rest = super().read(arguments, file)
-        begin, count = arguments.offset, int.from_bytes(rest[4:8], "big")
-        self.pages.read(file, begin, begin + count)
-        return rest
-
-    def write(self, arguments, file):
-        before = self.texts.get(file)
-        rest = super().write(arguments, file)
-        begin, size = arguments.offset, len(self.tree.nodes[file].text if before is None else before)
-        self.pages.write(file, size, begin, begin + len(arguments.data))
-        return rest
 
     def resize(self, file, size):
         before = len(self.text_of(file))

@@ -1,27 +1,28 @@
 #!/usr/bin/env python3
-"""journal.py FILE: audits the file of a journal. It says `lawful: K entries`, or with status 1 that the file is no
+"""Audits the file of a journal. It says `lawful: K entries`, or with status 1 that the file is no
 journal, or at which entry an answer is wrong.
 
 A journal has what a server began with, and an entry for each operation on its state and each other change of it:
 docs/JOURNAL.md has the file's layout. It is lawful where each entry may come next, by the model's rules, after those
 before it. `Recorder` is a model that keeps its journal. `Growing` reads a file that is no whole journal yet."""
+import argparse
 import sys
-from collections import namedtuple
 from collections.abc import Callable, Iterator
 from dataclasses import dataclass, field
-from typing import Any
+from typing import Any, NamedTuple
 
 sys.dont_write_bytecode = True
 from packages import make_known
 make_known()
 
-from model.entries import (Answer, Call, EndsEarly, Expire, Forget, NotJournal, Path, Revoke, StrictReader, entry_bytes,
-                           read_entry)
-from model.server import JOURNAL_LIMIT, Server
+from model.entries import (Answer, Call, EndsEarly, Entry, Expire, Forget, NotJournal, Path, Revoke, StrictReader,
+                           entry_bytes, read_entry)
+from model.server import Server
+from model.state import JOURNAL_LIMIT
 from model.states import Owner, Result, Unchanged
 from model.tree import (CALLBACKS, CLIENTS, CLOSE_LOCKS, DELEGATIONS, NAME_LIMIT, Node, PLAIN, Policy, Refused,
-                        TEXT_LIMIT, tree_of)
-from nfs4.wire import Opnum, Status, opaque, u32
+                        TEXT_LIMIT, Tree, tree_of)
+from nfs4.wire import OpenOwner, Opnum, Principal, Status, opaque, u32
 
 # How a file begins, by the profile. One of the earlier edition, which knew one profile, has no word for what CLOSE
 # does, which was to free, and no Forget.
@@ -30,8 +31,15 @@ PROFILE_OF = {HEAD: PLAIN, HEAD_OF_CLIENTS: CLIENTS, EARLIER: PLAIN}
 HEAD_OF = {PLAIN: HEAD, CLIENTS: HEAD_OF_CLIENTS}
 LEASE_LIMIT = 86400
 
-# A journal; and how its file begins, which it has again when it is written.
-Journal = namedtuple("Journal", "epoch lease tree entries head", defaults=[HEAD])
+
+
+class Journal(NamedTuple):
+    epoch: int
+    lease: int
+    tree: Tree
+    entries: list[Any]
+    # How its file begins, which it has again when it is written.
+    head: bytes = HEAD
 
 
 class WrongAnswer(Exception):
@@ -43,7 +51,7 @@ class Recorder(Server):
     """A server that keeps its journal."""
     recorded: list[Any] = field(default_factory=list)
 
-    def apply(self, opnum: Opnum, arguments: Any, filehandle: int | None, principal: tuple[int, int],
+    def apply(self, opnum: Opnum, arguments: Any, filehandle: int | None, principal: Principal,
               is_refused: bool = False) -> Result:
         result = super().apply(opnum, arguments, filehandle, principal, is_refused)
         if result.status != Status.RESOURCE:
@@ -69,6 +77,7 @@ class Recorder(Server):
 
     def forget_owner(self, owner: Owner, now: int) -> int:
         entry = super().forget_owner(owner, now)
+        assert isinstance(owner.name, OpenOwner)
         self.recorded.append(Forget(owner.name, now))
         return entry
 
@@ -110,7 +119,7 @@ def read_whole(reader: StrictReader) -> Journal:
     return journal._replace(entries=[read_next(reader, journal) for _ in range(count)])
 
 
-def read_next(reader: StrictReader, journal: Journal) -> Call | Expire | Path:
+def read_next(reader: StrictReader, journal: Journal) -> Entry:
     """The next entry of a journal with this head."""
     return read_entry(reader, journal.tree, journal.head != EARLIER)
 
@@ -152,10 +161,10 @@ class Growing:
     rest: bytes = b""
     fault: str | None = None
 
-    def take(self, data: bytes) -> list[Any]:
+    def take(self, data: bytes) -> list[Entry]:
         """The entries that are whole now that these bytes have come; or NotJournal where no journal begins so."""
         reader, whole = StrictReader(self.rest + data), 0
-        taken: list[Any] = []
+        taken: list[Entry] = []
         try:
             if self.head is None:
                 self.head, self.count = read_head(reader)
@@ -195,7 +204,7 @@ class Growing:
 
 def audit(journal: Journal, limit: int = JOURNAL_LIMIT) -> Recorder:
     """The server that the journal leads to; or WrongAnswer."""
-    *_, server = states(journal, limit)
+    server: Recorder = [*states(journal, limit)][-1]
     return server
 
 
@@ -280,9 +289,11 @@ def fault_of(ended: WrongAnswer) -> str:
     return f"fault: wrong answer at entry {ended.args[0]}"
 
 
-def main(path: str) -> int:
+def main() -> int:
+    parser = argparse.ArgumentParser(description=__doc__, formatter_class=argparse.RawDescriptionHelpFormatter)
+    parser.add_argument("journal", metavar="FILE")
     try:
-        with open(path, "rb") as source:
+        with open(parser.parse_args().journal, "rb") as source:
             data = source.read()
     except OSError:
         sys.exit("fault: file not read")
@@ -292,6 +303,4 @@ def main(path: str) -> int:
 
 
 if __name__ == "__main__":
-    if len(sys.argv) != 2:
-        sys.exit(__doc__)
-    sys.exit(main(sys.argv[1]))
+    sys.exit(main())

@@ -1,11 +1,11 @@
 """A journal's file as the tools that show it read it: whole, or as far as it goes."""
 import sys
 
-from model.entries import Call, Expire, NotJournal
+from model.entries import Entry, NotJournal
 from model.journal import Growing
 
 
-def read_file(path: str) -> tuple[Growing, list[Call | Expire]]:
+def read_file(path: str) -> tuple[Growing, list[Entry]]:
     """The file as far as it can be read, and its whole entries; or the end of the program where it is no journal and no
     beginning of one."""
     growing = Growing()

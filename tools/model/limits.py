@@ -16,7 +16,7 @@ from packages import make_known
 make_known()
 
 from model.pages import PAGE
-from model.server import JOURNAL_LIMIT, OWNERS_LIMIT, STATES_LIMIT
+from model.state import JOURNAL_LIMIT, OWNERS_LIMIT, STATES_LIMIT
 from model.states import SLOTS, handle_of
 from model.tree import TEXT_LIMIT
 from nfs4 import messages, wire

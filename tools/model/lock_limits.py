@@ -12,7 +12,7 @@ make_known()
 
 from model.limits import FILES, closing, compare, confirming, introduce, opening, result
 from model.ranges import ALL_ONES, RUNS_LIMIT
-from model.server import OWNERS_LIMIT, STATES_LIMIT
+from model.state import OWNERS_LIMIT, STATES_LIMIT
 from model.states import handle_of
 from nfs4.wire import BOTH, Opnum, READ, READ_LT, Status, WRITE_LT, opaque, u32, u64
 

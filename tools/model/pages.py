@@ -1,7 +1,9 @@
 """READs and WRITEs by pages: pieces of 4,096 bytes, by which a server may keep its files. The model has none. These are
 what random calls choose to meet the ends of pages, and the count of how often they come to each case that a server with
 pages may have."""
+from collections import Counter
 from typing import Any
+
 PAGE = 4096
 # The fewest bytes of an answer that may be a part of a page itself.
 PART = 2048
@@ -24,22 +26,22 @@ CUT_HAD, LONGER_HAD = "last pages cut that something else has", "last pages long
 CUTS = [CUT_WITHIN, CUT_AT, CUT_ALL, LONGER_WITHIN, LONGER_BY_PAGES, CUT_HAD, LONGER_HAD]
 
 
-def pages_of(begin: Any, end: Any) -> Any:
+def pages_of(begin: int, end: int) -> range:
     """The numbers of the pages that have these bytes, of which there are some."""
     return range(begin // PAGE, (end - 1) // PAGE + 1)
 
 
-def way_of(begin: Any, end: Any) -> Any:
+def way_of(begin: int, end: int) -> str:
     if begin % PAGE == end % PAGE == 0:
         return WHOLE
     return {1: WITHIN, 2: ACROSS_TWO}.get(len(pages_of(begin, end)), ACROSS_MANY)
 
 
-def gap_of(size: Any, begin: Any) -> Any:
+def gap_of(size: int, begin: int) -> str:
     return GAPS[min(max(begin // PAGE - -(-size // PAGE), 0), 2)]
 
 
-def cut_of(size: Any) -> Any:
+def cut_of(size: int) -> str:
     """How a file is cut that has so many bytes then."""
     if size == 0:
         return CUT_ALL
@@ -49,19 +51,19 @@ def cut_of(size: Any) -> Any:
 class Pages:
     """Counts the cases that the READs, WRITEs and SETATTRs of a run come to."""
 
-    def __init__(self, counts: Any) -> None:
+    def __init__(self, counts: Counter[Any]) -> None:
         # By file and number: what has bytes of a page that wasn't written since.
         self.counts = counts
-        self.had: dict[Any, Any] = {}
+        self.had: dict[tuple[int, int], str] = {}
 
-    def read(self, file: int, begin: Any, end: Any) -> None:
+    def read(self, file: int, begin: int, end: int) -> None:
         """These bytes are answered."""
         if begin < end:
             self.counts[f"READs {way_of(begin, end)}"] += 1
         if end - begin >= PART and len(pages_of(begin, end)) == 1:
             self.had[file, begin // PAGE] = ANSWERED
 
-    def resize(self, file: int, before: Any, size: Any) -> None:
+    def resize(self, file: int, before: int, size: int) -> None:
         """A file that had so many bytes has this size. Its page that is cut, or the last one that it had, may be in a
         part what something else has; those behind the end aren't there any more."""
         last = min(before, size)
@@ -74,7 +76,7 @@ class Pages:
             self.counts.update([LONGER_WITHIN if is_within else LONGER_BY_PAGES] + [LONGER_HAD] * has_last)
             self.had.pop((file, before // PAGE), None)
 
-    def write(self, file: int, size: Any, begin: Any, end: Any) -> None:
+    def write(self, file: int, size: int, begin: int, end: int) -> None:
         """These bytes are written into a file of this size."""
         if begin == end:
             return

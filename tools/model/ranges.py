@@ -4,8 +4,9 @@ Bytes are numbered from 0 to 2^64 - 1. What is held is kept as steps: the bytes 
 mode from there on, and no two neighbours of one mode. `check_ranges.py` compares this with plain lists of bytes.
 """
 from bisect import bisect_right
-from collections import namedtuple
-from typing import Any
+from typing import Any, NamedTuple
+
+from nfs4.wire import LockOwner
 
 LAST_BYTE = 2**64 - 1
 ALL_ONES = 2**64 - 1
@@ -14,9 +15,9 @@ RUNS_LIMIT = 1024
 READ_MODE, WRITE_MODE = 1, 2
 
 # A run is the longest stretch of bytes of one mode: its first and its last byte, and the mode.
-Run = namedtuple("Run", "first last mode")
+Run = NamedTuple("Run", [("first", int), ("last", int), ("mode", int | None)])
 # Of a conflict the owner is reported, and its run.
-Denial = namedtuple("Denial", "owner run")
+Denial = NamedTuple("Denial", [("owner", LockOwner), ("run", Run)])
 
 
 def range_of(offset: int, length: int) -> tuple[int, int] | None:
@@ -68,7 +69,7 @@ class Ranges:
         kept = [step for place, step in enumerate(steps) if place == 0 or steps[place - 1][1] != step[1]]
         return Ranges(*zip(*kept))
 
-    def held(self) -> Any:
+    def held(self) -> list[Run]:
         """The runs that are held, in order."""
         return [self.run_at(first) for first, mode in zip(self.starts, self.modes) if mode is not None]
 

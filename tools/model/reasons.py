@@ -4,32 +4,45 @@ heading of docs/RULES.md that says so.
 `Causes` goes through the rules of an operation in their order, as the model does, and says of each that refuses the
 call what it found. The first one is the reason. `check_reasons.py` sees that each refusal has one, of the status that
 was answered, and that no other call has any."""
-from collections import namedtuple
-from collections.abc import Callable, Iterator
-from typing import Any
+from collections.abc import Callable, Iterable, Iterator, Sequence
+from typing import Any, NamedTuple, TypeVar
 
-from model.attributes import FIXED, NAMES, SET_ONLY, SIZE, WRITABLE, numbers_of
+from model.attributes import FIRST_COOKIE, FIXED, NAMES, SET_ONLY, SIZE, WRITABLE, numbers_of
 from model.delegations import bars
-from model.entries import Call, Expire, Revoke
+from model.entries import Call, Entry, Expire, Revoke
 from model.events import Events
-from model.history import History
+from model.history import History, Introduction
 from model.journal import Journal, states
-from model.ranges import LAST_BYTE, READ_MODE, denial, range_of
-from model.server import (FIRST_COOKIE, JOURNAL_LIMIT, LISTING_ENDS, LISTING_LIMIT, NAME_LIMIT, NO_VERIFIER, OF_NODE,
-                          SEQUENCED, room_of_entries)
-from model.states import (Delegation, LockState, OpenState, Owner, Refusal, Request, closed_by, conflict,
-                          is_lawful_downgrade, is_special, mode_of, next_sequence_id, replay, sequence_id_of,
-                          stateid_of)
-from model.tree import TEXT_LIMIT
+from model.operations.close import holding
+from model.operations.readdir import LISTING_ENDS, LISTING_LIMIT, NO_VERIFIER, room_of_entries
+from model.ranges import LAST_BYTE, READ_MODE, Run, denial, range_of
+from model.server import Subject, OPERATIONS
+from model.state import JOURNAL_LIMIT
+from model.states import (ClientRecord, Delegation, KeptState, LockState, OpenState, Owner, OwnerName, Refusal, Request,
+                          closed_by, conflict, is_lawful_downgrade, is_special, mode_of, next_sequence_id, replay,
+                          sequence_id_of, stateid_of, stateid_of_locker)
+from model.tree import NAME_LIMIT, TEXT_LIMIT
 from model.words import client_words, name_words, owner_words, place_words, principal_words, purpose_of
-from nfs4.wire import (BOTH, CLAIM_DELEGATE_CUR, CLAIM_DELEGATE_PREV, CLAIM_PREVIOUS, Delegreturn, EXCLUSIVE4, GUARDED4,
-                       NewLocker, OPEN4_CREATE, OPEN_DELEGATE_WRITE, Open, OpenConfirm, Opnum, READ, Setclientid,
-                       SetclientidConfirm, Stateid, Status, WRITE)
+from nfs4.wire import (BOTH, CLAIM_DELEGATE_CUR, CLAIM_DELEGATE_PREV, CLAIM_PREVIOUS, Close, Delegreturn, EXCLUSIVE4,
+                       GUARDED4, Getattr, Lock, LockOwner, Lockt, Locku, NewLocker, OPEN4_CREATE, OPEN_DELEGATE_WRITE,
+                       Open, OpenConfirm, OpenDowngrade, Opnum, Principal, READ, Read, Readdir, ReleaseLockowner,
+                       Setattr, Setclientid, SetclientidConfirm, Stateid, Status, WRITE, Write)
 
-# What is answered, what stood in the way, and the heading of the rules; and where a kept answer is given, which.
-Reason = namedtuple("Reason", "status text heading again", defaults=[None])
 # A kept answer that is given again: the owner that it is kept for, and its entry.
-Again = namedtuple("Again", "owner entry")
+Again = NamedTuple("Again", [("owner", OwnerName), ("entry", int)])
+
+
+class Reason(NamedTuple):
+    """What is answered, what stood in the way, and the heading of the rules; and where a kept answer is given again,
+    which."""
+    status: Status
+    text: str
+    heading: str
+    again: Again | None = None
+
+
+Reasons = Iterator[Reason]
+S = TypeVar("S", OpenState, LockState, Delegation)
 
 OWNERS, IDLE, STATEIDS, CLIENT_IDS, SHARE, RANGES, DELEGATIONS = (
     "Owners and sequenced operations", "Idle owners", "Stateids", "Client ids", "Share reservations",
@@ -43,7 +56,7 @@ NAMED = 3
 
 # An entry with its number; if it is a call the reason of its answer, or None, where that is OK and no kept answer; and
 # texts of what it does about delegations.
-Told = namedtuple("Told", "number entry reason events")
+Told = NamedTuple("Told", [("number", int), ("entry", Entry), ("reason", Reason | None), ("events", list[str])])
 
 
 def reasons(journal: Journal, limit: int = JOURNAL_LIMIT) -> Iterator[Told]:
@@ -60,18 +73,18 @@ def reasons(journal: Journal, limit: int = JOURNAL_LIMIT) -> Iterator[Told]:
 
 # Words.
 
-def again_words(call: Any, again: Any) -> Any:
+def again_words(call: Call, again: Again) -> str:
     """A call that has a kept answer: its owner, and the entry whose answer that is."""
     return f"{call.opnum.name} by {owner_words(again.owner)} is the request of entry {again.entry} again"
 
 
-def attribute_words(numbers: Any) -> Any:
+def attribute_words(numbers: Iterable[int]) -> str:
     """Attributes by their numbers and names."""
     words = [f"{number} ({NAMES[number]})" if number in NAMES else f"{number}" for number in sorted(numbers)]
     return f"attribute {listed(words)}" if words else "no attribute"
 
 
-def run_words(run: Any, place: Any) -> Any:
+def run_words(run: Run, place: str) -> str:
     """The bytes of a file that are held, and in which way."""
     held = f"the bytes from {run.first} on" if run.last == LAST_BYTE else f"bytes {run.first} to {run.last}"
     return f"{held} of {place} for {'reading' if run.mode == READ_MODE else 'writing'}"
@@ -89,7 +102,7 @@ class Causes:
     def __init__(self, server: History) -> None:
         self.server = server
         # The reasons of refusals, by their entries.
-        self.given: dict[int, Any] = {}
+        self.given: dict[int, Reason] = {}
 
     def reason_of(self, call: Call) -> Reason | None:
         """The reason of the call's answer, or None where nothing stands in its way."""
@@ -98,46 +111,60 @@ class Causes:
             self.given[self.server.entries] = reason
         return reason
 
-    def of_call(self, call: Call) -> Iterator[Any]:
-        if call.opnum in SEQUENCED:
+    def of_call(self, call: Call) -> Reasons:
+        kind = OPERATIONS[call.opnum].subject
+        if kind == Subject.REQUEST:
             return self.of_sequenced(Request(call.opnum, call.arguments, call.filehandle))
-        if call.opnum in OF_NODE:
-            return self.rule_of(call.opnum)(call.arguments, call.filehandle)
-        return self.rule_of(call.opnum)(call.arguments, call.principal)
+        return self.rule_of(call.opnum)(call.arguments, call.filehandle if kind == Subject.NODE else call.principal)
 
-    def rule_of(self, opnum: Opnum) -> Callable[..., Any]:
-        return getattr(self, f"of_{opnum.name.lower()}")
+    def rule_of(self, opnum: Opnum) -> Callable[..., Reasons]:
+        rule: Callable[..., Reasons] = getattr(self, f"of_{opnum.name.lower()}")
+        return rule
 
     # Words that need the state.
 
     def entry_words(self, number: int) -> str:
         return self.server.entry_words(number)
 
-    def end_words(self, number: int) -> Any:
+    def end_words(self, number: int) -> str:
         """The entry by which a state ended, while its client stayed."""
         entry = self.server.recorded[number]
         if isinstance(entry, Revoke):
             return f"entry {number}, as it wasn't given back in time"
-        return self.entry_words(number) + (", which started its owner anew" if entry.opnum == Opnum.OPEN else "")
+        is_open = isinstance(entry, Call) and entry.opnum == Opnum.OPEN
+        return self.entry_words(number) + (", which started its owner anew" if is_open else "")
 
     def place_words(self, node: int) -> str:
         return place_words(node, self.server.tree)
 
-    def state_words(self, state: Any) -> str:
+    def state_words(self, state: KeptState) -> str:
         place = self.place_words(state.file)
         if isinstance(state, Delegation):
             lent = f"a delegation of {place} for {purpose_of(state.kind)} to {client_words(state.client)}"
             return f"state {state.number}, {lent}"
         return f"state {state.number}, {KINDS[type(state)]} of {place} by {owner_words(state.owner)}"
 
+    def state_of(self, stateid: Stateid, kind: type[S]) -> S:
+        """The state of this kind that a stateid names with which nothing is wrong."""
+        found = self.server.looked_up(stateid)
+        assert isinstance(found, kind)
+        return found
+
     # What several operations have in common.
 
-    def of_filehandle(self, filehandle: Any) -> Iterator[Any]:
+    def of_filehandle(self, filehandle: int | None) -> Reasons:
         if filehandle is None:
             text = "no filehandle is current: no operation before it in its COMPOUND made one so"
             yield Reason(Status.NOFILEHANDLE, text, "COMPOUND")
 
-    def of_clientid(self, epoch: int, number: int) -> Iterator[Any]:
+    def of_node(self, node: int, status: Status, heading: str) -> Reasons:
+        """That a file is wanted, where it would be ISDIR, or a directory, where it would be NOTDIR."""
+        is_file = status == Status.ISDIR
+        if self.server.tree.is_file(node) != is_file:
+            text = f"the current filehandle is that of {self.place_words(node)}, and no "
+            yield Reason(status, text + ("file's" if is_file else "directory's"), heading)
+
+    def of_clientid(self, epoch: int, number: int) -> Reasons:
         """What is wrong with a clientid, if its client isn't live."""
         text = self.unknown_client(epoch, number)
         if text is None and not self.server.is_live(number):
@@ -145,7 +172,7 @@ class Causes:
         if text is not None:
             yield Reason(Status.STALE_CLIENTID, text, CLIENT_IDS)
 
-    def unknown_client(self, epoch: int, number: int) -> Any:
+    def unknown_client(self, epoch: int, number: int) -> str | None:
         """Why a clientid isn't one that was given, or None."""
         if epoch != self.server.epoch:
             return f"the clientid is of epoch {epoch}, and this server's is {self.server.epoch}"
@@ -159,6 +186,7 @@ class Causes:
             entry = server.recorded[removed]
             if isinstance(entry, Expire):
                 return f"{client} was removed by entry {removed}, as its lease was over"
+            assert isinstance(entry, Call)
             other = client_words(entry.arguments.client)
             return f"{client} was removed by {self.entry_words(removed)}, as {other} took its place"
         given = next(it for it in server.introductions.values() if it.record.number == number)
@@ -170,11 +198,11 @@ class Causes:
         last = self.last_introduction(given.record.id)
         return f"{text}, and {self.entry_words(last.entry)} gave its id {client_words(last.record.number)}"
 
-    def last_introduction(self, client_id: Any) -> Any:
+    def last_introduction(self, client_id: bytes) -> Introduction:
         return max((it for it in self.server.introductions.values() if it.record.id == client_id),
                    key=lambda it: it.entry)
 
-    def of_stateid_client(self, stateid: Stateid) -> Iterator[Reason | None]:
+    def of_stateid_client(self, stateid: Stateid) -> Reasons:
         """What is wrong with a stateid up to its client."""
         server = self.server
         if is_special(stateid):
@@ -189,7 +217,7 @@ class Causes:
         if not server.is_live(stateid.client):
             yield Reason(Status.EXPIRED, self.lost_client(stateid.client), STATEIDS)
 
-    def missing_state(self, stateid: Any) -> Any:
+    def missing_state(self, stateid: Stateid) -> Reason:
         """A live client has no state with the number of its stateid."""
         state = self.server.given.get(stateid.number)
         if state is None:
@@ -201,13 +229,13 @@ class Causes:
             text = f"{self.state_words(state)}, was ended by {self.end_words(self.server.ended[state.number])}"
         return Reason(Status.BAD_STATEID, text, STATEIDS)
 
-    def of_stateid(self, stateid: Stateid, kind: Any, file: Any, of_unconfirmed: bool = False) -> Iterator[Any]:
+    def of_stateid(self, stateid: Stateid, kind: Any, file: int, of_unconfirmed: bool = False) -> Reasons:
         """What is wrong with a stateid that is to name a state of this kind, or of one of these, on the file, from its
         number on."""
         yield from self.of_state(stateid, kind, file)
         found, server = self.server.looked_up(stateid), self.server
-        is_open = isinstance(found, OpenState)
-        if is_open and not of_unconfirmed and not server.open_owners[found.owner].is_confirmed:
+        assert found is not None
+        if isinstance(found, OpenState) and not of_unconfirmed and not server.open_owners[found.owner].is_confirmed:
             text = (f"{owner_words(found.owner)} isn't confirmed: it has opened the file in entry "
                     f"{server.begun[found.number]}, and no OPEN_CONFIRM has followed")
             yield Reason(Status.BAD_STATEID, text, STATEIDS)
@@ -217,12 +245,13 @@ class Causes:
         if stateid.seqid > found.seqid:
             yield Reason(Status.BAD_STATEID, f"{stands}, and the stateid has the later {stateid.seqid}", STATEIDS)
 
-    def of_state(self, stateid: Stateid, kind: Any, file: Any,
-                 naming: str = "the current filehandle that of") -> Iterator[Any]:
+    def of_state(self, stateid: Stateid, kind: Any, file: int,
+                 naming: str = "the current filehandle that of") -> Reasons:
         """The same, but for its seqid."""
         found = self.server.looked_up(stateid)
         if found is None:
             yield self.missing_state(stateid)
+            return
         if not isinstance(found, kind):
             text = f"the stateid is that of {self.state_words(found)}; {KINDS[kind]} is wanted here"
             yield Reason(Status.BAD_STATEID, text, STATEIDS)
@@ -230,32 +259,32 @@ class Causes:
             text = f"the stateid is that of {self.state_words(found)}, and {naming} {self.place_words(file)}"
             yield Reason(Status.BAD_STATEID, text, STATEIDS)
 
-    def of_range(self, arguments: Any) -> Iterator[Any]:
+    def of_range(self, arguments: Lock | Lockt | Locku) -> Reasons:
         if range_of(arguments.offset, arguments.length) is None:
             text = "a length of 0 names no bytes"
             if arguments.length > 0:
                 text = f"offset {arguments.offset} and length {arguments.length} add up to more than 2^64 - 1"
             yield Reason(Status.INVAL, text, RANGES)
 
-    def of_share(self, arguments: Open, heading: str) -> Iterator[Any]:
+    def of_share(self, arguments: Open | OpenDowngrade, heading: str) -> Reasons:
         if not READ <= arguments.access <= BOTH:
             yield Reason(Status.INVAL, f"the access is {arguments.access}, and has to be 1 to 3", heading)
         if arguments.deny > BOTH:
             yield Reason(Status.INVAL, f"the deny is {arguments.deny}, and 3 is the most", heading)
 
-    def of_conflict(self, arguments: Any, owner: Any, file: Any) -> Iterator[Any]:
+    def of_conflict(self, arguments: Lock | Lockt, owner: LockOwner, file: int) -> Reasons:
         """The lock of another owner that is in the way, as it is reported."""
-        asked: Any = range_of(arguments.offset, arguments.length)
-        mode = mode_of(arguments.locktype)
+        asked, mode = range_of(arguments.offset, arguments.length), mode_of(arguments.locktype)
+        assert asked is not None
         others = [it for it in self.server.lock_states if it.file == file and it.owner != owner]
-        found = denial([(it.owner, it.ranges) for it in others], asked[0], asked[1], mode)
+        found = denial([(it.owner, it.ranges) for it in others], *asked, mode)
         if found is not None:
             state = next(it for it in others if it.owner == found.owner)
             yield Reason(Status.DENIED, self.holding_words(state, found.run), RANGES)
 
     # Operations that are requests of an owner.
 
-    def of_sequenced(self, request: Request) -> Iterator[Reason | None]:
+    def of_sequenced(self, request: Request) -> Reasons:
         yield from self.of_filehandle(request.filehandle)
         if request.opnum == Opnum.OPEN:
             name = request.arguments.owner
@@ -267,7 +296,7 @@ class Causes:
             yield from self.of_sequence_id(owner, request)
         yield from self.rule_of(request.opnum)(request.arguments, request.filehandle)
 
-    def of_named_owner(self, stateid: Stateid) -> Iterator[Reason | None]:
+    def of_named_owner(self, stateid: Stateid) -> Reasons:
         """What is wrong with a stateid that is to name an owner."""
         yield from self.of_stateid_client(stateid)
         owners, found = self.server.open_owners.values(), self.server.looked_up(stateid)
@@ -277,7 +306,7 @@ class Causes:
             text = f"the stateid is that of {self.state_words(found)}, and a delegation has no owner"
             yield Reason(Status.BAD_STATEID, text, OWNERS)
 
-    def missing_owner(self, stateid: Any) -> Any:
+    def missing_owner(self, stateid: Stateid) -> Reason:
         """A stateid without a state, and without an owner whose kept request closed it."""
         reason, forgotten = self.missing_state(stateid), self.server.forgotten.get(stateid[1:])
         if forgotten is None:
@@ -285,12 +314,12 @@ class Causes:
         text = f"{reason.text}, and its owner was forgotten by {self.entry_words(forgotten)}"
         return reason._replace(text=text, heading=IDLE)
 
-    def due_words(self, owner: Any) -> Any:
+    def due_words(self, owner: Owner) -> str:
         kept = owner.kept
         due = f"{next_sequence_id(kept.seqid)} is the next sequence id of {owner_words(owner.name)}"
         return f"{due}, after {self.entry_words(kept.entry)}"
 
-    def of_sequence_id(self, owner: Owner, request: Request) -> Iterator[Any]:
+    def of_sequence_id(self, owner: Owner, request: Request) -> Reasons:
         kept, came = owner.kept, sequence_id_of(request)
         if replay(kept, came, request) is not None:
             before = self.given.get(kept.entry)
@@ -305,7 +334,7 @@ class Causes:
             text += f": that of the entry itself, with {other_part(kept.request, request)}"
         yield Reason(Status.BAD_SEQID, text, OWNERS)
 
-    def of_open(self, arguments: Open, directory: Any) -> Iterator[Reason | None]:
+    def of_open(self, arguments: Open, directory: int) -> Reasons:
         claim = arguments.claim
         if claim.kind == CLAIM_PREVIOUS:
             text = "it reclaims (CLAIM_PREVIOUS), and no run keeps anything of the one before"
@@ -315,52 +344,52 @@ class Causes:
         yield from self.of_share(arguments, "OPEN")
         yield from self.of_file_name(arguments, directory)
         server = self.server
-        file: Any = server.tree.child(directory, claim.name)
+        file = server.tree.child(directory, claim.name)
+        assert file is not None
         if claim.kind == CLAIM_DELEGATE_CUR:
             yield from self.of_claimed(claim.delegation, arguments.owner.client, file)
         yield from self.of_other_opens(arguments, file)
         share, others = (arguments.access, arguments.deny), server.delegations_of_others(arguments.owner.client, file)
         yield from self.of_delegations(others, share, self.barred_open_words)
 
-    def of_file_name(self, arguments: Open, directory: Any) -> Iterator[Any]:
+    def of_file_name(self, arguments: Open, directory: int) -> Reasons:
         """What is wrong with the name that an OPEN has."""
         tree, name, how = self.server.tree, arguments.claim.name, arguments.how
-        if tree.is_file(directory):
-            text = f"the current filehandle is that of {self.place_words(directory)}, and no directory's"
-            yield Reason(Status.NOTDIR, text, "OPEN")
+        yield from self.of_node(directory, Status.NOTDIR, "OPEN")
         if name == b"":
             yield Reason(Status.INVAL, "the name is empty", "OPEN")
         if len(name) > NAME_LIMIT:
             yield Reason(Status.NAMETOOLONG, f"the name has {len(name)} bytes, and {NAME_LIMIT} are the most", "OPEN")
-        node: Any = tree.child(directory, name)
+        node = tree.child(directory, name)
         creates = how.create == OPEN4_CREATE
         missing = f"{self.place_words(directory)} has no {name_words(name)}"
         if node is None and creates:
             yield Reason(Status.ACCESS, f"{missing}, and no file can be created", "OPEN")
         if node is None:
             yield Reason(Status.NOENT, missing, "OPEN")
+            return
         if not tree.is_file(node):
             yield Reason(Status.ISDIR, f"the name is that of {self.place_words(node)}", "OPEN")
         if creates and how.mode in (GUARDED4, EXCLUSIVE4):
             mode = "GUARDED4" if how.mode == GUARDED4 else "EXCLUSIVE4"
             yield Reason(Status.EXIST, f"{self.place_words(node)} is there, and {mode} creates a new one", "OPEN")
 
-    def of_claimed(self, stateid: Any, client: int, file: Any) -> Iterator[Any]:
+    def of_claimed(self, stateid: Stateid, client: int, file: int) -> Reasons:
         """What is wrong with the delegation that CLAIM_DELEGATE_CUR names."""
         for reason in self.of_claimed_stateid(stateid, client, file):
             yield reason._replace(text=f"of the delegation's stateid: {reason.text}")
 
-    def of_claimed_stateid(self, stateid: Any, client: int, file: Any) -> Iterator[Any]:
+    def of_claimed_stateid(self, stateid: Stateid, client: int, file: int) -> Reasons:
         yield from self.of_stateid_client(stateid)
         yield from self.of_state(stateid, Delegation, file, "the OPEN names")
-        found = self.server.looked_up(stateid)
+        found = self.state_of(stateid, Delegation)
         if found.client != client:
             text = f"it is that of {self.state_words(found)}, and the OPEN is one of {client_words(client)}"
             yield Reason(Status.BAD_STATEID, text, "OPEN")
         yield from self.of_stateid(stateid, Delegation, file)
 
     def of_delegations(self, held: list[Delegation], share: tuple[int, int],
-                       barred_words: Callable[..., Any]) -> Iterator[Reason | None]:
+                       barred_words: Callable[[Delegation], str]) -> Reasons:
         """Those of these delegations that are in the way of an access and a deny."""
         barring = sorted((it for it in held if bars(it.kind, share)), key=lambda it: it.number)
         if barring:
@@ -371,14 +400,14 @@ class Causes:
             return "keeps out any open of another client"
         return "keeps out opens of other clients that write or deny READ"
 
-    def barring_words(self, held: Delegation, barred_words: Callable[..., Any]) -> str:
+    def barring_words(self, held: Delegation, barred_words: Callable[[Delegation], str]) -> str:
         """How a delegation is in the way, and since when it is called back."""
         barred, since = barred_words(held), self.server.recalled.get(held.number)
         called = "is called back now" if since is None else f"was called back by {self.entry_words(since)}"
         begun = self.entry_words(self.server.begun[held.number])
         return f"{self.state_words(held)} since {begun}, {barred}, and {called}"
 
-    def of_other_opens(self, arguments: Open, file: Any) -> Iterator[Reason | None]:
+    def of_other_opens(self, arguments: Open, file: int) -> Reasons:
         """Opens of other owners that deny what the OPEN asks, or have what it is to deny."""
         share = arguments.access, arguments.deny
         others = [it for it in self.server.opens
@@ -398,36 +427,36 @@ class Causes:
         return f"{owner_words(opened.owner)} " + " and ".join(texts) + (
             "" if is_confirmed else " (it isn't confirmed, which makes no difference here)")
 
-    def of_open_confirm(self, arguments: OpenConfirm, file: Any) -> Iterator[Any]:
+    def of_open_confirm(self, arguments: OpenConfirm, file: int) -> Reasons:
         yield from self.of_stateid(arguments.stateid, OpenState, file, of_unconfirmed=True)
-        owner = self.server.looked_up(arguments.stateid).owner
+        owner = self.state_of(arguments.stateid, OpenState).owner
         if self.server.open_owners[owner].is_confirmed:
             text = f"{owner_words(owner)} is confirmed since entry {self.server.owner_confirmations[owner]}"
             yield Reason(Status.BAD_STATEID, text, "OPEN_CONFIRM")
 
-    def of_open_downgrade(self, arguments: Any, file: Any) -> Iterator[Any]:
+    def of_open_downgrade(self, arguments: OpenDowngrade, file: int) -> Reasons:
         yield from self.of_stateid(arguments.stateid, OpenState, file)
         yield from self.of_share(arguments, "OPEN_DOWNGRADE")
-        pairs = self.server.looked_up(arguments.stateid).pairs
+        pairs = self.state_of(arguments.stateid, OpenState).pairs
         if not is_lawful_downgrade(pairs, (arguments.access, arguments.deny)):
             kept = ", ".join(f"{access} and {deny}" for access, deny in sorted(pairs))
             text = (f"access {arguments.access} and deny {arguments.deny} are no union of pairs that the open has "
                     f"kept of its OPENs: {kept}")
             yield Reason(Status.INVAL, text, "OPEN_DOWNGRADE")
 
-    def of_close(self, arguments: Any, file: Any) -> Iterator[Any]:
+    def of_close(self, arguments: Close, file: int) -> Reasons:
         yield from self.of_stateid(arguments.stateid, OpenState, file)
         server = self.server
-        held = server.holding(server.looked_up(arguments.stateid))
+        held = holding(server, self.state_of(arguments.stateid, OpenState))
         if server.tree.policy.close_locks == "refuse" and held:
             yield Reason(Status.LOCKS_HELD, listed([self.held_words(it) for it in held]), "CLOSE")
 
-    def held_words(self, state: Any) -> Any:
+    def held_words(self, state: LockState) -> str:
         """The first range that a lock state holds, and how many there are."""
         runs = state.ranges.held()
         return self.holding_words(state, runs[0], f", the first of {len(runs)} ranges" * (len(runs) > 1))
 
-    def holding_words(self, state: Any, run: Any, more: str = "") -> Any:
+    def holding_words(self, state: LockState, run: Run, more: str = "") -> str:
         """The bytes that a lock state holds, and since when."""
         held, changed = run_words(run, self.place_words(state.file)), self.entry_words(self.server.moved[state.number])
         text = f"{owner_words(state.owner)} holds {held}{more}, by state {state.number}"
@@ -435,27 +464,28 @@ class Causes:
 
     # Byte-range locks.
 
-    def of_lock(self, arguments: Any, file: Any) -> Iterator[Any]:
-        locker, server = arguments.locker, self.server
-        is_new = isinstance(locker, NewLocker)
-        stateid = locker.open_stateid if is_new else locker.lock_stateid
+    def of_lock(self, arguments: Lock, file: int) -> Reasons:
+        locker = arguments.locker
+        stateid, is_new = stateid_of_locker(locker), isinstance(locker, NewLocker)
         yield from self.of_stateid(stateid, OpenState if is_new else LockState, file)
         if arguments.reclaim:
             text = "it reclaims, and no lock outlives a run"
             yield Reason(Status.NO_GRACE, text, "LOCK")
-        if is_new:
+        if isinstance(locker, NewLocker):
             yield from self.of_new_locker(locker, file)
+            opened, owner = self.state_of(stateid, OpenState), locker.owner
+        else:
+            found = self.state_of(stateid, LockState)
+            opened, owner = found.open, found.owner
         yield from self.of_range(arguments)
-        found = server.looked_up(stateid)
-        opened = found if is_new else found.open
         wanted = READ if mode_of(arguments.locktype) == READ_MODE else WRITE
         if opened.share()[0] & wanted == 0:
             text = (f"the lock takes access to {MODES[wanted]}, and {self.state_words(opened)}, has access to "
                     f"{MODES[opened.share()[0]]} alone")
             yield Reason(Status.OPENMODE, text, "LOCK")
-        yield from self.of_conflict(arguments, locker.owner if is_new else found.owner, file)
+        yield from self.of_conflict(arguments, owner, file)
 
-    def of_new_locker(self, locker: Any, file: Any) -> Iterator[Any]:
+    def of_new_locker(self, locker: NewLocker, file: int) -> Reasons:
         owner, server = locker.owner, self.server
         if owner[:2] != locker.open_stateid[1:3]:
             text = (f"the lock owner has the clientid {owner.epoch} {owner.client}, and the open is one of client "
@@ -472,25 +502,23 @@ class Causes:
             text = f"{self.due_words(known)}, and the lock_seqid is {locker.lock_seqid}"
             yield Reason(Status.BAD_SEQID, text, "LOCK")
 
-    def of_lockt(self, arguments: Any, file: Any) -> Iterator[Any]:
+    def of_lockt(self, arguments: Lockt, file: int) -> Reasons:
         yield from self.of_filehandle(file)
         yield from self.of_clientid(arguments.owner.epoch, arguments.owner.client)
-        if not self.server.tree.is_file(file):
-            text = f"the current filehandle is that of {self.place_words(file)}, and no file's"
-            yield Reason(Status.ISDIR, text, "LOCKT")
+        yield from self.of_node(file, Status.ISDIR, "LOCKT")
         yield from self.of_range(arguments)
         yield from self.of_conflict(arguments, arguments.owner, file)
 
-    def of_locku(self, arguments: Any, file: Any) -> Iterator[Any]:
+    def of_locku(self, arguments: Locku, file: int) -> Reasons:
         yield from self.of_stateid(arguments.stateid, LockState, file)
         yield from self.of_range(arguments)
 
     # The bytes of files.
 
-    def of_read(self, arguments: Any, file: Any) -> Any:
+    def of_read(self, arguments: Read, file: int) -> Reasons:
         return self.of_access(arguments.stateid, file, READ, "READ")
 
-    def of_write(self, arguments: Any, file: Any) -> Iterator[Any]:
+    def of_write(self, arguments: Write, file: int) -> Reasons:
         yield from self.of_access(arguments.stateid, file, WRITE, "WRITE")
         end = arguments.offset + len(arguments.data)
         if end > TEXT_LIMIT:
@@ -498,31 +526,31 @@ class Causes:
                     f"{TEXT_LIMIT} at most")
             yield Reason(Status.FBIG, text, "WRITE")
 
-    def of_access(self, stateid: Any, file: Any, wanted: Any, heading: Any) -> Iterator[Any]:
+    def of_access(self, stateid: Stateid, file: int, wanted: int, heading: str) -> Reasons:
         """What is wrong with a stateid by which a file is to be read, or written."""
         yield from self.of_filehandle(file)
-        if not self.server.tree.is_file(file):
-            text = f"the current filehandle is that of {self.place_words(file)}, and no file's"
-            yield Reason(Status.ISDIR, text, heading)
+        yield from self.of_node(file, Status.ISDIR, heading)
         if is_special(stateid):
             yield from self.of_access_of_nobody(file, wanted, heading)
             return
         yield from self.of_stateid_client(stateid)
         yield from self.of_stateid(stateid, (OpenState, LockState, Delegation), file)
-        yield from self.of_own_access(self.server.looked_up(stateid), wanted, heading)
+        found = self.server.looked_up(stateid)
+        assert found is not None
+        yield from self.of_own_access(found, wanted, heading)
 
-    def of_access_of_nobody(self, file: Any, wanted: Any, heading: Any) -> Iterator[Any]:
+    def of_access_of_nobody(self, file: int, wanted: int, heading: str) -> Reasons:
         opens = [it for it in self.server.opens if it.file == file and it.share()[1] & wanted]
         if opens:
             yield Reason(Status.LOCKED, listed([self.share_words(it, (wanted, 0)) for it in opens]), heading)
         held = [it for it in self.server.delegations if it.file == file]
         yield from self.of_delegations(held, (wanted, 0), self.barred_special_words)
 
-    def barred_special_words(self, held: Any) -> Any:
+    def barred_special_words(self, held: Delegation) -> str:
         operations = "READs and WRITEs" if held.kind == OPEN_DELEGATE_WRITE else "WRITEs"
         return f"keeps out {operations} by a special stateid, whoever sends them"
 
-    def of_own_access(self, found: Any, wanted: Any, heading: Any) -> Iterator[Any]:
+    def of_own_access(self, found: KeptState, wanted: int, heading: str) -> Reasons:
         """A state that doesn't give this access."""
         if isinstance(found, Delegation):
             access = BOTH if found.kind == OPEN_DELEGATE_WRITE else READ
@@ -536,21 +564,19 @@ class Causes:
 
     # Attributes, and listings.
 
-    def of_getattr(self, arguments: Any, filehandle: Any) -> Iterator[Any]:
+    def of_getattr(self, arguments: Getattr, filehandle: int) -> Reasons:
         yield from self.of_filehandle(filehandle)
         yield from self.of_set_only(arguments.mask, "GETATTR")
 
-    def of_set_only(self, mask: Any, heading: Any) -> Iterator[Any]:
+    def of_set_only(self, mask: Sequence[int], heading: str) -> Reasons:
         asked = numbers_of(mask) & SET_ONLY
         if asked and self.server.is_for_clients():
             yield Reason(Status.INVAL, f"{attribute_words(asked)} can only be set", heading)
 
-    def of_readdir(self, arguments: Any, directory: Any) -> Iterator[Any]:
+    def of_readdir(self, arguments: Readdir, directory: int) -> Reasons:
         yield from self.of_filehandle(directory)
         tree, cookie = self.server.tree, arguments.cookie
-        if tree.is_file(directory):
-            text = f"the current filehandle is that of {self.place_words(directory)}, and no directory's"
-            yield Reason(Status.NOTDIR, text, "READDIR")
+        yield from self.of_node(directory, Status.NOTDIR, "READDIR")
         yield from self.of_set_only(arguments.mask, "READDIR")
         children = tree.children(directory)
         if cookie != 0 and cookie - FIRST_COOKIE not in children:
@@ -561,7 +587,7 @@ class Causes:
             yield Reason(Status.NOT_SAME, text, "READDIR")
         yield from self.of_room(arguments, [child for child in children if child + FIRST_COOKIE > cookie])
 
-    def of_room(self, arguments: Any, left: Any) -> Iterator[Any]:
+    def of_room(self, arguments: Readdir, left: list[int]) -> Reasons:
         """That not even the first of the children that are left fits into a listing; or its ends alone don't."""
         asked, room = min(arguments.maxcount, LISTING_LIMIT), room_of_entries(arguments.maxcount)
         needed, what = LISTING_ENDS, "a listing without an entry"
@@ -571,7 +597,7 @@ class Causes:
         if room < needed - LISTING_ENDS:
             yield Reason(Status.TOOSMALL, f"{what} has {needed} bytes, and {asked} are the most here", "READDIR")
 
-    def of_setattr(self, arguments: Any, file: Any) -> Iterator[Any]:
+    def of_setattr(self, arguments: Setattr, file: int) -> Reasons:
         mask, values = arguments.attributes
         yield from self.of_filehandle(file)
         asked = numbers_of(mask)
@@ -587,7 +613,7 @@ class Causes:
         if size > TEXT_LIMIT:
             yield Reason(Status.FBIG, f"the size is {size}, and a file has {TEXT_LIMIT} bytes at most", "SETATTR")
 
-    def of_values(self, asked: Any, values: Any) -> Iterator[Any]:
+    def of_values(self, asked: set[int], values: bytes) -> Reasons:
         try:
             self.server.size_of(asked, values)
         except Refusal as refusal:
@@ -598,7 +624,7 @@ class Causes:
 
     # The others.
 
-    def of_release_lockowner(self, arguments: Any, _principal: Any) -> Iterator[Any]:
+    def of_release_lockowner(self, arguments: ReleaseLockowner, _principal: Principal) -> Reasons:
         owner = arguments.owner
         yield from self.of_clientid(owner.epoch, owner.client)
         held = [it for it in self.server.lock_states if it.owner == owner and not it.ranges.is_empty()]
@@ -607,16 +633,16 @@ class Causes:
             text = f"{owner_words(owner)} holds bytes of {listed(texts)}"
             yield Reason(Status.LOCKS_HELD, text, "RELEASE_LOCKOWNER")
 
-    def of_delegreturn(self, arguments: Delegreturn, file: Any) -> Iterator[Any]:
+    def of_delegreturn(self, arguments: Delegreturn, file: int) -> Reasons:
         yield from self.of_filehandle(file)
         yield from self.of_stateid_client(arguments.stateid)
         yield from self.of_stateid(arguments.stateid, Delegation, file)
 
-    def of_setclientid(self, arguments: Setclientid, principal: tuple[int, int]) -> Iterator[Any]:
+    def of_setclientid(self, arguments: Setclientid, principal: Principal) -> Reasons:
         record = self.server.record_where(True, lambda it: it.id == arguments.id)
         yield from self.of_other_principal(record, principal, "SETCLIENTID")
 
-    def of_other_principal(self, record: Any, principal: tuple[int, int], heading: str) -> Iterator[Any]:
+    def of_other_principal(self, record: ClientRecord | None, principal: Principal, heading: str) -> Reasons:
         """The confirmed record of an id is that of another principal, whose client has state."""
         server = self.server
         if record is None or record.principal == principal or not server.has_state(record.number):
@@ -627,13 +653,14 @@ class Causes:
                 f"since {self.entry_words(server.begun[state.number])}")
         yield Reason(Status.CLID_INUSE, text, heading)
 
-    def of_setclientid_confirm(self, arguments: SetclientidConfirm, principal: tuple[int, int]) -> Iterator[Any]:
+    def of_setclientid_confirm(self, arguments: SetclientidConfirm, principal: Principal) -> Reasons:
         server, heading = self.server, "SETCLIENTID_CONFIRM"
-        given: Any = server.introductions.get(arguments.confirm)
-        record: Any = None if given is None else given.record
-        is_named = record is not None and (server.epoch, record.number) == arguments[:2]
-        if not is_named or not any(it is record for it in server.records):
+        given = server.introductions.get(arguments.confirm)
+        is_named = given is not None and (server.epoch, given.record.number) == arguments[:2]
+        if given is None or not is_named or not any(it is given.record for it in server.records):
             yield self.of_no_record(arguments, given)
+            return
+        record = given.record
         if record.principal != principal:
             text = (f"{self.entry_words(given.entry)} came from {principal_words(record.principal)}, and its "
                     f"confirmation from {principal_words(principal)}")
@@ -643,7 +670,7 @@ class Causes:
             if other is not None and other.number != record.number:
                 yield from self.of_other_principal(other, principal, heading)
 
-    def of_no_record(self, arguments: Any, given: Any) -> Any:
+    def of_no_record(self, arguments: SetclientidConfirm, given: Introduction | None) -> Reason:
         """No record has the clientid and the confirm value."""
         text = self.unknown_client(arguments.epoch, arguments.client)
         if text is not None:
@@ -665,12 +692,12 @@ class Causes:
         return Reason(Status.STALE_CLIENTID, text, "SETCLIENTID_CONFIRM")
 
 
-def other_part(kept: Any, request: Any) -> Any:
+def other_part(kept: Request, request: Request) -> str:
     """What tells a request from the kept one, which has its sequence id."""
     if kept.opnum != request.opnum:
         return "another operation"
     return "another current filehandle" if kept.arguments == request.arguments else "other arguments"
 
 
-def is_refusal(entry: Call | Expire) -> bool:
+def is_refusal(entry: Entry) -> bool:
     return isinstance(entry, Call) and entry.answer.status != Status.OK

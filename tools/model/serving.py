@@ -12,7 +12,8 @@ from collections.abc import Callable
 from functools import partial
 from typing import Any, TextIO
 
-from model.server import CLIENTS_LIMIT, JOURNAL_LIMIT
+from model.server import CLIENTS_LIMIT
+from model.state import JOURNAL_LIMIT
 from model.traces import call_line, entry_line
 from nfs4 import wire
 from nfs4.wire import Fault, records

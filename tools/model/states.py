@@ -1,13 +1,12 @@
 """What the server keeps of clients, owners, opens, locks and delegations; and what several rules ask of these, of
 stateids and of sequence ids. Sections are those of RFC 7530."""
-from collections import namedtuple
 from collections.abc import Callable
 from dataclasses import dataclass, field
-from typing import Any
+from typing import Any, NamedTuple
 
 from model.ranges import READ_MODE, RUNS_LIMIT, Ranges, WRITE_MODE, range_of
-from nfs4.wire import (BOTH, Callback, Lock, LockOwner, Lockt, Locku, NewLocker, OpenOwner, Opnum, READ, READW_LT,
-                       READ_LT, Stateid, Status, u32)
+from nfs4.wire import (BOTH, Callback, KnownLocker, Lock, LockOwner, Lockt, Locku, NewLocker, OpenOwner, Opnum,
+                       Principal, READ, READW_LT, READ_LT, Stateid, Status, u32)
 
 HANDLE_HEAD = b"nfh1"
 LAST = 2**32 - 1
@@ -39,10 +38,17 @@ class Result:
 
 
 @dataclass
+class Filehandles:
+    """Of a COMPOUND: nodes of the tree, or None."""
+    current: int | None = None
+    saved: int | None = None
+
+
+@dataclass
 class ClientRecord:
     """A client that has introduced itself (section 9.1.1)."""
     id: bytes
-    principal: tuple[int, int]
+    principal: Principal
     verifier: bytes
     callback: Callback
     confirm: int
@@ -71,10 +77,13 @@ class Kept:
     moment: int
 
 
+OwnerName = OpenOwner | LockOwner
+
+
 @dataclass
 class Owner:
     """An open owner or a lock owner that is known (section 9.1.5); only an open owner is confirmed (section 9.1.11)."""
-    name: OpenOwner | LockOwner
+    name: OwnerName
     kept: Kept
     # The entry by which it became known.
     recorded: int
@@ -133,7 +142,9 @@ UNKNOWN, UP, DOWN = "unknown", "up", "down"
 
 # A delegation that is called back: its stateid and the node of its file; and who has it, and where that client was to
 # be called, when that was decided.
-Recall = namedtuple("Recall", "stateid file principal callback")
+Recall = NamedTuple("Recall", [("stateid", Stateid), ("file", int), ("principal", Principal), ("callback", Callback)])
+
+KeptState = OpenState | LockState | Delegation
 
 
 def union(pairs: list[tuple[int, int]]) -> tuple[int, int]:
@@ -188,18 +199,21 @@ def is_first_lock(request: Request) -> bool:
 
 def stateid_of(opnum: Opnum, arguments: Any) -> Stateid:
     """The stateid that names the owner of a sequenced operation other than OPEN."""
-    if opnum != Opnum.LOCK:
-        return arguments.stateid
-    locker = arguments.locker
+    stateid: Stateid = arguments.stateid if opnum != Opnum.LOCK else stateid_of_locker(arguments.locker)
+    return stateid
+
+
+def stateid_of_locker(locker: NewLocker | KnownLocker) -> Stateid:
     return locker.open_stateid if isinstance(locker, NewLocker) else locker.lock_stateid
 
 
 def sequence_id_of(request: Request) -> int:
     """The sequence id of the owner that the operation is judged by."""
     if request.opnum != Opnum.LOCK:
-        return request.arguments.seqid
-    locker = request.arguments.locker
-    return locker.open_seqid if is_first_lock(request) else locker.lock_seqid
+        seqid: int = request.arguments.seqid
+        return seqid
+    locker: NewLocker | KnownLocker = request.arguments.locker
+    return locker.open_seqid if isinstance(locker, NewLocker) else locker.lock_seqid
 
 
 def replay(kept: Kept, seqid: int, request: Request) -> Result | None:
@@ -211,15 +225,18 @@ def closed_by(kept: Kept, stateid: Stateid) -> bool:
     """Whether the kept request closed the open that the stateid names."""
     if kept.request.opnum != Opnum.CLOSE or kept.answer.status != Status.OK:
         return False
-    return kept.request.arguments.stateid[1:] == stateid[1:]
+    closed: Stateid = kept.request.arguments.stateid
+    return closed[1:] == stateid[1:]
 
 
-def expect_filehandle(filehandle: int | None) -> None:
+def expect_filehandle(filehandle: int | None) -> int:
+    """The node of a filehandle, where there is one."""
     if filehandle is None:
         raise Refusal(Status.NOFILEHANDLE)
+    return filehandle
 
 
-def expect_seqid(stateid: Stateid, found: Delegation | LockState | OpenState) -> None:
+def expect_seqid(stateid: Stateid, found: KeptState) -> None:
     """The stateid's seqid is that of the state (section 9.1.4.2)."""
     if stateid.seqid < found.seqid:
         raise Refusal(Status.OLD_STATEID)

@@ -3,7 +3,8 @@ the leases of clients, the delegations that aren't given back, and the open owne
 entry of the journal, or Unchanged. Sections are those of RFC 7530."""
 from dataclasses import dataclass
 
-from model.states import DOWN, FULL, NOT_DUE, NOT_LIVE, Owner, UP, Unchanged
+from model.delegations import Delegating
+from model.states import DOWN, NOT_DUE, Owner, UP, Unchanged
 
 
 @dataclass(frozen=True)
@@ -19,7 +20,7 @@ class Swept:
     is_stopped: bool = False
 
 
-class Sweeping:
+class Sweeping(Delegating):
     """What ends since its time is over."""
 
     def sweep(self, now: int) -> Swept:
@@ -44,20 +45,6 @@ class Sweeping:
             return Swept(expired, kept, len(due) - expired, revoked, forgotten, True)
         return Swept(expired, kept, len(due) - expired, revoked, forgotten)
 
-    def expect_live(self, number: int) -> None:
-        if not self.is_live(number):
-            raise Unchanged(NOT_LIVE)
-
-    def expect_entry(self) -> None:
-        """The journal has room for one more."""
-        if self.entries >= self.journal_limit:
-            raise Unchanged(FULL)
-
-    def enter(self) -> int:
-        """Makes the entry of a change that was made: its number."""
-        self.entries += 1
-        return self.entries - 1
-
     def expire(self, number: int, seen: int, now: int) -> int:
         """Removes a client whose lease was renewed last at the moment that was seen (section 9.5)."""
         self.expect_live(number)
@@ -71,7 +58,7 @@ class Sweeping:
         """Says that a client can be called back, or that it can't."""
         self.expect_live(number)
         self.expect_entry()
-        self.record_where(True, lambda it: it.number == number).path = UP if is_up else DOWN
+        self.live_record(number).path = UP if is_up else DOWN
         return self.enter()
 
     # Open owners without opens (section 9.1.10). How long they are known is the server's choice: a lease after the last

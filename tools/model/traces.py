@@ -2,11 +2,10 @@
 all operations, also those that make no entry."""
 from collections.abc import Set
 from dataclasses import dataclass, field
-from typing import Any
 
-from model.entries import Answer
+from model.entries import Answer, Entry
 from model.journal import Recorder
-from model.states import Result
+from model.states import Filehandles, Result
 from model.words import STATUS_NAMES, answer_words, line_of, principal_words, words_read
 from nfs4 import wire
 from nfs4.wire import CompoundCall, Opnum
@@ -28,7 +27,7 @@ class Tracer(Recorder):
         self.steps = []
         return super().run_compound(call, refused)
 
-    def run_next(self, call: CompoundCall, handles: Any, room: int, is_refused: bool) -> tuple[int, Result]:
+    def run_next(self, call: CompoundCall, handles: Filehandles, room: int, is_refused: bool) -> tuple[int, Result]:
         begin = call.operations.at
         number, result = super().run_next(call, handles, room, is_refused)
         self.steps.append(step_words(number, call.operations.data[begin + 4:call.operations.at], result))
@@ -76,6 +75,6 @@ def plain_words(reply: bytes) -> str:
     return "NULL -> answered" if state == wire.SUCCESS else f"a call -> {ACCEPTED_NAMES[state]}"
 
 
-def entry_line(server: Any, entry: Any) -> Any:
+def entry_line(server: Recorder, entry: Entry) -> str:
     """An entry that no call brought."""
     return line_of(entry, server.tree)

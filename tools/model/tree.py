@@ -1,7 +1,6 @@
 """The server's files: a TOML document, and the nodes that it makes."""
 import tomllib
-from collections import namedtuple
-from typing import Any
+from typing import Any, NamedTuple
 
 FILES = DIRECTORIES = 64
 TEXT_LIMIT, NAME_LIMIT, DEPTH = 65536, 255, 8
@@ -17,15 +16,24 @@ path = "b"
 path = "d/c"
 """
 
-Node = namedtuple("Node", "parent name is_file text")
-ROOT = Node(None, b"", False, b"")
+# The root's parent is nobody's number.
+Node = NamedTuple("Node", [("parent", int), ("name", bytes), ("is_file", bool), ("text", bytes)])
+ROOT = Node(-1, b"", False, b"")
 
 # Which delegations may be given, whether a client's callback path is tried first, what a CLOSE does where bytes are
 # locked, free them or refuse, and whether there is also what the programs of real clients ask for: words of the
 # document.
 DELEGATIONS, CALLBACKS, CLOSE_LOCKS = ("none", "read", "all"), ("probe", "assume"), ("free", "refuse")
 PLAIN, CLIENTS = PROFILES = "plain", "clients"
-Policy = namedtuple("Policy", "delegations callbacks close_locks profile", defaults=[PLAIN])
+
+
+class Policy(NamedTuple):
+    delegations: str
+    callbacks: str
+    close_locks: str
+    profile: str = PLAIN
+
+
 # What the document says where it has no word.
 USUAL = Policy("all", "probe", "free")
 

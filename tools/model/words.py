@@ -1,12 +1,13 @@
 """Entries of a journal as text, with operations and answers in the words of rows (crates/rows/README.md). Of the bytes
 of files that READ and WRITE bring only the first are shown, where there are many, unless they are wanted whole."""
 from collections.abc import Callable
-from typing import Any
+from typing import Any, TypeVar
 
-from model.entries import ARGUMENT_BYTES, Answer, Call, Expire, Forget, RESTS, Revoke, delegation_given
-from model.states import SLOTS, slot_of
+from model.entries import ARGUMENT_BYTES, Answer, Call, Entry, Expire, Forget, RESTS, Revoke, delegation_given
+from model.states import OwnerName, SLOTS, slot_of
+from model.tree import Tree
 from nfs4 import rows, wire
-from nfs4.wire import OPEN_DELEGATE_WRITE, OpenOwner, Opnum, Status, opaque
+from nfs4.wire import OPEN_DELEGATE_WRITE, OpenOwner, Opnum, Principal, Status, opaque
 
 STATUS_NAMES = {number: name for name, number in rows.NAMES.items() if name.startswith(("NFS4_OK", "NFS4ERR_"))}
 FLAVOR_NAMES = {wire.AUTH_NONE: "AUTH_NONE", wire.AUTH_SYS: "AUTH_SYS"}
@@ -14,6 +15,7 @@ FLAVOR_NAMES = {wire.AUTH_NONE: "AUTH_NONE", wire.AUTH_SYS: "AUTH_SYS"}
 DECIMAL_LIMIT = 65535
 # So many bytes of a file are shown.
 SHOWN = 64
+V = TypeVar("V")
 
 
 class WordReader(wire.Reader):
@@ -24,7 +26,7 @@ class WordReader(wire.Reader):
         self.words: list[str] = []
         self.is_whole = is_whole
 
-    def taken(self, words_of: Callable[..., Any], take: Callable[..., Any], *limits: int) -> Any:
+    def taken(self, words_of: Callable[[V], list[str]], take: Callable[..., V], *limits: int) -> V:
         """Takes a value, and puts its words in place of those of its parts."""
         begin = len(self.words)
         value = take(*limits)
@@ -32,7 +34,7 @@ class WordReader(wire.Reader):
         return value
 
     def fixed(self, count: int) -> bytes:
-        return self.taken(lambda value: [f"hex:{value.hex()}"], super().fixed, count)
+        return self.taken(hex_words, super().fixed, count)
 
     def u32(self) -> int:
         return self.taken(lambda value: [number_word(value)], super().u32)
@@ -50,6 +52,10 @@ class WordReader(wire.Reader):
     def fixed_words(self, *words: int) -> None:
         for _ in words:
             self.u32()
+
+
+def hex_words(value: bytes) -> list[str]:
+    return [f"hex:{value.hex()}"]
 
 
 def number_word(value: int) -> str:
@@ -80,7 +86,7 @@ def is_shown_as_text(value: bytes) -> bool:
     return text.isprintable() and '"' not in text
 
 
-def words_read(read: Callable[..., Any], data: bytes, is_whole: bool = False) -> list[str]:
+def words_read(read: Callable[[Any], Any], data: bytes, is_whole: bool = False) -> list[str]:
     """The words of what is read of these bytes, which are read to their end."""
     reader = WordReader(data, is_whole)
     read(reader)
@@ -99,12 +105,12 @@ def answer_words(answer: Answer, is_whole: bool = False) -> str:
     return " ".join([name, STATUS_NAMES[answer.status]] + rest)
 
 
-def principal_words(principal: tuple[int, int]) -> str:
+def principal_words(principal: Principal) -> str:
     flavor, uid = principal
     return FLAVOR_NAMES[flavor] + (f" {uid}" if flavor == wire.AUTH_SYS else "")
 
 
-def place_words(node: int | None, tree: Any) -> str:
+def place_words(node: int | None, tree: Tree) -> str:
     """The current filehandle, by the path from the root."""
     if node is None:
         return "no file"
@@ -117,7 +123,7 @@ def place_words(node: int | None, tree: Any) -> str:
     return " ".join([kind] + opaque_words(b"/" + b"/".join(names)))
 
 
-def line_of(entry: Call | Expire, tree: Any, is_whole: bool = False) -> str:
+def line_of(entry: Entry, tree: Tree, is_whole: bool = False) -> str:
     """An entry as a line."""
     if isinstance(entry, Call):
         head = f"moment {entry.moment}, {principal_words(entry.principal)}, {place_words(entry.filehandle, tree)}"
@@ -138,7 +144,7 @@ def client_words(number: int) -> str:
     return f"client {number}" + (f" (slot {slot}, {ordinal(which)})" if slot and which > 1 else "")
 
 
-def owner_words(owner: OpenOwner) -> str:
+def owner_words(owner: OwnerName) -> str:
     kind = "open" if isinstance(owner, OpenOwner) else "lock"
     return f"{kind} owner {name_words(owner.name)} of {client_words(owner.client)}"
 
@@ -147,7 +153,7 @@ def name_words(name: bytes) -> str:
     return " ".join(opaque_words(name))
 
 
-def ordinal(number: int) -> Any:
+def ordinal(number: int) -> str:
     ending = "th" if number // 10 % 10 == 1 else {1: "st", 2: "nd", 3: "rd"}.get(number % 10, "th")
     return {2: "second", 3: "third"}.get(number, f"{number}{ending}")
 

@@ -4,19 +4,20 @@ import socket
 import struct
 import threading
 import time
-from collections import namedtuple
 from collections.abc import Callable
-from typing import Any
+from typing import Any, NamedTuple
 
 from nfs4.callbacks import CALLBACK_VERSION, CB_COMPOUND, CB_NULL, OP_CB_RECALL
-from nfs4.wire import (BODY_LIMIT, CALL, FILEHANDLE_LIMIT, Fault, Reader, SUCCESS, Status, Unreadable, accepted, opaque,
-                       read_principal, read_stateid, record, records, u32)
+from nfs4.wire import (BODY_LIMIT, CALL, CallbackRecall, Fault, Principal, Reader, SUCCESS, Stateid, Status,
+                       Unreadable, accepted, form_of, opaque, read_principal, record, records, u32)
 
 
-# A call, with who calls by its credential; of CB_NULL there are no tag and no recall.
-CallbackCall = namedtuple("CallbackCall", "xid program principal tag recall")
 # The arguments of CB_RECALL, behind the callback_ident of its CB_COMPOUND.
-RecallArguments = namedtuple("RecallArguments", "ident stateid truncate filehandle")
+RecallArguments = NamedTuple("RecallArguments", [
+    ("ident", int), ("stateid", Stateid), ("truncate", int), ("filehandle", bytes)])
+# A call, with who calls by its credential; of CB_NULL the tag is empty, and there is no recall.
+CallbackCall = NamedTuple("CallbackCall", [
+    ("xid", int), ("program", int), ("principal", Principal), ("tag", bytes), ("recall", RecallArguments | None)])
 
 
 # The calls, and their reply.
@@ -31,7 +32,7 @@ def read_callback(data: bytes) -> CallbackCall:
         raise Unreadable
     principal = read_principal(reader.u32(), reader.opaque(BODY_LIMIT))
     reader.u32(), reader.opaque(BODY_LIMIT)
-    tag, recall = read_recall(reader) if procedure == CB_COMPOUND else (None, None)
+    tag, recall = read_recall(reader) if procedure == CB_COMPOUND else (b"", None)
     if reader.at < len(data):
         raise Unreadable
     return CallbackCall(xid, program, principal, tag, recall)
@@ -42,7 +43,7 @@ def read_recall(reader: Reader) -> tuple[bytes, RecallArguments]:
     tag, minor_version, ident, count, opnum = reader.opaque(), reader.u32(), reader.u32(), reader.u32(), reader.u32()
     if (minor_version, count, opnum) != (0, 1, OP_CB_RECALL):
         raise Unreadable
-    return tag, RecallArguments(ident, read_stateid(reader), reader.one_of(2), reader.opaque(FILEHANDLE_LIMIT))
+    return tag, RecallArguments(ident, *form_of(CallbackRecall).read(reader))
 
 
 def call_of(data: bytes) -> CallbackCall | None:

@@ -1,15 +1,24 @@
 """What came of rows that were sent: lines for people, a summary, and files in the forms of TAP and of JUnit, by which
 other programs show tests. And the file of differences that are known."""
 import re
-from collections import namedtuple
 from collections.abc import Iterator
+from typing import NamedTuple
 from xml.sax.saxutils import quoteattr
 
 from nfs4 import rows
 
-# A row that was sent, with what is wrong, or None, and the seconds that it took; or one that was left out, with why.
-# What is known of a row's difference is a text, or None.
-Outcome = namedtuple("Outcome", "row failure seconds left_out known")
+# What is wrong, in words; and the bytes that were wanted and that came, where they are to be shown.
+Failure = NamedTuple("Failure", [("what", str), ("wanted", bytes), ("got", bytes)])
+
+
+class Outcome(NamedTuple):
+    """A row that was sent, with what is wrong, or None, and the seconds that it took; or one that was left out, with
+    why. What is known of a row's difference is a text, or None."""
+    row: rows.Row
+    failure: Failure | None
+    seconds: float
+    left_out: str | None
+    known: str | None
 
 
 class Unread(Exception):
@@ -60,7 +69,7 @@ def lines_of(outcome: Outcome) -> Iterator[str]:
     row = outcome.row
     if is_better(outcome):
         yield f"{row.file}:{row.line}: {row.name}: it passes, though it is known to differ"
-    elif is_failed(outcome):
+    elif outcome.failure is not None and outcome.known is None:
         yield f"{row.file}:{row.line}: {row.name}" + (f" ({row.sections})" if row.sections else "")
         yield from (f"    {rule}" for rule in row.rule)
         yield f"    {outcome.failure.what}"

@@ -1,9 +1,9 @@
 """Row files, as crates/rows/README.md has their format: read into rows, or refused at the first line at fault."""
 import os
 import re
-from collections.abc import Iterator
+from collections.abc import Callable, Iterator
 from dataclasses import dataclass, field
-from typing import Any
+from typing import Any, get_args
 
 from nfs4 import wire
 from nfs4.wire import Opnum, Status, opaque, record, u32, u64
@@ -147,7 +147,8 @@ class Probe:
 
 
 # What a server is told that no call asks for.
-ORDERS = (Sweep, Mark, Revoke, Take, Pending, Probe, Forget)
+Order = Sweep | Mark | Revoke | Take | Pending | Probe | Forget
+ORDERS = get_args(Order)
 # What a server whose state threads share isn't told, or answers otherwise, as it hands its recalls over by a queue.
 ALONE_ORDERS = (Revoke, Pending, Forget)
 
@@ -162,6 +163,9 @@ class Part:
     fault: str | None = None
     # Whether the connection of the part before goes on.
     goes_on: bool = False
+
+
+Step = Part | Order
 
 
 @dataclass
@@ -196,7 +200,7 @@ class Row:
     # Whether it says what is wanted.
     is_whole: bool = False
     # Parts and orders, one after another; the first is a part.
-    steps: list[Any] = field(default_factory=lambda: [Part()])
+    steps: list[Step] = field(default_factory=lambda: [Part()])
 
     @property
     def is_ordering(self) -> bool:
@@ -220,7 +224,7 @@ class Row:
         """The parts that go on with one another as one connection, with the orders as its stops."""
         found: list[Connection] = []
         for step in self.steps:
-            if isinstance(step, ORDERS):
+            if not isinstance(step, Part):
                 found[-1].stops.append((len(found[-1].sent), step))
             elif step.goes_on:
                 found[-1].go_on(step)
@@ -451,7 +455,7 @@ def probe_of(text: str) -> Probe:
     raise Wrong(NO_PROBE)
 
 
-def order_lines(order: Any) -> list[str]:
+def order_lines(order: Order) -> list[str]:
     """An order as the lines of a row."""
     match order:
         case Sweep(moment, expired, kept, revoked, forgotten):
@@ -469,15 +473,15 @@ def order_lines(order: Any) -> list[str]:
             return [f"pending {count}"]
         case Probe(after, client):
             return [f"probe {after} " + ("none" if client is None else f"client {client}")]
-    raise TypeError(order)
 
 
-def order_line(order: Any) -> str:
+def order_line(order: Order) -> str:
     return " ".join(word for line in order_lines(order) for word in line.split())
 
 
-ORDER_LINES = {"sweep": sweep_of, "mark": mark_of, "revoke": revocation_of, "pending": pending_of, "probe": probe_of,
-               "forget": forgetting_of}
+ORDER_LINES: dict[str, Callable[[str], Order]] = {
+    "sweep": sweep_of, "mark": mark_of, "revoke": revocation_of, "pending": pending_of, "probe": probe_of,
+    "forget": forgetting_of}
 
 
 class File:
@@ -571,12 +575,14 @@ class File:
         else:
             self.sections = text
 
-    def part(self) -> Any:
+    def part(self) -> Part:
         """The part that is read: behind an order a new one, at the same moment."""
         steps = self.row().steps
-        if isinstance(steps[-1], ORDERS):
-            steps.append(Part(self.clock, goes_on=True))
-        return steps[-1]
+        last = steps[-1]
+        if not isinstance(last, Part):
+            last = Part(self.clock, goes_on=True)
+            steps.append(last)
+        return last
 
     def set(self, row: Row, keyword: str, text: str) -> None:
         if keyword == "rule":

@@ -9,7 +9,7 @@ import struct
 import subprocess
 import time
 from collections.abc import Iterator
-from typing import Any
+from typing import Any, TypeVar
 
 from nfs4.messages import split
 
@@ -49,13 +49,35 @@ def is_silent(stream: Any, seconds: float) -> bool:
     return not select.select([stream], [], [], seconds)[0]
 
 
-class Served:
+P = TypeVar("P", bound="Process")
+
+
+class Process:
+    """A program that runs."""
+
+    def __init__(self, command: list[str], **how: Any) -> None:
+        pipes = dict[str, Any](stdin=subprocess.PIPE, stdout=subprocess.PIPE, stderr=subprocess.PIPE, bufsize=0)
+        self.program: Any = subprocess.Popen(command, **(pipes | how))
+
+    def __enter__(self: P) -> P:
+        return self
+
+    def __exit__(self, *_: Any) -> None:
+        """However it comes to this, the program is gone then."""
+        if self.program.poll() is None:
+            self.program.kill()
+            self.program.wait()
+        for stream in (self.program.stdin, self.program.stdout, self.program.stderr):
+            if stream is not None:
+                stream.close()
+
+
+class Served(Process):
     """A server, from its start to its end: a command that prints `listening on 127.0.0.1:PORT` on standard error. Where
     it prints another line, or ends before it has printed one, it has no port."""
 
     def __init__(self, command: list[str], **how: Any) -> None:
-        how = dict[str, Any](stdin=subprocess.DEVNULL, stdout=subprocess.PIPE, stderr=subprocess.PIPE, bufsize=0) | how
-        self.program: Any = subprocess.Popen(command, **how)
+        super().__init__(command, **{"stdin": subprocess.DEVNULL} | how)
         self.errors = self.next_line()
         found = LISTENING.fullmatch(self.errors)
         self.port = int(found[1]) if found else None
@@ -75,18 +97,6 @@ class Served:
                 break
             line += more
         return line
-
-    def __enter__(self) -> "Served":
-        return self
-
-    def __exit__(self, *_: Any) -> None:
-        """However it comes to this, the server is gone then."""
-        if self.program.poll() is None:
-            self.program.kill()
-            self.program.wait()
-        for stream in (self.program.stdin, self.program.stdout, self.program.stderr):
-            if stream is not None:
-                stream.close()
 
     def end(self, seconds: float = PATIENCE) -> tuple[int | None, bytes, bytes]:
         """How it ends by itself: its status, and what it has written on standard output and, behind the lines with the
@@ -223,12 +233,8 @@ class Peer:
         self.socket.close()
 
 
-class Piped:
+class Piped(Process):
     """A program behind pipes, which reads records and writes replies."""
-
-    def __init__(self, command: list[str], **how: Any) -> None:
-        pipes = dict[str, Any](stdin=subprocess.PIPE, stdout=subprocess.PIPE, stderr=subprocess.PIPE, bufsize=0)
-        self.program: Any = subprocess.Popen(command, **pipes, **how)
 
     def send(self, data: bytes) -> None:
         rest = memoryview(data)

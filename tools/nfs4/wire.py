@@ -1,11 +1,12 @@
 """The bytes of the messages: XDR (RFC 4506), records and calls (RFC 5531), and COMPOUND with its operations (RFC 7531).
 
-Arguments are read into named tuples, so that two operations are the same where their values are, whatever the padding.
+A record has its form in the annotations of its fields, by which it is read and written. Two operations are the same
+where their values are, whatever the padding.
 """
-from collections import namedtuple
-from collections.abc import Callable, Iterator
+from collections.abc import Callable, Iterator, Sequence
 from enum import IntEnum
-from typing import Any
+from io import BytesIO
+from typing import Annotated, Any, NamedTuple, get_origin, get_type_hints
 
 RECORD_LIMIT = 262144
 OWNER_LIMIT = 1024
@@ -13,74 +14,23 @@ FILEHANDLE_LIMIT = 128
 BODY_LIMIT = 400
 
 
-class Status(IntEnum):
-    """nfsstat4 of RFC 7531: the ones that this server gives."""
-    OK = 0
-    NOENT = 2
-    ACCESS = 13
-    EXIST = 17
-    NOTDIR = 20
-    ISDIR = 21
-    INVAL = 22
-    FBIG = 27
-    ROFS = 30
-    NAMETOOLONG = 63
-    BADHANDLE = 10001
-    BAD_COOKIE = 10003
-    NOTSUPP = 10004
-    TOOSMALL = 10005
-    DELAY = 10008
-    DENIED = 10010
-    EXPIRED = 10011
-    LOCKED = 10012
-    SHARE_DENIED = 10015
-    CLID_INUSE = 10017
-    RESOURCE = 10018
-    NOFILEHANDLE = 10020
-    MINOR_VERS_MISMATCH = 10021
-    STALE_CLIENTID = 10022
-    STALE_STATEID = 10023
-    OLD_STATEID = 10024
-    BAD_STATEID = 10025
-    BAD_SEQID = 10026
-    NOT_SAME = 10027
-    RESTOREFH = 10030
-    ATTRNOTSUPP = 10032
-    NO_GRACE = 10033
-    BADXDR = 10036
-    LOCKS_HELD = 10037
-    OPENMODE = 10038
-    OP_ILLEGAL = 10044
+# nfsstat4 of RFC 7531: the ones that this server gives.
+Status = IntEnum("Status", {
+    "OK": 0, "NOENT": 2, "ACCESS": 13, "EXIST": 17, "NOTDIR": 20, "ISDIR": 21, "INVAL": 22, "FBIG": 27, "ROFS": 30,
+    "NAMETOOLONG": 63, "BADHANDLE": 10001, "BAD_COOKIE": 10003, "NOTSUPP": 10004, "TOOSMALL": 10005, "DELAY": 10008,
+    "DENIED": 10010, "EXPIRED": 10011, "LOCKED": 10012, "SHARE_DENIED": 10015, "CLID_INUSE": 10017, "RESOURCE": 10018,
+    "NOFILEHANDLE": 10020, "MINOR_VERS_MISMATCH": 10021, "STALE_CLIENTID": 10022, "STALE_STATEID": 10023,
+    "OLD_STATEID": 10024, "BAD_STATEID": 10025, "BAD_SEQID": 10026, "NOT_SAME": 10027, "RESTOREFH": 10030,
+    "ATTRNOTSUPP": 10032, "NO_GRACE": 10033, "BADXDR": 10036, "LOCKS_HELD": 10037, "OPENMODE": 10038,
+    "OP_ILLEGAL": 10044})
 
 
-class Opnum(IntEnum):
-    """nfs_opnum4 of RFC 7531: the operations that have a rule in the model, and ILLEGAL."""
-    ACCESS = 3
-    CLOSE = 4
-    COMMIT = 5
-    DELEGRETURN = 8
-    GETATTR = 9
-    GETFH = 10
-    LOCK = 12
-    LOCKT = 13
-    LOCKU = 14
-    LOOKUP = 15
-    OPEN = 18
-    OPEN_CONFIRM = 20
-    OPEN_DOWNGRADE = 21
-    PUTFH = 22
-    PUTROOTFH = 24
-    READ = 25
-    READDIR = 26
-    RENEW = 30
-    RESTOREFH = 31
-    SAVEFH = 32
-    SETATTR = 34
-    SETCLIENTID = 35
-    SETCLIENTID_CONFIRM = 36
-    WRITE = 38
-    RELEASE_LOCKOWNER = 39
-    ILLEGAL = 10044
+# nfs_opnum4 of RFC 7531: the operations that have a rule in the model, and ILLEGAL.
+Opnum = IntEnum("Opnum", {
+    "ACCESS": 3, "CLOSE": 4, "COMMIT": 5, "DELEGRETURN": 8, "GETATTR": 9, "GETFH": 10, "LOCK": 12, "LOCKT": 13,
+    "LOCKU": 14, "LOOKUP": 15, "OPEN": 18, "OPEN_CONFIRM": 20, "OPEN_DOWNGRADE": 21, "PUTFH": 22, "PUTROOTFH": 24,
+    "READ": 25, "READDIR": 26, "RENEW": 30, "RESTOREFH": 31, "SAVEFH": 32, "SETATTR": 34, "SETCLIENTID": 35,
+    "SETCLIENTID_CONFIRM": 36, "WRITE": 38, "RELEASE_LOCKOWNER": 39, "ILLEGAL": 10044})
 
 
 # The other operations of RFC 7531, which have no rule in the model.
@@ -164,25 +114,44 @@ def opaque(value: bytes) -> bytes:
     return u32(len(value)) + value + bytes(-len(value) % 4)
 
 
-def bitmap(words: list[int] | tuple[int, ...]) -> bytes:
+def bitmap(words: Sequence[int]) -> bytes:
     return u32(len(words), *words)
 
 
-# Types that several operations have.
+# Forms: how a value is read, and how it is written. The fields of a record have theirs in their annotations.
 
-# A stateid by the parts that this server gives its 12 bytes of `other`.
-Stateid = namedtuple("Stateid", "seqid epoch client number")
-# An open owner and a lock owner: a clientid by its two halves, and the owner's bytes.
-OpenOwner = namedtuple("OpenOwner", "epoch client name")
-LockOwner = namedtuple("LockOwner", "epoch client name")
-# Who locks: an owner that has no lock state on the file yet, by an open; or one that has, by its lock state.
-NewLocker = namedtuple("NewLocker", "open_seqid open_stateid lock_seqid owner")
-KnownLocker = namedtuple("KnownLocker", "lock_stateid lock_seqid")
-Callback = namedtuple("Callback", "program netid address ident")
-# How an OPEN creates: its opentype, and with OPEN4_CREATE the createmode and the attributes or the verifier.
-Openhow = namedtuple("Openhow", "create mode value")
-# Which file an OPEN names: the claim, the name, and the delegation's type or stateid, each where the claim has it.
-Claim = namedtuple("Claim", "kind name delegation")
+class Form(NamedTuple):
+    read: Callable[[Reader], Any]
+    write: Callable[[Any], bytes]
+
+
+def form_of(kind: Any) -> Form:
+    """That of an annotation, or of a record, which is its fields in their order."""
+    if get_origin(kind) is Annotated:
+        form: Form = kind.__metadata__[0]
+        return form
+    forms = [form_of(each) for each in get_type_hints(kind, include_extras=True).values()]
+    return Form(lambda reader: kind(*[form.read(reader) for form in forms]),
+                lambda record: b"".join([form.write(value) for form, value in zip(forms, record)]))
+
+
+def one_of(count: int, first: int = 0) -> Form:
+    return Form(lambda reader: reader.one_of(count, first), u32)
+
+
+def bytes_up_to(limit: int) -> Form:
+    return Form(lambda reader: reader.opaque(limit), opaque)
+
+
+Word = Annotated[int, Form(lambda reader: reader.u32(), u32)]
+Long = Annotated[int, Form(lambda reader: reader.u64(), u64)]
+Bool = Annotated[int, one_of(2)]
+Mask = Annotated[Sequence[int], Form(lambda reader: reader.bitmap(), bitmap)]
+Verifier = Annotated[bytes, Form(lambda reader: reader.fixed(8), bytes)]
+Text = Annotated[bytes, Form(lambda reader: reader.opaque(), opaque)]
+Data = Annotated[bytes, Form(lambda reader: reader.file_bytes(), opaque)]
+Name = Annotated[bytes, bytes_up_to(OWNER_LIMIT)]
+Filehandle = Annotated[bytes, bytes_up_to(FILEHANDLE_LIMIT)]
 
 # What an open has access to, or denies; and what a delegation is for.
 READ, WRITE, BOTH = 1, 2, 3
@@ -192,141 +161,110 @@ OPEN4_NOCREATE, OPEN4_CREATE = 0, 1
 UNCHECKED4, GUARDED4, EXCLUSIVE4 = 0, 1, 2
 CLAIM_NULL, CLAIM_PREVIOUS, CLAIM_DELEGATE_CUR, CLAIM_DELEGATE_PREV = 0, 1, 2, 3
 UNSTABLE4, DATA_SYNC4, FILE_SYNC4 = 0, 1, 2
+NF4BLK, NF4CHR, NF4LNK = 3, 4, 5
 
 
-def read_stateid(reader: Reader) -> Stateid:
-    return Stateid(reader.u32(), reader.u32(), reader.u32(), reader.u32())
+# Types that several operations have.
 
-
-def read_open_owner(reader: Reader) -> OpenOwner:
-    return OpenOwner(reader.u32(), reader.u32(), reader.opaque(OWNER_LIMIT))
-
-
-def read_lock_owner(reader: Reader) -> LockOwner:
-    return LockOwner(reader.u32(), reader.u32(), reader.opaque(OWNER_LIMIT))
-
-
-def read_lock_type(reader: Reader) -> int:
-    return reader.one_of(4, first=READ_LT)
-
-
-def read_locker(reader: Reader) -> KnownLocker | NewLocker:
-    if reader.one_of(2):
-        return NewLocker(reader.u32(), read_stateid(reader), reader.u32(), read_lock_owner(reader))
-    return KnownLocker(read_stateid(reader), reader.u32())
+# By the parts that this server gives its 12 bytes of `other`.
+Stateid = NamedTuple("Stateid", [("seqid", Word), ("epoch", Word), ("client", Word), ("number", Word)])
+# An open owner and a lock owner: a clientid by its two halves, and the owner's bytes.
+OpenOwner = NamedTuple("OpenOwner", [("epoch", Word), ("client", Word), ("name", Name)])
+LockOwner = NamedTuple("LockOwner", [("epoch", Word), ("client", Word), ("name", Name)])
+# Values of attributes: the mask, and all of them behind one another.
+FATTR = Form(lambda reader: (reader.bitmap(), reader.opaque()), lambda pair: bitmap(pair[0]) + opaque(pair[1]))
+Fattr = Annotated[tuple[Sequence[int], bytes], FATTR]
+# Who locks: an owner that has no lock state on the file yet, by an open; or one that has, by its lock state.
+NewLocker = NamedTuple("NewLocker", [
+    ("open_seqid", Word), ("open_stateid", Stateid), ("lock_seqid", Word), ("owner", LockOwner)])
+KnownLocker = NamedTuple("KnownLocker", [("lock_stateid", Stateid), ("lock_seqid", Word)])
+Callback = NamedTuple("Callback", [("program", Word), ("netid", Text), ("address", Text), ("ident", Word)])
+# How an OPEN creates: its opentype, and with OPEN4_CREATE the createmode and the attributes or the verifier.
+Openhow = NamedTuple("Openhow", [("create", int), ("mode", int | None), ("value", Any)])
+# Which file an OPEN names: the claim, the name, and the delegation's type or stateid, each where the claim has it.
+Claim = NamedTuple("Claim", [("kind", int), ("name", Any), ("delegation", Any)])
+STATEID, KNOWN_LOCKER, NEW_LOCKER = map(form_of, (Stateid, KnownLocker, NewLocker))
 
 
 def read_openhow(reader: Reader) -> Openhow:
     if reader.one_of(2) == OPEN4_NOCREATE:
         return Openhow(OPEN4_NOCREATE, None, None)
     mode = reader.one_of(3)
-    if mode == EXCLUSIVE4:
-        return Openhow(OPEN4_CREATE, mode, reader.fixed(8))
-    return Openhow(OPEN4_CREATE, mode, (reader.bitmap(), reader.opaque()))
+    return Openhow(OPEN4_CREATE, mode, reader.fixed(8) if mode == EXCLUSIVE4 else FATTR.read(reader))
+
+
+def openhow_bytes(how: Openhow) -> bytes:
+    if how.mode is None:
+        return u32(how.create)
+    value: bytes = how.value if how.mode == EXCLUSIVE4 else FATTR.write(how.value)
+    return u32(how.create, how.mode) + value
 
 
 def read_claim(reader: Reader) -> Claim:
     kind = reader.one_of(4)
     if kind == CLAIM_PREVIOUS:
         return Claim(kind, None, reader.one_of(3))
-    delegation = read_stateid(reader) if kind == CLAIM_DELEGATE_CUR else None
+    delegation = STATEID.read(reader) if kind == CLAIM_DELEGATE_CUR else None
     return Claim(kind, reader.opaque(), delegation)
+
+
+def claim_bytes(claim: Claim) -> bytes:
+    if claim.kind == CLAIM_PREVIOUS:
+        return u32(claim.kind, claim.delegation)
+    stateid = claim.delegation if claim.kind == CLAIM_DELEGATE_CUR else ()
+    return u32(claim.kind, *stateid) + opaque(claim.name)
+
+
+LockType = Annotated[int, one_of(4, first=READ_LT)]
+Locker = Annotated[KnownLocker | NewLocker, Form(
+    lambda reader: (NEW_LOCKER if reader.one_of(2) else KNOWN_LOCKER).read(reader),
+    lambda locker: u32(1) + NEW_LOCKER.write(locker) if isinstance(locker, NewLocker)
+    else u32(0) + KNOWN_LOCKER.write(locker))]
+How = Annotated[Openhow, Form(read_openhow, openhow_bytes)]
+ClaimOfOpen = Annotated[Claim, Form(read_claim, claim_bytes)]
 
 
 # The arguments of each operation, in the order of their fields.
 
-Access = namedtuple("Access", "access")
-Close = namedtuple("Close", "seqid stateid")
-Commit = namedtuple("Commit", "offset count")
-Delegreturn = namedtuple("Delegreturn", "stateid")
-Getattr = namedtuple("Getattr", "mask")
-Getfh = namedtuple("Getfh", "")
-Lock = namedtuple("Lock", "locktype reclaim offset length locker")
-Lockt = namedtuple("Lockt", "locktype offset length owner")
-Locku = namedtuple("Locku", "locktype seqid stateid offset length")
-Lookup = namedtuple("Lookup", "name")
-Open = namedtuple("Open", "seqid access deny owner how claim")
-OpenConfirm = namedtuple("OpenConfirm", "stateid seqid")
-OpenDowngrade = namedtuple("OpenDowngrade", "stateid seqid access deny")
-Putfh = namedtuple("Putfh", "filehandle")
-Putrootfh = namedtuple("Putrootfh", "")
-Read = namedtuple("Read", "stateid offset count")
-Readdir = namedtuple("Readdir", "cookie verifier dircount maxcount mask")
-ReleaseLockowner = namedtuple("ReleaseLockowner", "owner")
-Renew = namedtuple("Renew", "epoch client")
-Restorefh = namedtuple("Restorefh", "")
-Savefh = namedtuple("Savefh", "")
-Setattr = namedtuple("Setattr", "stateid attributes")
-Setclientid = namedtuple("Setclientid", "verifier id callback")
-SetclientidConfirm = namedtuple("SetclientidConfirm", "epoch client confirm")
-Write = namedtuple("Write", "stateid offset stable data")
+# Of those that have none.
+Nothing = NamedTuple("Nothing", [])
+Access = NamedTuple("Access", [("access", Word)])
+Close = NamedTuple("Close", [("seqid", Word), ("stateid", Stateid)])
+Commit = NamedTuple("Commit", [("offset", Long), ("count", Word)])
+Delegreturn = NamedTuple("Delegreturn", [("stateid", Stateid)])
+Getattr = NamedTuple("Getattr", [("mask", Mask)])
+Lock = NamedTuple("Lock", [
+    ("locktype", LockType), ("reclaim", Bool), ("offset", Long), ("length", Long), ("locker", Locker)])
+Lockt = NamedTuple("Lockt", [("locktype", LockType), ("offset", Long), ("length", Long), ("owner", LockOwner)])
+Locku = NamedTuple("Locku", [
+    ("locktype", LockType), ("seqid", Word), ("stateid", Stateid), ("offset", Long), ("length", Long)])
+Lookup = NamedTuple("Lookup", [("name", Text)])
+Open = NamedTuple("Open", [
+    ("seqid", Word), ("access", Word), ("deny", Word), ("owner", OpenOwner), ("how", How), ("claim", ClaimOfOpen)])
+OpenConfirm = NamedTuple("OpenConfirm", [("stateid", Stateid), ("seqid", Word)])
+OpenDowngrade = NamedTuple("OpenDowngrade", [("stateid", Stateid), ("seqid", Word), ("access", Word), ("deny", Word)])
+Putfh = NamedTuple("Putfh", [("filehandle", Filehandle)])
+Read = NamedTuple("Read", [("stateid", Stateid), ("offset", Long), ("count", Word)])
+Readdir = NamedTuple("Readdir", [
+    ("cookie", Long), ("verifier", Verifier), ("dircount", Word), ("maxcount", Word), ("mask", Mask)])
+ReleaseLockowner = NamedTuple("ReleaseLockowner", [("owner", LockOwner)])
+Renew = NamedTuple("Renew", [("epoch", Word), ("client", Word)])
+Setattr = NamedTuple("Setattr", [("stateid", Stateid), ("attributes", Fattr)])
+Setclientid = NamedTuple("Setclientid", [("verifier", Verifier), ("id", Name), ("callback", Callback)])
+SetclientidConfirm = NamedTuple("SetclientidConfirm", [("epoch", Word), ("client", Word), ("confirm", Long)])
+Write = NamedTuple("Write", [
+    ("stateid", Stateid), ("offset", Long), ("stable", Annotated[int, one_of(3)]), ("data", Data)])
 
-
-def read_attributes(reader: Reader) -> tuple[tuple[int, ...], bytes]:
-    """A fattr4: the mask, and the values as bytes."""
-    return reader.bitmap(), reader.opaque()
-
-
-def read_readdir(reader: Reader) -> Readdir:
-    return Readdir(reader.u64(), reader.fixed(8), reader.u32(), reader.u32(), reader.bitmap())
-
-
-def read_open(reader: Reader) -> Open:
-    seqid, access, deny = reader.u32(), reader.u32(), reader.u32()
-    return Open(seqid, access, deny, read_open_owner(reader), read_openhow(reader), read_claim(reader))
-
-
-def read_setclientid(reader: Reader) -> Setclientid:
-    verifier, name, program = reader.fixed(8), reader.opaque(OWNER_LIMIT), reader.u32()
-    return Setclientid(verifier, name, Callback(program, reader.opaque(), reader.opaque(), reader.u32()))
-
-
-ARGUMENTS: dict[int, Callable[[Reader], Any]] = {
-    Opnum.ACCESS: lambda r: Access(r.u32()),
-    Opnum.CLOSE: lambda r: Close(r.u32(), read_stateid(r)),
-    Opnum.COMMIT: lambda r: Commit(r.u64(), r.u32()),
-    Opnum.DELEGRETURN: lambda r: Delegreturn(read_stateid(r)),
-    Opnum.GETATTR: lambda r: Getattr(r.bitmap()),
-    Opnum.GETFH: lambda r: Getfh(),
-    Opnum.LOCK: lambda r: Lock(read_lock_type(r), r.one_of(2), r.u64(), r.u64(), read_locker(r)),
-    Opnum.LOCKT: lambda r: Lockt(read_lock_type(r), r.u64(), r.u64(), read_lock_owner(r)),
-    Opnum.LOCKU: lambda r: Locku(read_lock_type(r), r.u32(), read_stateid(r), r.u64(), r.u64()),
-    Opnum.LOOKUP: lambda r: Lookup(r.opaque()),
-    Opnum.OPEN: read_open,
-    Opnum.OPEN_CONFIRM: lambda r: OpenConfirm(read_stateid(r), r.u32()),
-    Opnum.OPEN_DOWNGRADE: lambda r: OpenDowngrade(read_stateid(r), r.u32(), r.u32(), r.u32()),
-    Opnum.PUTFH: lambda r: Putfh(r.opaque(FILEHANDLE_LIMIT)),
-    Opnum.PUTROOTFH: lambda r: Putrootfh(),
-    Opnum.READ: lambda r: Read(read_stateid(r), r.u64(), r.u32()),
-    Opnum.READDIR: read_readdir,
-    Opnum.RENEW: lambda r: Renew(r.u32(), r.u32()),
-    Opnum.RESTOREFH: lambda r: Restorefh(),
-    Opnum.SAVEFH: lambda r: Savefh(),
-    Opnum.SETATTR: lambda r: Setattr(read_stateid(r), read_attributes(r)),
-    Opnum.SETCLIENTID: read_setclientid,
-    Opnum.SETCLIENTID_CONFIRM: lambda r: SetclientidConfirm(r.u32(), r.u32(), r.u64()),
-    Opnum.WRITE: lambda r: Write(read_stateid(r), r.u64(), r.one_of(3), r.file_bytes()),
-    Opnum.RELEASE_LOCKOWNER: lambda r: ReleaseLockowner(read_lock_owner(r)),
-}
-
-
-# The arguments of the operations that have no rule in the model, by their numbers. The model doesn't read them.
+# Of the operations that have no rule in the model, which doesn't read them.
 
 # What is created: its type, the text of a symbolic link or the two numbers of a device, its name and attributes.
-Create = namedtuple("Create", "kind value name attributes")
-Delegpurge = namedtuple("Delegpurge", "epoch client")
-Link = namedtuple("Link", "name")
-Lookupp = namedtuple("Lookupp", "")
-Nverify = namedtuple("Nverify", "attributes")
-Openattr = namedtuple("Openattr", "create")
-Putpubfh = namedtuple("Putpubfh", "")
-Readlink = namedtuple("Readlink", "")
-Remove = namedtuple("Remove", "name")
-Rename = namedtuple("Rename", "old new")
-Secinfo = namedtuple("Secinfo", "name")
-Verify = namedtuple("Verify", "attributes")
-
-NF4BLK, NF4CHR, NF4LNK = 3, 4, 5
+Create = NamedTuple("Create", [("kind", int), ("value", Any), ("name", bytes), ("attributes", Fattr)])
+# LINK and SECINFO have the same, and DELEGPURGE the same as RENEW.
+Remove = NamedTuple("Remove", [("name", Text)])
+Rename = NamedTuple("Rename", [("old", Text), ("new", Text)])
+# NVERIFY has the same.
+Verify = NamedTuple("Verify", [("attributes", Fattr)])
+Openattr = NamedTuple("Openattr", [("create", Bool)])
 
 
 def read_create(reader: Reader) -> Create:
@@ -336,72 +274,70 @@ def read_create(reader: Reader) -> Create:
         value = reader.opaque()
     elif kind in (NF4BLK, NF4CHR):
         value = reader.u32(), reader.u32()
-    return Create(kind, value, reader.opaque(), read_attributes(reader))
+    return Create(kind, value, reader.opaque(), FATTR.read(reader))
 
 
-OTHER_ARGUMENTS = {
-    OTHER_OPERATIONS["CREATE"]: read_create,
-    OTHER_OPERATIONS["DELEGPURGE"]: lambda r: Delegpurge(r.u32(), r.u32()),
-    OTHER_OPERATIONS["LINK"]: lambda r: Link(r.opaque()),
-    OTHER_OPERATIONS["LOOKUPP"]: lambda r: Lookupp(),
-    OTHER_OPERATIONS["NVERIFY"]: lambda r: Nverify(read_attributes(r)),
-    OTHER_OPERATIONS["OPENATTR"]: lambda r: Openattr(r.one_of(2)),
-    OTHER_OPERATIONS["PUTPUBFH"]: lambda r: Putpubfh(),
-    OTHER_OPERATIONS["READLINK"]: lambda r: Readlink(),
-    OTHER_OPERATIONS["REMOVE"]: lambda r: Remove(r.opaque()),
-    OTHER_OPERATIONS["RENAME"]: lambda r: Rename(r.opaque(), r.opaque()),
-    OTHER_OPERATIONS["SECINFO"]: lambda r: Secinfo(r.opaque()),
-    OTHER_OPERATIONS["VERIFY"]: lambda r: Verify(read_attributes(r)),
-}
+FORMS: dict[int, Form] = {number: form_of(record) for number, record in {
+    Opnum.ACCESS: Access, Opnum.CLOSE: Close, Opnum.COMMIT: Commit, Opnum.DELEGRETURN: Delegreturn,
+    Opnum.GETATTR: Getattr, Opnum.GETFH: Nothing, Opnum.LOCK: Lock, Opnum.LOCKT: Lockt, Opnum.LOCKU: Locku,
+    Opnum.LOOKUP: Lookup, Opnum.OPEN: Open, Opnum.OPEN_CONFIRM: OpenConfirm, Opnum.OPEN_DOWNGRADE: OpenDowngrade,
+    Opnum.PUTFH: Putfh, Opnum.PUTROOTFH: Nothing, Opnum.READ: Read, Opnum.READDIR: Readdir, Opnum.RENEW: Renew,
+    Opnum.RESTOREFH: Nothing, Opnum.SAVEFH: Nothing, Opnum.SETATTR: Setattr, Opnum.SETCLIENTID: Setclientid,
+    Opnum.SETCLIENTID_CONFIRM: SetclientidConfirm, Opnum.WRITE: Write, Opnum.RELEASE_LOCKOWNER: ReleaseLockowner,
+}.items()}
+ARGUMENTS = {number: form.read for number, form in FORMS.items()}
+OTHER_ARGUMENTS = {OTHER_OPERATIONS["CREATE"]: read_create} | {
+    OTHER_OPERATIONS[name]: form_of(record).read for name, record in {
+        "DELEGPURGE": Renew, "LINK": Remove, "LOOKUPP": Nothing, "NVERIFY": Verify, "OPENATTR": Openattr,
+        "PUTPUBFH": Nothing, "READLINK": Nothing, "REMOVE": Remove, "RENAME": Rename, "SECINFO": Remove,
+        "VERIFY": Verify}.items()}
 ALL_ARGUMENTS = {**ARGUMENTS, **OTHER_ARGUMENTS}
 
 
 # The results of all operations, as any server gives them: what follows the status.
 
 # A directory before and after a change, and whether nothing came between.
-Change = namedtuple("Change", "is_atomic before after")
+Change = NamedTuple("Change", [("is_atomic", Bool), ("before", Long), ("after", Long)])
+CHANGE = form_of(Change)
 # A lock in the way of another.
-Denied = namedtuple("Denied", "offset length locktype owner")
-Opened = namedtuple("Opened", "stateid change flags mask delegation")
+Denied = NamedTuple("Denied", [("offset", Long), ("length", Long), ("locktype", LockType), ("owner", LockOwner)])
+# What a user may do with a file: an nfsace4.
+AccessEntry = NamedTuple("AccessEntry", [("kind", Word), ("flag", Word), ("mask", Word), ("who", Text)])
+ACCESS_ENTRY = form_of(AccessEntry)
+Opened = NamedTuple("Opened", [
+    ("stateid", Stateid), ("change", Change), ("flags", int), ("mask", tuple[int, ...]),
+    ("delegation", "Delegation | None")])
 # A delegation: its type, stateid, and whether it is called back at once; how much a client may write under it, or None;
 # and who may open the file without asking.
-Delegation = namedtuple("Delegation", "kind stateid is_recalled limit entry")
-# What a user may do with a file: an nfsace4.
-AccessEntry = namedtuple("AccessEntry", "kind flag mask who")
-DirectoryEntry = namedtuple("DirectoryEntry", "cookie name attributes")
-
-
-def read_change(reader: Reader) -> Change:
-    return Change(reader.one_of(2), reader.u64(), reader.u64())
-
-
-def read_denied(reader: Reader) -> Denied:
-    return Denied(reader.u64(), reader.u64(), read_lock_type(reader), read_lock_owner(reader))
-
-
-def read_access_entry(reader: Reader) -> AccessEntry:
-    return AccessEntry(reader.u32(), reader.u32(), reader.u32(), reader.opaque())
+Delegation = NamedTuple("Delegation", [
+    ("kind", int), ("stateid", Stateid), ("is_recalled", int), ("limit", tuple[int, int] | None),
+    ("entry", AccessEntry)])
 
 
 def read_delegation(reader: Reader) -> Delegation | None:
     kind = reader.one_of(3)
     if kind == OPEN_DELEGATE_NONE:
         return None
-    stateid, is_recalled = read_stateid(reader), reader.one_of(2)
+    stateid, is_recalled = STATEID.read(reader), reader.one_of(2)
     # A number of bytes, or of blocks and their size, which are as long.
     limit = (reader.one_of(2, first=1), reader.u64()) if kind == OPEN_DELEGATE_WRITE else None
-    return Delegation(kind, stateid, is_recalled, limit, read_access_entry(reader))
+    return Delegation(kind, stateid, is_recalled, limit, ACCESS_ENTRY.read(reader))
 
 
 def read_opened(reader: Reader) -> Opened:
-    return Opened(read_stateid(reader), read_change(reader), reader.u32(), reader.bitmap(), read_delegation(reader))
+    change = STATEID.read(reader), CHANGE.read(reader)
+    return Opened(*change, reader.u32(), reader.bitmap(), read_delegation(reader))
+
+
+DirectoryEntry = NamedTuple("DirectoryEntry", [("cookie", Long), ("name", Text), ("attributes", Fattr)])
+DIRECTORY_ENTRY = form_of(DirectoryEntry)
 
 
 def read_directory(reader: Reader) -> tuple[bytes, list[DirectoryEntry], int]:
     """The verifier, the entries, and whether they are the last."""
     verifier, entries = reader.fixed(8), []
     while reader.one_of(2):
-        entries.append(DirectoryEntry(reader.u64(), reader.opaque(), read_attributes(reader)))
+        entries.append(DIRECTORY_ENTRY.read(reader))
     return verifier, entries, reader.one_of(2)
 
 
@@ -417,36 +353,36 @@ def read_flavors(reader: Reader) -> list[tuple[Any, ...]]:
 # By the operation's number, where the status is OK; of the operations that aren't here nothing follows.
 RESULTS: dict[int, Callable[[Reader], Any]] = {
     Opnum.ACCESS: lambda r: (r.u32(), r.u32()),
-    Opnum.CLOSE: read_stateid,
+    Opnum.CLOSE: STATEID.read,
     Opnum.COMMIT: lambda r: r.fixed(8),
-    Opnum.GETATTR: read_attributes,
+    Opnum.GETATTR: FATTR.read,
     Opnum.GETFH: lambda r: r.opaque(FILEHANDLE_LIMIT),
-    Opnum.LOCK: read_stateid,
-    Opnum.LOCKU: read_stateid,
+    Opnum.LOCK: STATEID.read,
+    Opnum.LOCKU: STATEID.read,
     Opnum.OPEN: read_opened,
-    Opnum.OPEN_CONFIRM: read_stateid,
-    Opnum.OPEN_DOWNGRADE: read_stateid,
+    Opnum.OPEN_CONFIRM: STATEID.read,
+    Opnum.OPEN_DOWNGRADE: STATEID.read,
     Opnum.READ: lambda r: (r.one_of(2), r.file_bytes()),
     Opnum.READDIR: read_directory,
     Opnum.SETATTR: lambda r: r.bitmap(),
     Opnum.SETCLIENTID: lambda r: (r.u32(), r.u32(), r.u64()),
     Opnum.WRITE: lambda r: (r.u32(), r.one_of(3), r.fixed(8)),
-    OTHER_OPERATIONS["CREATE"]: lambda r: (read_change(r), r.bitmap()),
-    OTHER_OPERATIONS["LINK"]: read_change,
+    OTHER_OPERATIONS["CREATE"]: lambda r: (CHANGE.read(r), r.bitmap()),
+    OTHER_OPERATIONS["LINK"]: CHANGE.read,
     OTHER_OPERATIONS["READLINK"]: lambda r: r.opaque(),
-    OTHER_OPERATIONS["REMOVE"]: read_change,
-    OTHER_OPERATIONS["RENAME"]: lambda r: (read_change(r), read_change(r)),
+    OTHER_OPERATIONS["REMOVE"]: CHANGE.read,
+    OTHER_OPERATIONS["RENAME"]: lambda r: (CHANGE.read(r), CHANGE.read(r)),
     OTHER_OPERATIONS["SECINFO"]: read_flavors,
 }
 # By the number and another status.
 OTHER_RESULTS: dict[tuple[int, int], Callable[[Reader], Any]] = {
-    (Opnum.LOCK, Status.DENIED): read_denied,
-    (Opnum.LOCKT, Status.DENIED): read_denied,
+    (Opnum.LOCK, Status.DENIED): form_of(Denied).read,
+    (Opnum.LOCKT, Status.DENIED): form_of(Denied).read,
     (Opnum.SETCLIENTID, Status.CLID_INUSE): lambda r: (r.opaque(), r.opaque()),
 }
 
 # A result: the operation's number, the status, and what follows.
-OperationResult = namedtuple("OperationResult", "number status value")
+OperationResult = NamedTuple("OperationResult", [("number", int), ("status", int), ("value", Any)])
 
 
 def read_result(reader: Reader) -> OperationResult:
@@ -459,43 +395,49 @@ def read_result(reader: Reader) -> OperationResult:
 # The operations by which a server calls a client, with their arguments and results.
 
 CALLBACK_OPERATIONS = {"CB_GETATTR": 3, "CB_RECALL": 4}
-CallbackGetattr = namedtuple("CallbackGetattr", "filehandle mask")
-CallbackRecall = namedtuple("CallbackRecall", "stateid truncate filehandle")
-
-CALLBACK_ARGUMENTS = {
-    CALLBACK_OPERATIONS["CB_GETATTR"]: lambda r: CallbackGetattr(r.opaque(FILEHANDLE_LIMIT), r.bitmap()),
-    CALLBACK_OPERATIONS["CB_RECALL"]: lambda r: CallbackRecall(
-        read_stateid(r), r.one_of(2), r.opaque(FILEHANDLE_LIMIT)),
-}
+CallbackGetattr = NamedTuple("CallbackGetattr", [("filehandle", Filehandle), ("mask", Mask)])
+CallbackRecall = NamedTuple("CallbackRecall", [("stateid", Stateid), ("truncate", Bool), ("filehandle", Filehandle)])
+CALLBACK_ARGUMENTS = {CALLBACK_OPERATIONS["CB_GETATTR"]: form_of(CallbackGetattr).read,
+                      CALLBACK_OPERATIONS["CB_RECALL"]: form_of(CallbackRecall).read}
 
 
 def read_callback_result(reader: Reader) -> OperationResult:
     number, status = reader.u32(), reader.u32()
     is_read = (number, status) == (CALLBACK_OPERATIONS["CB_GETATTR"], Status.OK)
-    return OperationResult(number, status, read_attributes(reader) if is_read else None)
+    return OperationResult(number, status, FATTR.read(reader) if is_read else None)
 
 
 # Records (RFC 5531, section 11).
 
+def records(take: Callable[[int], bytes]) -> Iterator[bytes]:
+    """The records of a connection, as they come, up to its end; or the Fault of a connection that ends otherwise.
+    `take` gives so many bytes, or what there is before the end."""
+    body, is_inside = b"", False
+    while True:
+        header = take(4)
+        if header == b"" and not is_inside:
+            return
+        length = int.from_bytes(header, "big") & 0x7FFFFFFF
+        if len(header) == 4 and len(body) + length > RECORD_LIMIT:
+            raise Fault("record too long")
+        part = take(length) if len(header) == 4 else b""
+        if len(header) < 4 or len(part) < length:
+            raise Fault("input ends inside a record")
+        body, is_inside = body + part, True
+        if header[0] >> 7:
+            yield body
+            body, is_inside = b"", False
+
+
 def split_records(data: bytes) -> tuple[list[bytes], str | None]:
     """The whole records, and what ends the connection: None after a whole record, else the program's fault."""
-    records: list[bytes] = []
-    body, at, is_inside = b"", 0, False
-    while at < len(data):
-        is_inside = True
-        if len(data) - at < 4:
-            break
-        header = int.from_bytes(data[at:at + 4], "big")
-        length, at = header & 0x7FFFFFFF, at + 4
-        if len(body) + length > RECORD_LIMIT:
-            return records, "record too long"
-        if len(data) - at < length:
-            break
-        body, at = body + data[at:at + length], at + length
-        if header >> 31:
-            records.append(body)
-            body, is_inside = b"", False
-    return records, "input ends inside a record" if is_inside else None
+    found: list[bytes] = []
+    try:
+        for each in records(BytesIO(data).read):
+            found.append(each)
+    except Fault as fault:
+        return found, str(fault)
+    return found, None
 
 
 def record(body: bytes) -> bytes:
@@ -514,8 +456,11 @@ NFS4_PROGRAM, NFS_V4 = 100003, 4
 NFSPROC4_NULL, NFSPROC4_COMPOUND = 0, 1
 SUCCESS, PROG_UNAVAIL, PROG_MISMATCH, PROC_UNAVAIL, GARBAGE_ARGS, SYSTEM_ERR = 0, 1, 2, 3, 4, 5
 
+# Who calls: the flavor, and under AUTH_SYS the uid.
+Principal = tuple[int, int]
 # A COMPOUND that can be called: who calls, its head, and a reader of its operations.
-CompoundCall = namedtuple("CompoundCall", "xid principal tag minor count operations")
+CompoundCall = NamedTuple("CompoundCall", [
+    ("xid", int), ("principal", Principal), ("tag", bytes), ("minor", int), ("count", int), ("operations", Reader)])
 
 
 def accepted(xid: int, state: int, rest: bytes = b"") -> bytes:
@@ -561,8 +506,7 @@ def read_call(data: bytes) -> bytes | CompoundCall | None:
         return accepted(xid, GARBAGE_ARGS)
 
 
-def read_principal(flavor: int, body: bytes) -> tuple[int, int]:
-    """The flavor, and under AUTH_SYS the uid."""
+def read_principal(flavor: int, body: bytes) -> Principal:
     if flavor == AUTH_NONE:
         return (flavor, 0)
     if flavor != AUTH_SYS:
@@ -574,23 +518,3 @@ def read_principal(flavor: int, body: bytes) -> tuple[int, int]:
         raise Unreadable
     reader.fixed(4 * groups)
     return (flavor, uid)
-
-
-def records(take: Callable[[int], bytes]) -> Iterator[bytes]:
-    """The records of a connection, as they come, up to its end; or the Fault of a connection that ends otherwise.
-    `take` gives so many bytes, or what there is before the end."""
-    body, is_inside = b"", False
-    while True:
-        header = take(4)
-        if header == b"" and not is_inside:
-            return
-        length = int.from_bytes(header, "big") & 0x7FFFFFFF
-        if len(header) == 4 and len(body) + length > RECORD_LIMIT:
-            raise Fault("record too long")
-        part = take(length) if len(header) == 4 else b""
-        if len(header) < 4 or len(part) < length:
-            raise Fault("input ends inside a record")
-        body, is_inside = body + part, True
-        if header[0] >> 7:
-            yield body
-            body, is_inside = b"", False

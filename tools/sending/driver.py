@@ -63,11 +63,10 @@ import select
 import subprocess
 import sys
 import time
-from collections import namedtuple
-from typing import Any, BinaryIO
+from typing import Any, BinaryIO, NamedTuple
 
 from model.tree import DEFAULT
-from nfs4.served import TOP
+from nfs4.served import Process, TOP
 from nfs4.wire import u32, u64
 
 
@@ -83,16 +82,18 @@ FAULTS = {1: "input not read", 2: "output not written", 3: "record too long", 4:
 INSIDE = "input ends inside a record"
 
 # What came of a connection: the fault that ended it, or None; its replies; and the numbers of its receipts.
-Ended = namedtuple("Ended", "fault replies receipts")
+Ended = NamedTuple("Ended", [("fault", str | None), ("replies", bytes), ("receipts", list[int])])
 # What came of those that were served at once; and of the sweeps meanwhile: how many they were, and how many clients
 # they removed.
-Served = namedtuple("Served", "ended sweeps expired")
+Served = NamedTuple("Served", [("ended", list[Ended]), ("sweeps", int), ("expired", int)])
 # What came of a sweep; of a mark, the number of an error, or 0; of a revocation this, how many delegations were revoked
 # (0 or 1), and the number of the entry, or 0; and the same of a forgetting, with how many owners were forgotten.
-Swept = namedtuple("Swept", "expired kept changed refused revoked forgotten stopped")
-Marked = namedtuple("Marked", "error")
-Revoked = namedtuple("Revoked", "error revoked entry")
-Forgotten = namedtuple("Forgotten", "error forgotten entry")
+Swept = NamedTuple("Swept", [("expired", int), ("kept", int), ("changed", int), ("refused", int), ("revoked", int),
+                             ("forgotten", int), ("stopped", int)])
+Marked = NamedTuple("Marked", [("error", int)])
+Revoked = NamedTuple("Revoked", [("error", int), ("revoked", int), ("entry", int)])
+Forgotten = NamedTuple("Forgotten", [("error", int), ("forgotten", int), ("entry", int)])
+Came = Ended | Swept | Marked | Revoked | Forgotten | bytes | int
 # The errors of changes that no call asks for: the client isn't live, the journal is full, memory is refused.
 NOT_LIVE, FULL, MEMORY = 1, 3, 4
 
@@ -130,27 +131,15 @@ def head(way: int, lease: int = 90, epoch: int = 1, seats: int = 0, document: st
     return u32(way, lease, epoch, seats) + part(document.encode())
 
 
-class Driver:
+class Driver(Process):
     """A program that runs. All that it was sent, and all that it sent, is kept."""
 
     def __init__(self, path: str = PROGRAM, environment: dict[str, str] | None = None) -> None:
-        self.program: Any = subprocess.Popen([path], env=environment, bufsize=0, stdin=subprocess.PIPE,
-                                             stdout=subprocess.PIPE, stderr=subprocess.PIPE)
+        super().__init__([path], env=environment)
         self.orders, self.answers, self.at = bytearray(), bytearray(), 0
         # The numbers of all receipts so far.
         self.receipts: list[int] = []
         os.set_blocking(self.program.stdin.fileno(), False)
-
-    def __enter__(self) -> "Driver":
-        return self
-
-    def __exit__(self, *_: Any) -> None:
-        """However it comes to this, the program is gone then."""
-        if self.program.poll() is None:
-            self.program.kill()
-            self.program.wait()
-        for stream in (self.program.stdin, self.program.stdout, self.program.stderr):
-            stream.close()
 
     # The orders.
 
@@ -274,7 +263,7 @@ class Driver:
         """What there is to say where the output ends too early."""
         return failure_of(*self.ending())
 
-    def ending(self) -> tuple[int, str]:
+    def ending(self) -> tuple[int | None, str]:
         """The status, or None where the program doesn't end by itself; and what it wrote on standard error."""
         try:
             status = self.program.wait(PATIENCE)
@@ -284,7 +273,7 @@ class Driver:
         return status, self.program.stderr.read().decode(errors="replace")
 
 
-def failure_of(status: int, errors: str) -> Failed:
+def failure_of(status: int | None, errors: str) -> Failed:
     if (status, errors) == (2, "rows: out of memory\n"):
         return NoMemory("out of memory")
     return Failed(f"the program ends with status {status}: {errors.strip()}")

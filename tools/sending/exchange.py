@@ -4,14 +4,15 @@ back. By `Plain` the bytes are those of the row; by `Named` what a server choose
 A call in which an operation needs a name that an earlier one of the same call is the first to be given is sent in
 several by `Named`: each but the last ends with GETFH, and each but the first begins with PUTFH of that handle."""
 import os
-from collections import namedtuple
-from typing import Any
+from typing import Any, NamedTuple
 
 from nfs4 import wire
 from nfs4.messages import GETFH, NFS4_OK, PUTFH, PUTROOTFH, SETCLIENTID_CONFIRM, setclientid, split, xid
+from nfs4.reports import Failure
+from nfs4.rows import Connection, Row
 from nfs4.served import Peer, REPLY_PATIENCE
 from nfs4.wire import Opnum, opaque, record, u32
-from sending.names import Names, Site
+from sending.names import Bound, Names, Operation, Site
 from sending.replies import Reply, Value, difference, difference_of_results, first_difference, values_of
 
 # The seconds in which a reply would come behind the last call, where none is wanted for one of the calls.
@@ -19,13 +20,9 @@ SILENCE = 0.25
 # Where a call has its credential: behind the xid, CALL, the RPC version, the program, the version and the procedure.
 CREDENTIAL = 24
 
-# What is wrong, in words; and the bytes that were wanted and that came, where they are to be shown.
-Failure = namedtuple("Failure", "what wanted got")
-# An operation of a call: its number, its arguments, and its bytes with the number.
-Operation = namedtuple("Operation", "number arguments data")
 # A call of COMPOUND: its bytes up to the number of its operations, that number, its operations, and the bytes behind
 # them that can't be read.
-Asked = namedtuple("Asked", "head count operations rest")
+Asked = NamedTuple("Asked", [("head", bytes), ("count", int), ("operations", list[Operation]), ("rest", bytes)])
 
 
 class NoReply(Exception):
@@ -48,7 +45,7 @@ class Plain:
     def __init__(self, seconds: int = REPLY_PATIENCE) -> None:
         self.seconds = seconds
 
-    def ask(self, peer: Peer, sent: bytes, wanted: bytes) -> Any:
+    def ask(self, peer: Peer, sent: bytes, wanted: bytes) -> Failure | None:
         """What is wrong with what comes for a record, or None."""
         peer.send(sent)
         got = receive(peer, self.seconds)
@@ -56,7 +53,7 @@ class Plain:
             return None
         return Failure(difference(values_of(wanted), values_of(got)) or ": its values by other bytes", wanted, got)
 
-    def end(self) -> Any:
+    def end(self) -> Failure | None:
         """What is wrong with the end of the row, or None."""
         return None
 
@@ -93,13 +90,13 @@ def credential_of(head: bytes) -> bytes:
 class Named(Plain):
     """Sends a row to a server that goes on. `word` is what the ids of the row's clients end with."""
 
-    def __init__(self, seconds: int, site: Site, row: Any, word: bytes) -> None:
+    def __init__(self, seconds: int, site: Site, row: Row, word: bytes) -> None:
         super().__init__(seconds)
         self.site, self.names = site, Names(site, row, word)
         # The credentials under which each client came, by the client's id.
         self.clients: dict[bytes, list[bytes]] = {}
 
-    def ask(self, peer: Peer, sent: bytes, wanted: bytes) -> Any:
+    def ask(self, peer: Peer, sent: bytes, wanted: bytes) -> Failure | None:
         values, body = values_of(wanted), sent[4:]
         is_one_fragment = int.from_bytes(sent[:4], "big") == 0x80000000 + len(body)
         asked = asked_of(body) if is_one_fragment else None
@@ -108,9 +105,9 @@ class Named(Plain):
         else:
             peer.send(record(self.addressed(body)) if is_one_fragment else self.kept(sent))
             told = difference(values, values_of(receive(peer, self.seconds)), self.names)
-        return told and Failure(told, b"", b"")
+        return None if told is None else Failure(told, b"", b"")
 
-    def kept(self, sent: bytes) -> Any:
+    def kept(self, sent: bytes) -> bytes:
         """A record in several fragments, as it is."""
         self.names.xid(int.from_bytes(xid(sent), "big"), is_kept=True)
         return sent
@@ -127,7 +124,7 @@ class Named(Plain):
         user = u32(wire.AUTH_SYS) + opaque(u32(0, 0, self.site.uid, 0, 0))
         return body[:CREDENTIAL] + user + body[CREDENTIAL + 8:]
 
-    def ask_in_pieces(self, peer: Peer, asked: Asked, wanted: Reply) -> Any:
+    def ask_in_pieces(self, peer: Peer, asked: Asked, wanted: Reply) -> str | None:
         """What is wrong with what comes for a call, which is sent in as many as it takes, or None."""
         self.note_clients(asked)
         at, handle = 0, None
@@ -152,7 +149,7 @@ class Named(Plain):
 
     def next_piece(self, operations: list[Operation], at: int, wanted: Reply) -> list[bytes]:
         """The bytes of the operations from this place on, up to one that needs a name that one of them is given."""
-        given: set[Any] = set()
+        given: set[Bound] = set()
         piece: list[bytes] = []
         for place, operation in enumerate(operations[at:], at):
             self.names.missing = set()
@@ -180,7 +177,7 @@ class Named(Plain):
                 results[place] = results[place]._replace(number=PUTROOTFH)
         return got._replace(results=results)
 
-    def end(self) -> Any:
+    def end(self) -> Failure | None:
         """Has the clients of the row begin anew, by which they lose all that they have."""
         if not self.clients:
             return None
@@ -214,15 +211,16 @@ def begin_anew(peer: Peer, name: bytes, credential: bytes) -> bool:
         head = u32(1, wire.CALL, 2, wire.NFS4_PROGRAM, wire.NFS_V4, wire.NFSPROC4_COMPOUND) + credential
         peer.send(record(head + u32(wire.AUTH_NONE, 0) + u32(0, 0, 1) + operation))
         results = values_of(receive(peer)).results
-        return [value.value for value in results[0].values] if results else [None]
+        return [value.value for value in results[0].values] if results else []
 
-    status, *given = ask(setclientid(os.urandom(8), name))
-    return status == NFS4_OK and ask(u32(SETCLIENTID_CONFIRM) + b"".join(given))[0] == NFS4_OK
+    first = ask(setclientid(os.urandom(8), name))
+    status, given = first[:1], first[1:]
+    return status == [NFS4_OK] and ask(u32(SETCLIENTID_CONFIRM) + b"".join(given))[:1] == [NFS4_OK]
 
 
 # Rows.
 
-def calls_of(connection: Any) -> tuple[list[tuple[bytes, bytes | None]], bytes]:
+def calls_of(connection: Connection) -> tuple[list[tuple[bytes, bytes | None]], bytes]:
     """The records of a connection, each with the reply that is wanted for it or None; and what is wanted that no record
     has."""
     (whole, rest), (replies, part), found = split(connection.sent), split(connection.wanted), []
@@ -245,7 +243,8 @@ def behind(peer: Peer, is_to_end: bool) -> bytes:
         return peer.rest
 
 
-def failure_of_connection(address: tuple[str, int], connection: Any, sender: Plain, first: int, is_to_end: bool) -> Any:
+def failure_of_connection(address: tuple[str, int], connection: Connection, sender: Plain, first: int,
+                          is_to_end: bool) -> Failure | None:
     """What is wrong with a connection of a row, up to the first reply that isn't wanted, or None."""
     calls, left = calls_of(connection)
     with Peer(address) as peer:
@@ -266,7 +265,7 @@ def failure_of_connection(address: tuple[str, int], connection: Any, sender: Pla
     return Failure("behind the last call: " + ("a reply that isn't wanted" if got else "no reply"), left, got)
 
 
-def failure_of(address: tuple[str, int], row: Any, sender: Plain, is_to_end: bool = False) -> Any:
+def failure_of(address: tuple[str, int], row: Row, sender: Plain, is_to_end: bool = False) -> Failure | None:
     """What is wrong with the first connection of the row that doesn't get what is wanted, or None. Its calls are
     counted from 1, over all of its connections."""
     first, failure = 1, None

@@ -6,14 +6,13 @@ Names are one row's: the ids of its clients end with a word, and their verifiers
 row has them begin anew at its end, which leaves nothing of it; so a later row may have the same word."""
 import itertools
 import os
-from collections import namedtuple
-from collections.abc import Callable, Sequence
-from typing import Any
+from collections.abc import Sequence
+from typing import Any, NamedTuple
 
-from model.entries import ARGUMENT_BYTES
 from nfs4.messages import GETFH, PUTFH, PUTROOTFH, compound, lookup, setclientid
+from nfs4.rows import Row
 from nfs4.served import Peer
-from nfs4.wire import OWNER_LIMIT, Opnum, Putfh, Setclientid, SetclientidConfirm, Stateid, opaque, u32, u64
+from nfs4.wire import FORMS, OWNER_LIMIT, Putfh, Setclientid, SetclientidConfirm, Stateid, opaque, u32, u64
 from sending.replies import (CLIENTID, CONFIRM, DISTINCT, Exact, FREE, HANDLE, Kind, Result, STATEID, Value, XID,
                              name_of, values_of)
 
@@ -22,12 +21,17 @@ PATHS = [(), (b"a",), (b"b",), (b"d",), (b"d", b"c")]
 # What no server is known to begin with: where a row has a number that was never given, it is above this one.
 STRANGE = 0x7FFF0000
 NO_STATE, ALL_ONES = bytes(12), b"\xff" * 12
-BYTES: dict[int, Callable[[Any], bytes]] = {
-    **ARGUMENT_BYTES, Opnum.RENEW: lambda a: u32(a.epoch, a.client), Opnum.PUTFH: lambda a: opaque(a.filehandle)}
 
+# An operation of a call: its number, its arguments, and its bytes with the number.
+Operation = NamedTuple("Operation", [("number", int), ("arguments", Any), ("data", bytes)])
 # A server that goes on: its address; the uid of calls that have no credential, or None; the filehandle that stands for
 # that of the root, or None; the filehandles of the rows with those of the server; and the upper half of its clientids.
-Site = namedtuple("Site", "address uid root handles epoch")
+Site = NamedTuple("Site", [("address", tuple[str, int]), ("uid", int | None), ("root", bytes | None),
+                           ("handles", dict[bytes, bytes]), ("epoch", int)])
+
+
+# What is bound to something of the server's: the name of its kind, and what the row has.
+Bound = tuple[str, Any]
 
 
 class NoSite(Exception):
@@ -70,11 +74,11 @@ class Names(Exact):
 
     xids = itertools.count(int.from_bytes(os.urandom(3), "big") << 7)
 
-    def __init__(self, site: Site, row: Any, word: bytes) -> None:
+    def __init__(self, site: Site, row: Row, word: bytes) -> None:
         self.site, self.epoch, self.word, self.mask = site, row.epoch, word, os.urandom(8)
-        self.tables = {HANDLE.name: dict(site.handles)}
+        self.tables: dict[str, dict[Any, Any]] = {HANDLE.name: dict(site.handles)}
         # The names that were looked for in vain.
-        self.missing: set[Any] = set()
+        self.missing: set[Bound] = set()
 
     # What is bound.
 
@@ -84,22 +88,22 @@ class Names(Exact):
     def is_same(self, kind: Kind, wanted: Any, got: Any) -> bool:
         """Whether it is; a name that isn't bound yet is bound to what came."""
         if kind.choice in (False, FREE):
-            return kind.choice == FREE or wanted == got
+            return kind.choice == FREE or bool(wanted == got)
         table = self.table(kind)
         if wanted not in table:
             if kind.choice == DISTINCT and got in table.values():
                 return False
             table[wanted] = got
-        return table[wanted] == got
+        return bool(table[wanted] == got)
 
-    def shown(self, kind: Kind, wanted: Any) -> Any:
+    def shown(self, kind: Kind, wanted: Any) -> str:
         if not kind.choice:
             return kind.show(wanted)
         bound = self.table(kind).get(wanted)
         name = f"the row's {kind.show(wanted)}"
         return f"a new one ({name})" if bound is None else f"{kind.show(bound)} ({name})"
 
-    def given_by(self, value: Value) -> set[tuple[str, Any]]:
+    def given_by(self, value: Value) -> set[Bound]:
         """The names that an answer with this value is the first to give: of a stateid also its beginning."""
         if value.kind.choice in (False, FREE) or value.value in self.table(value.kind):
             return set()
@@ -108,8 +112,8 @@ class Names(Exact):
 
     # What is sent in the place of a name. One that isn't bound is something that the server hasn't given.
 
-    def bound(self, kind: Kind, wanted: bytes, otherwise: bytes) -> Any:
-        found = self.table(kind).get(wanted)
+    def bound(self, kind: Kind, wanted: bytes, otherwise: bytes) -> bytes:
+        found: bytes | None = self.table(kind).get(wanted)
         if found is None:
             self.missing.add((kind.name, wanted))
             return otherwise
@@ -132,12 +136,13 @@ class Names(Exact):
         clientid = self.clientid(stateid.epoch, stateid.client)
         if stateid.epoch != self.epoch:
             return clientid + u32(stateid.number)
-        return self.bound(STATEID, wanted, self.beginning(wanted[:8], clientid) + u32(STRANGE | stateid.number & 0xFFFF))
+        strange = u32(STRANGE | stateid.number & 0xFFFF)
+        return self.bound(STATEID, wanted, self.beginning(wanted[:8], clientid) + strange)
 
     def beginning(self, wanted: bytes, clientid: bytes) -> bytes:
         """The first eight bytes of the stateids of a client, from one that was given: servers have the clientid there,
         but not all in the same order of bytes. Where none was given they are the clientid."""
-        given = [got for name, got in self.table(STATEID).items() if name[:8] == wanted]
+        given: list[bytes] = [got for name, got in self.table(STATEID).items() if name[:8] == wanted]
         if given:
             return given[0][:8]
         self.missing.add((STATEID.name, wanted))
@@ -164,7 +169,8 @@ class Names(Exact):
 
     def xid(self, wanted: int, is_kept: bool = False) -> int:
         """A call's, which its reply has to have: if it isn't kept, one that no other call has."""
-        found = self.table(XID)[wanted] = wanted if is_kept else next(self.xids)
+        found = wanted if is_kept else next(self.xids)
+        self.table(XID)[wanted] = found
         return found
 
     def own(self, name: bytes) -> bytes:
@@ -175,13 +181,11 @@ class Names(Exact):
         """One that no other row has: so a client begins anew even where an earlier row left one of the same id."""
         return bytes(byte ^ change for byte, change in zip(verifier, self.mask))
 
-    def spelled(self, operation: Any) -> bytes:
+    def spelled(self, operation: Operation) -> bytes:
         """The bytes of an operation with its names replaced; else as they are, also padding."""
         if operation.number == PUTROOTFH and self.site.root is not None:
             return u32(PUTFH) + opaque(self.site.root)
-        if operation.number not in BYTES:
-            return operation.data
-        spell = BYTES[operation.number]
+        spell = FORMS[operation.number].write
         plain = u32(operation.number) + spell(operation.arguments)
         new = u32(operation.number) + spell(self.renamed(operation.arguments))
         if len(new) != len(plain):

@@ -4,10 +4,9 @@ the first difference in words, behind the name of the call: `, OPEN: status want
 What a server may choose has a kind of its own (CLIENTID, STATEID and others); a judge says what is the same value
 then."""
 import os
-from collections import namedtuple
 from collections.abc import Callable
 from itertools import zip_longest
-from typing import Any
+from typing import Any, Literal, NamedTuple
 
 from model.attributes import NAMES
 from model.words import SHOWN, STATUS_NAMES, is_shown_as_text, number_word
@@ -17,14 +16,16 @@ from nfs4.wire import Opnum, Reader, Status, Unreadable, split_records
 
 # How a value is read, and how it is shown; and whether it is a server's choice: none (False), one that stays what it
 # was at first (NAMED), one that is for nothing else either (DISTINCT), or one that may be anything (FREE).
-Kind = namedtuple("Kind", "name read show choice")
+Kind = NamedTuple("Kind", [("name", str), ("read", Callable[[Reader], Any]), ("show", Callable[[Any], str]),
+                           ("choice", "str | Literal[False]")])
 NAMED, DISTINCT, FREE = "named", "distinct", "free"
 # A value with what it is. The value of a list of bits has no zeros at its end.
-Value = namedtuple("Value", "what kind value")
-# A reply to a call: the values of its head, those of each result of a COMPOUND, and those of the COMPOUND itself.
-Reply = namedtuple("Reply", "head results tail")
+Value = NamedTuple("Value", [("what", str), ("kind", Kind), ("value", Any)])
 # A result: the operation's number, and its values.
-Result = namedtuple("Result", "number values")
+Result = NamedTuple("Result", [("number", int), ("values", list[Value])])
+# A reply to a call: the values of its head, those of each result of a COMPOUND, and those of the COMPOUND itself.
+Reply = NamedTuple("Reply", [("head", list[Value]), ("results", list[Result]), ("tail", list[Value])])
+Layout = list[tuple[str, Kind]]
 
 OPERATION_NAMES = {number: name for name, number in rows.NAMES.items()
                    if name in Opnum.__members__ or name in wire.OTHER_OPERATIONS}
@@ -45,7 +46,7 @@ def show_words(value: bytes) -> str:
     return " ".join(number_word(int.from_bytes(value[at:at + 4], "big")) for at in range(0, len(value), 4))
 
 
-def show_long(value: Any) -> str:
+def show_long(value: bytes) -> str:
     return str(int.from_bytes(value, "big"))
 
 
@@ -86,7 +87,7 @@ ATOMIC = Kind("atomic", Reader.u32, str, FREE)
 REST = Kind("bytes", lambda reader: reader.fixed(len(reader.data) - reader.at), show_bytes, False)
 
 
-def chosen(name: str, read: Callable[..., Any] = Reader.u32, show: type[Any] | Callable[..., Any] = str) -> Kind:
+def chosen(name: str, read: Callable[[Reader], Any] = Reader.u32, show: Callable[[Any], str] = str) -> Kind:
     """The kind of an attribute that a server may choose."""
     return Kind(name, read, show, NAMED)
 
@@ -121,9 +122,9 @@ OF_OPEN = OF_STATE + [("atomic", ATOMIC), ("change before", CHANGE), ("change af
 OF_DELEGATION = [("the delegation's seqid", NUMBER), ("the delegation's stateid", STATEID), ("recall", NUMBER)]
 OF_SPACE = [("limit's kind", NUMBER), ("limit", LONG)]
 OF_ACE = [("access list entry's type", NUMBER), ("its flag", NUMBER), ("its mask", NUMBER), ("its name", TEXT)]
-OF_KIND: dict[int, Any] = {
+OF_KIND: dict[int, Layout] = {
     wire.OPEN_DELEGATE_READ: OF_DELEGATION + OF_ACE, wire.OPEN_DELEGATE_WRITE: OF_DELEGATION + OF_SPACE + OF_ACE}
-RESTS: dict[tuple[int, int], Any] = {
+RESTS: dict[tuple[int, int], Layout] = {
     (Opnum.ACCESS, Status.OK): [("supported", NUMBER), ("access", NUMBER)],
     (Opnum.COMMIT, Status.OK): [("verifier", VERIFIER)],
     (Opnum.GETFH, Status.OK): [("filehandle", HANDLE)],
@@ -140,7 +141,7 @@ RESTS: dict[tuple[int, int], Any] = {
 
 # Values.
 
-def take(reader: Reader, found: list[Value], layout: list[tuple[str, Kind]]) -> Any:
+def take(reader: Reader, found: list[Value], layout: Layout) -> Any:
     """Adds the values of this layout to those that were found. The last one was read, or is what can't be."""
     for what, kind in layout:
         at = reader.at
@@ -237,14 +238,14 @@ class Exact:
     """Whoever compares so leaves a server no choice."""
 
     def is_same(self, _kind: Kind, wanted: Any, got: Any) -> bool:
-        return wanted == got
+        return bool(wanted == got)
 
-    def shown(self, kind: Kind, wanted: Any) -> Any:
+    def shown(self, kind: Kind, wanted: Any) -> str:
         """What is said to be wanted."""
         return kind.show(wanted)
 
 
-def first_difference(wanted: list[Value], got: list[Value], judge: Exact) -> Any:
+def first_difference(wanted: list[Value], got: list[Value], judge: Exact) -> str | None:
     """What is said of the first of the values that isn't the same, or None."""
     for want, have in zip_longest(wanted, got):
         if want is not None and have is not None:
@@ -256,7 +257,7 @@ def first_difference(wanted: list[Value], got: list[Value], judge: Exact) -> Any
     return None
 
 
-def place_behind(want: Any, have: Any) -> Any:
+def place_behind(want: Value | None, have: Value | None) -> str:
     """From which byte on two texts differ, where that isn't shown of them; or nothing."""
     if want is None or have is None or want.kind != TEXT or have.kind != TEXT:
         return ""
@@ -268,14 +269,14 @@ def name_of(number: int) -> str:
     return OPERATION_NAMES.get(number, str(number))
 
 
-def place_of(place: Any, results: Any) -> Any:
+def place_of(place: int, results: list[Result]) -> str:
     """A result by its operation; and by its number, where there are several of that."""
     name = name_of(results[place].number)
     is_only = sum(result.number == results[place].number for result in results) == 1
     return name if is_only else f"{name} (operation {place + 1})"
 
 
-def difference_of_result(wanted: list[Result], got: Result | None, place: int, judge: Exact) -> Any:
+def difference_of_result(wanted: list[Result], got: Result | None, place: int, judge: Exact) -> str | None:
     """Of the result at this place among the wanted ones, or behind them."""
     want = wanted[place] if place < len(wanted) else None
     if want is None or got is None or want.number != got.number:
@@ -285,14 +286,15 @@ def difference_of_result(wanted: list[Result], got: Result | None, place: int, j
     return told and f", {place_of(place, wanted)}{told}"
 
 
-def difference(wanted: Reply, got: Reply, judge: Exact = Exact()) -> Any:
+def difference(wanted: Reply, got: Reply, judge: Exact = Exact()) -> str | None:
     """How a reply differs from the wanted one, in words; or None, where all values are the same. The results are looked
     at before the COMPOUND's own status, which is that of the last one."""
     return (first_difference(wanted.head, got.head, judge) or difference_of_results(wanted, got, judge)
             or first_difference(wanted.tail, got.tail, judge))
 
 
-def difference_of_results(wanted: Reply, got: Reply, judge: Exact, first: int = 0, is_last: bool = True) -> Any:
+def difference_of_results(wanted: Reply, got: Reply, judge: Exact, first: int = 0,
+                          is_last: bool = True) -> str | None:
     """Of these results beside the wanted ones from this place on; of all that follow, where they are the last."""
     for place, have in enumerate(got.results, first):
         told = difference_of_result(wanted.results, have, place, judge)

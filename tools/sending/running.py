@@ -1,16 +1,17 @@
 """Rows by the program `rows`: each on a server of its own, in one of several ways, and what is reported where it goes
 wrong."""
-from collections import namedtuple
 from collections.abc import Callable, Iterator
 from functools import partial
-from typing import Any
+from typing import Any, NamedTuple
 
-from model.entries import Call, Forget as OwnerForgotten, NotJournal, Revoke as DelegationRevoked
+from model.entries import Call, Entry, Forget as OwnerForgotten, NotJournal, Revoke as DelegationRevoked
 from model.journal import read_journal
 from model.tree import DEFAULT
-from nfs4.rows import Forget, Mark, ORDERS, Part, Pending, Probe, Revoke, Row, Sweep, Take, order_line, words_beside
+from nfs4.rows import (Forget, Mark, Order, Part, Pending, Probe, Revoke, Row, Step, Sweep, Take, order_line,
+                       words_beside)
 from nfs4.wire import OpenOwner
-from sending.driver import ALONE, Driver, Ended, Failed, Forgotten, MEMORY, Marked, NOT_LIVE, Revoked, SHARED, Swept
+from sending.driver import (ALONE, Came, Driver, Ended, Failed, Forgotten, MEMORY, Marked, NOT_LIVE, Revoked, SHARED,
+                            Swept)
 
 
 # A read of the server asks for less than this, so that such pieces don't cut an input.
@@ -20,9 +21,9 @@ PIECE = 1000
 PIECES, SHORT = (WHOLE, PIECE, 3, 1), 10_000
 
 # What comes instead of what is wanted: by the place of a part or an order among the row's.
-Wrong = namedtuple("Wrong", "place got")
+Wrong = NamedTuple("Wrong", [("place", int), ("got", Came)])
 # How a run of a row goes: what is wrong, or None; and the file of the journal, which a refused tree leaves none of.
-Outcome = namedtuple("Outcome", "wrong journal")
+Outcome = NamedTuple("Outcome", [("wrong", Wrong | None), ("journal", bytes | None)])
 
 
 def run(row: Row, way: int, piece: int, is_again: bool = False, **program: Any) -> Outcome:
@@ -38,7 +39,7 @@ def run(row: Row, way: int, piece: int, is_again: bool = False, **program: Any) 
         if refused:
             got = Ended(f"tree refused ({refused})", b"", [])
             return Outcome(None if is_right(row.steps[0], got) else Wrong(0, got), None)
-        came: list[Any] = []
+        came: list[Came] = []
         wrong = first_wrong(driver, row.steps, piece, is_again, came)
         journal = driver.end()
         entries = entries_of(journal)
@@ -47,7 +48,7 @@ def run(row: Row, way: int, piece: int, is_again: bool = False, **program: Any) 
         return Outcome(wrong or wrongly_ended(row, came, entries), journal)
 
 
-def entries_of(journal: bytes) -> Any:
+def entries_of(journal: bytes) -> list[Entry] | None:
     """The entries of a journal; or None, as one that can't be read is told where it is compared."""
     try:
         return read_journal(journal).entries
@@ -55,29 +56,30 @@ def entries_of(journal: bytes) -> Any:
         return None
 
 
-def expect_receipts(receipts: list[int], entries: list[Any], way: int) -> None:
+def expect_receipts(receipts: list[int], entries: list[Entry], way: int) -> None:
     """The receipts are those of the entries that are calls."""
     calls = [number for number, entry in enumerate(entries) if isinstance(entry, Call)]
     if receipts != (calls if way == SHARED else []):
         raise Failed(f"the receipts {receipts} aren't those of the journal's calls")
 
 
-def wrongly_ended(row: Row, came: list[Any], entries: list[Any]) -> Any:
+def wrongly_ended(row: Row, came: list[Came], entries: list[Entry] | None) -> Wrong | None:
     """The first revocation or forgetting whose entry is another one than the row wants, if one is."""
     for place, (step, got) in enumerate(zip(row.steps, came)):
-        if isinstance(step, (Revoke, Forget)) and got[1] and entries is not None:
+        if isinstance(got, (Revoked, Forgotten)) and got[1] and entries is not None:
             if entries[got.entry:got.entry + 1] != [entry_wanted(step, row.epoch)]:
                 return Wrong(place, got)
     return None
 
 
-def entry_wanted(step: Any, epoch: int) -> Any:
-    if isinstance(step, Revoke):
-        return DelegationRevoked(step.state, step.moment)
-    return OwnerForgotten(OpenOwner(epoch, *step.owner), step.moment)
+def entry_wanted(step: Any, epoch: int) -> Entry:
+    if isinstance(step, Forget):
+        assert step.owner is not None
+        return OwnerForgotten(OpenOwner(epoch, *step.owner), step.moment)
+    return DelegationRevoked(step.state, step.moment)
 
 
-def first_wrong(driver: Driver, steps: list[Any], piece: int, is_again: bool, came: list[Any]) -> Any:
+def first_wrong(driver: Driver, steps: list[Step], piece: int, is_again: bool, came: list[Came]) -> Wrong | None:
     """The first step of which something else comes than is wanted, if there is one; and adds what came of each."""
     for place, step in enumerate(steps):
         got = take(driver, step, piece, is_again)
@@ -91,7 +93,7 @@ def first_wrong(driver: Driver, steps: list[Any], piece: int, is_again: bool, ca
     return None
 
 
-def take(driver: Driver, step: Any, piece: int, has_room: bool) -> Any:
+def take(driver: Driver, step: Step, piece: int, has_room: bool) -> Came:
     """What comes of a part or an order. Where there is room for the replies, none is lost that isn't refused."""
     match step:
         case Sweep(moment):
@@ -111,7 +113,7 @@ def take(driver: Driver, step: Any, piece: int, has_room: bool) -> Any:
     return driver.serve([step.sent], step.moment, piece, rooms=[len(step.wanted) if has_room else 0]).ended[0]
 
 
-def may_come_first(step: Any, got: Any) -> bool:
+def may_come_first(step: Any, got: Came) -> bool:
     """Whether this may come of a step, instead of what is wanted, where memory was refused to it. Of a sweep each
     client that is live was removed, kept, or refused. Where delegations are left that are due, it has stopped, and has
     forgotten nobody; and also where owners are left that are. Those of a client that was refused may be among these."""
@@ -121,23 +123,23 @@ def may_come_first(step: Any, got: Any) -> bool:
             is_stopped = stopped == 1 and came < wanted and (revoked == step.revoked or forgotten == 0)
             is_more = refused > 0 and revoked == step.revoked and forgotten > step.forgotten
             is_ended = stopped == 0 and (came == wanted or is_more)
-            return expired + kept + refused == step.expired + step.kept and (is_stopped or is_ended)
+            return bool(expired + kept + refused == step.expired + step.kept) and (is_stopped or is_ended)
         case Marked(error) | Revoked(error, 0, 0) | Forgotten(error, 0, 0):
             return error == MEMORY
     return isinstance(step, Part)
 
 
-def after(step: Any, first: Any, second: Any) -> Any:
+def after(step: Any, first: Came, second: Came) -> Came:
     """What came of a step that was taken twice: what a sweep removed, took and forgot is that of both times. The owners
     of a client that was refused at first don't count, as they go with it where nothing is."""
-    if not isinstance(second, Swept):
+    if not isinstance(first, Swept) or not isinstance(second, Swept):
         return second
     forgotten = min(first.forgotten + second.forgotten, step.forgotten if first.refused else 2**32)
     return second._replace(expired=first.expired + second.expired, revoked=first.revoked + second.revoked,
                            forgotten=forgotten)
 
 
-def wanted_of(step: Any) -> Any:
+def wanted_of(step: Order) -> Came:
     """What is to come of an order."""
     match step:
         case Sweep(_, expired, kept, revoked, forgotten):
@@ -154,13 +156,13 @@ def wanted_of(step: Any) -> Any:
     raise TypeError(step)
 
 
-def is_right(step: Any, got: Any) -> bool:
+def is_right(step: Step, got: Any) -> bool:
     if isinstance(step, (Revoke, Forget)):
         # Which delegation or owner it is, the entry says.
-        return got[:2] == (0, (step.state if isinstance(step, Revoke) else step.owner) is not None)
-    if isinstance(step, ORDERS):
-        return got == wanted_of(step)
-    return (got.replies, got.fault) == (step.wanted, step.fault)
+        return bool(got[:2] == (0, (step.state if isinstance(step, Revoke) else step.owner) is not None))
+    if isinstance(step, Part):
+        return bool((got.replies, got.fault) == (step.wanted, step.fault))
+    return bool(got == wanted_of(step))
 
 
 # The ways to run a row: each gives the lines that say what is wrong, of which there are none where it passes.
@@ -210,14 +212,14 @@ def way_of(is_shared: bool, is_again: bool, **program: Any) -> Callable[[Row], l
 
 # Reports.
 
-def lines_of(row: Row, wrong: Any, piece: int = WHOLE) -> list[str]:
+def lines_of(row: Row, wrong: Wrong | None, piece: int = WHOLE) -> list[str]:
     if wrong is None:
         return []
     step = row.steps[wrong.place]
-    return list(lines_of_order(step, wrong.got) if isinstance(step, ORDERS) else lines_of_part(step, wrong.got, piece))
+    return list(lines_of_part(step, wrong.got, piece) if isinstance(step, Part) else lines_of_order(step, wrong.got))
 
 
-def lines_of_order(order: Any, got: Any) -> Iterator[str]:
+def lines_of_order(order: Order, got: Any) -> Iterator[str]:
     yield f"    wanted {order_line(order)}"
     if isinstance(order, Take):
         yield from words_beside(order.record, got, "got")
@@ -226,7 +228,7 @@ def lines_of_order(order: Any, got: Any) -> Iterator[str]:
         yield "    got " + " ".join(f"{name} {number}" for name, number in names.items())
 
 
-def lines_of_part(part: Any, got: Any, piece: Any) -> Iterator[str]:
+def lines_of_part(part: Part, got: Any, piece: int) -> Iterator[str]:
     if piece < len(part.sent):
         yield f"    where the input comes in pieces of {piece} bytes:"
     for whose, fault in (("wanted", part.fault), ("got", got.fault)):
