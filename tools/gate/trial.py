@@ -62,6 +62,12 @@ def peer_of(served: Served, **how: Any) -> Peer:
     return Peer(("127.0.0.1", served.port), **how)
 
 
+def greet(served: Served, uid: int = 1) -> None:
+    """A connection that comes gets its answer, and ends."""
+    with peer_of(served) as peer:
+        Client(peer, uid).null()
+
+
 def lawful_journal(program: str | None, path: str) -> Journal:
     """The journal of this file, which the program, if there is one, and the model find lawful."""
     data = bytes_of(path)
