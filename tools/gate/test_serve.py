@@ -126,7 +126,7 @@ def test_crowd(path_of, tell):
         for client in clients:
             client.peer.socket.close()
         expect_end(served, "record too long", "input ends inside a record", "input not read", "output not written")
-    journal = judged(path, *clients).journal
+    journal = judged(path, *clients)
     users = {entry.principal[1] for entry in journal.entries}
     expect("the users in the journal", users, {*range(GOOD), MOST})
     numbers = [client.number for client in clients]
@@ -257,7 +257,7 @@ def test_lease(path_of, tell):
     with ThreadPoolExecutor(1) as pool, serve("--lease", "1", "--journal", path, connections=4) as served:
         gone, other, watcher, seconds, moment = lease_ends(served, pool)
         expect_end(served)
-    journal = judged(path, gone, other, watcher).journal
+    journal = judged(path, gone, other, watcher)
     expect_expiry(path, journal, gone)
     # All connections' moments are whole seconds since the same start.
     last, = (entry.moment for entry in journal.entries if getattr(entry, "principal", None) == (1, LATE))
@@ -280,7 +280,7 @@ def test_delegation(path_of, tell):
         for client in holder, other:
             client.peer.socket.close()
         expect_end(served)
-    ends = [entry for entry in judged(path, holder, other).journal.entries if isinstance(entry, (Expire, Revoke))]
+    ends = [entry for entry in judged(path, holder, other).entries if isinstance(entry, (Expire, Revoke))]
     expect("who loses what", [entry[:1] for entry in ends], [(number,)])
     tell(f"a delegation was taken {seconds:.1f} seconds after it was called back, with a lease of {LENT}")
 
@@ -597,7 +597,7 @@ def test_unswept(path_of, preloaded):
         for client in clients:
             client.peer.socket.close()
         expect_end(served, "no memory")
-    entries = judged(path, *clients).journal.entries
+    entries = judged(path, *clients).entries
     expect("who expires", [entry for entry in entries if isinstance(entry, Expire)], [])
 
 

@@ -88,13 +88,13 @@ def expect_in_journal(judge: Judge, client: Client) -> None:
     judge.expect_link(b"".join(client.sent), b"".join(client.got), numbers)
 
 
-def judged(path: str, *clients: Client) -> Judge:
-    """The judge of the journal in this file, which is lawful: by it all clients got their replies, which are these."""
+def judged(path: str, *clients: Client) -> Journal:
+    """The journal in this file, which is lawful, and by which all clients got their replies, which are these."""
     judge = Judge(lawful_journal(PROGRAM, path))
     for client in clients:
         expect_in_journal(judge, client)
     judge.expect_ends()
-    return judge
+    return judge.journal
 
 
 def run_parts(parts: Sequence[Callable[[], Any]]) -> None:
