@@ -51,6 +51,8 @@ REFUSED, REFUSED_OR_ENDED = 1000, 4000
 PAUSE, MOST_SECONDS, LATELY = 0.005, 240, 2.5
 # The seconds in which a run ends with its input where nobody reads what it tells.
 AT_ONCE = 2
+# The seconds of a lease that ends, within which there are all calls before that.
+LEASE = 5
 # No more than this is given out at once, and so many GETATTRs come.
 LARGEST, GETATTRS = 8 << 20, 300_000
 # The connections that are reset; and the threads of the race, with the calls of each.
@@ -521,7 +523,7 @@ def test_near(bounded, left):
 
 def test_sweep(bounded):
     """At the bound a lease ends, which makes an entry above it, and the client is gone."""
-    with bounded("--lease", "1", more=[Expire]) as counted:
+    with bounded("--lease", str(LEASE), more=[Expire]) as counted:
         counted.introduce()
         counted.open_file()
         counted.lock()
@@ -529,7 +531,7 @@ def test_sweep(bounded):
         counted.refuse_all()
         for _ in range(5):
             # Longer than the lease, and than a sweep takes to come.
-            time.sleep(3)
+            time.sleep(LEASE + 3)
             counted.client.ask(counted.client.renew_words())
             status = status_of(counted.client.got[-1])
             if status != Status.OK:

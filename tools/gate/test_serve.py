@@ -266,6 +266,7 @@ def test_lease(path_of, tell):
     tell(f"a lease of 1 second ended after {seconds:.1f}")
 
 
+@tried_again
 def test_delegation(path_of, tell):
     """A delegation that isn't given back, though its client renews its lease, is taken when it was called back longer
     than a lease ago, and soon after."""
@@ -299,14 +300,17 @@ def borrow(client):
 def open_in_the_end(client, holder):
     """Opens the file that the other one holds a delegation on, until that is OK: how many seconds it takes."""
     client.introduce()
-    client.file, begun = 1, time.monotonic()
+    client.file, begun, renewed = 1, time.monotonic(), time.monotonic()
     while True:
         found, seconds = client.ask(words(PUTROOTFH), client.open_words(1)), time.monotonic() - begun
+        if time.monotonic() - renewed > LENT - 1:
+            raise Late("the lease of the other one isn't renewed")
         if found[6] == NFS4_OK:
             break
         client.expect(Status.DELAY, [(None, done(PUTROOTFH)), (None, done(OPEN, status=Status.DELAY))])
         if seconds > LENT + PATIENT:
             raise Wrong(f"a delegation isn't taken in {seconds:.2f} seconds")
+        renewed = time.monotonic()
         holder.want((holder.renew_words(), done(RENEW)))
         time.sleep(0.02)
     if seconds <= LENT:
