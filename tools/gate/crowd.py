@@ -1,14 +1,17 @@
 """Peers of a server, which come one at a time or as a crowd of 64: clients, and what sends garbage, never reads, resets
 or stops within a record."""
 import random
+import time
 from collections.abc import Callable, Sequence
+from concurrent.futures import ThreadPoolExecutor
 from functools import partial
 from threading import Event
 from typing import Any
 
+from gate.trial import Late
 from model.server import Server
-from nfs4.client import FILES, Client, expect, Wrong
-from nfs4.messages import COMPOUND, GETATTR, NULL, PUTROOTFH, call, compound, reply, words
+from nfs4.client import FILES, Client, done, expect, Wrong
+from nfs4.messages import COMPOUND, GETATTR, NFS4_OK, NULL, PUTROOTFH, call, compound, reply, words
 from nfs4.served import PATIENCE, Peer
 from nfs4.wire import opaque, record
 
@@ -35,7 +38,7 @@ def send_garbage(peer: Peer, data: bytes) -> None:
         expect(f"replies to {data[:40]!r}", peer.receive_all(), Server().converse(data)[0])
 
 
-def never_read(peer: Peer, over: Event | None = None, seconds: float = 0.3, full: Event | None = None) -> None:
+def never_read(peer: Peer, over: Event | None = None, seconds: float = 1, full: Event | None = None) -> None:
     """Sends calls with long replies until no more is taken, says so, and waits. Each has the state as well."""
     tag = 100000
     arguments = opaque(bytes(tag)) + words(0, 2, PUTROOTFH, GETATTR, 0)
@@ -95,3 +98,33 @@ def crowd(peers: Sequence[Peer], over: Event) -> list[Callable[[], Any]]:
     places = list(range(MOST))
     random.Random(2).shuffle(places)
     return [partial(job, peers[place]) for job, place in zip(jobs, places)]
+
+
+def run_crowd(peers: Sequence[Peer]) -> list[Client]:
+    """All that the crowd does on these connections, each of which is at its end then but for those of the clients,
+    which are given."""
+    over = Event()
+    with ThreadPoolExecutor(MOST) as pool:
+        try:
+            doing = [pool.submit(job) for job in crowd(peers, over)]
+            clients: list[Client] = [job.result() for job in doing[:GOOD]]
+        finally:
+            over.set()
+        for job in doing[GOOD:]:
+            job.result()
+    return clients
+
+
+def read_late(peer: Peer, length: int = 3000, more: int = 200000) -> None:
+    """Sends ten calls whose replies have so many bytes more than they need, a record that is too long, and so many
+    bytes of it; and gets the replies, though it is slow to read. A server waits for a silent peer for half a second."""
+    tag = opaque(bytes(length))
+    calls = b"".join(call(xid, COMPOUND, tag + words(0, 2, PUTROOTFH, GETATTR, 0)) for xid in range(10))
+    body = words(NFS4_OK) + tag + words(2) + done(PUTROOTFH) + done(GETATTR, words(0, 0))
+    wanted = b"".join(reply(xid, body) for xid in range(10))
+    with peer:
+        peer.send(calls + words(0xFFFFFFFF) + bytes(more))
+        time.sleep(0.3)
+        got = peer.receive_all()
+    if got != wanted:
+        raise Late(f"with {more} bytes behind a fault, {len(got)} bytes of {len(wanted)} come of the replies before")

@@ -2,8 +2,8 @@
 with what they print compared to the page; by the program, and with the model's server (`tools/model/serve.py`) and its
 audit (`tools/model/journal.py`) in place of the program's.
 
-The section on libnfs is left out where `gcc` or `libnfs-dev` isn't installed. That on tshark is run by hand alone, since
-it needs the right to capture on the loopback interface. By hand it is an error if something for them isn't there.
+The section on libnfs is left out where `gcc` or `libnfs-dev` isn't installed. That on tshark is run by hand alone,
+since it needs the right to capture on the loopback interface. By hand it is an error if something for them isn't there.
 
 A port of the system's choice takes the place of the page's, and a folder of the test that of /tmp. A server or a
 capture goes on while the commands after it run. A server has to end by itself before its journal is read, or another

@@ -15,8 +15,7 @@ import time
 
 import pytest
 
-from gate.told import Judge
-from gate.trial import expect_in_journal, lawful_journal, peer_of
+from gate.trial import judged, peer_of
 from model.entries import Forget
 from model.tree import DEFAULT
 from nfs4.client import Client, done, expect, under, way_to, Wrong
@@ -53,15 +52,6 @@ def tool(name, *words):
 
 def expect_end(served):
     expect("the end", served.end(), (0, b"", b""))
-
-
-def judged(path, *clients):
-    """The journal of the run, by which these clients got their replies."""
-    judge = Judge(lawful_journal(PROGRAM, path))
-    for client in clients:
-        expect_in_journal(judge, client)
-    judge.expect_ends()
-    return judge.journal
 
 
 def close_again(client, operation):

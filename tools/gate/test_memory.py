@@ -17,13 +17,15 @@ import threading
 import time
 from collections import Counter, namedtuple
 from concurrent.futures import ThreadPoolExecutor
+from contextlib import contextmanager
+from itertools import count
 from resource import RLIMIT_AS, prlimit, setrlimit
 
 import pytest
 
 from gate.entry_memory import ENTRY, LISTED, counted, entry_len, entry_of, write_len
 from gate.told import Judge
-from gate.trial import Late, lawful_journal, peer_of, tried_again
+from gate.trial import Late, greet, lawful_journal, peer_of, tried_again
 from model.attributes import SIZE
 from model.entries import Call, Expire
 from model.pages import PAGE, PART
@@ -49,6 +51,8 @@ REFUSED, REFUSED_OR_ENDED = 1000, 4000
 PAUSE, MOST_SECONDS, LATELY = 0.005, 240, 2.5
 # The seconds in which a run ends with its input where nobody reads what it tells.
 AT_ONCE = 2
+# The seconds of a lease that ends, within which there are all calls before that.
+LEASE = 5
 # No more than this is given out at once, and so many GETATTRs come.
 LARGEST, GETATTRS = 8 << 20, 300_000
 # The connections that are reset; and the threads of the race, with the calls of each.
@@ -285,8 +289,7 @@ def test_limited(serve, path_of, tell, kib):
     path, limit = path_of("limited.journal"), lambda: setrlimit(RLIMIT_AS, (ADDRESSES, ADDRESSES))
     begun, tally = time.monotonic(), Tally()
     with serve("--connections", str(WORKERS), "--journal", path, preexec_fn=limit) as served:
-        with peer_of(served) as peer:
-            Client(peer, 1).null()
+        greet(served)
         threads = threads_of(served)
         write_by_all(served, bytes(kib << 10), tally)
         for _ in range(WORKERS):
@@ -344,11 +347,12 @@ def test_bounded(serve, path_of, kib):
 # At the bound.
 
 class Counted:
-    """A connection, the client on it, what the entries of its calls count, and those that have one."""
+    """A connection, the client on it, what the entries of its calls count, and those that have one; and, once its run
+    has ended, the lines of that."""
 
     def __init__(self, served, bound):
-        self.peer, self.bound, self.count, self.answered = peer_of(served), bound, 0, []
-        self.client = Client(self.peer, 1)
+        self.served, self.peer, self.bound, self.count, self.answered = served, peer_of(served), bound, 0, []
+        self.client, self.lines = Client(self.peer, 1), None
 
     def introduce(self):
         self.client.introduce()
@@ -471,14 +475,32 @@ KINDS = {
         lambda client, own: release_words(b"l" * own, client.clientid()), Status.OK, FILE, growing(0))}
 
 
+@pytest.fixture
+def bounded(serve, path_of):
+    """Begins a run under a bound of so many MiB, and gives its one connection. At the end each call is refused on that,
+    which the run doesn't end before; and the journal has what was answered, with entries of these kinds behind it."""
+    numbers = count()
+
+    @contextmanager
+    def begin(*options, bound=1, more=(), **how):
+        path = path_of(f"{next(numbers)}.journal")
+        with serve("--memory", str(bound), "--journal", path, *options, **how) as served:
+            counted = Counted(served, bound * MIB)
+            yield counted
+            counted.refuse_all()
+            counted.peer.socket.close()
+            counted.lines = expect_end(served)
+            counted.lines.expect_ended(0, None)
+        counted.expect_entries(path, *more)
+    return begin
+
+
 @pytest.mark.parametrize("kind", KINDS.values(), ids=KINDS.keys())
-def test_kinds(serve, path_of, kind):
+def test_kinds(bounded, kind):
     """A call of the kind of so many bytes, where there is room for just what its entry counts: one that counts more is
     refused, which changes nothing, and it isn't; and then each other one is."""
     for length, own, more in kind.cases:
-        path = path_of(f"{length}.journal")
-        with serve("--memory", "1", "--journal", path) as served:
-            counted = Counted(served, MIB)
+        with bounded() as counted:
             counted.introduce()
             counted.open_file()
             counted.write(FILE_LIMIT)
@@ -486,34 +508,22 @@ def test_kinds(serve, path_of, kind):
             counted.ask(kind.operation(counted.client, more), Status.RESOURCE, kind.node)
             counted.ask(kind.operation(counted.client, length), kind.status, kind.node)
             expect("what is counted", counted.count, MIB)
-            counted.refuse_all()
-            counted.peer.socket.close()
-            expect_end(served).expect_ended(0, None)
-        counted.expect_entries(path)
 
 
 @pytest.mark.parametrize("left", [0, 1, ENTRY - 1, ENTRY])
-def test_near(serve, path_of, left):
+def test_near(bounded, left):
     """One byte before the bound all calls are refused; so they are with a byte less than an entry's, and with those one
     that counts no others is taken."""
-    path = path_of("near.journal")
-    with serve("--memory", "1", "--journal", path) as served:
-        counted = Counted(served, MIB)
+    with bounded() as counted:
         counted.fill(left)
         if left == ENTRY:
             counted.write(1, Status.RESOURCE)
             counted.ask(words(GETATTR, 0), Status.OK)
-        counted.refuse_all()
-        counted.peer.socket.close()
-        expect_end(served).expect_ended(0, None)
-    counted.expect_entries(path)
 
 
-def test_sweep(serve, path_of):
+def test_sweep(bounded):
     """At the bound a lease ends, which makes an entry above it, and the client is gone."""
-    path = path_of("sweep.journal")
-    with serve("--memory", "1", "--lease", "1", "--journal", path) as served:
-        counted = Counted(served, MIB)
+    with bounded("--lease", str(LEASE), more=[Expire]) as counted:
         counted.introduce()
         counted.open_file()
         counted.lock()
@@ -521,56 +531,41 @@ def test_sweep(serve, path_of):
         counted.refuse_all()
         for _ in range(5):
             # Longer than the lease, and than a sweep takes to come.
-            time.sleep(3)
+            time.sleep(LEASE + 3)
             counted.client.ask(counted.client.renew_words())
             status = status_of(counted.client.got[-1])
             if status != Status.OK:
                 break
         expect("the status of a RENEW", status, Status.STALE_CLIENTID)
-        counted.refuse_all()
-        counted.peer.socket.close()
-        lines = expect_end(served)
-        lines.expect_ended(0, None)
-        lines.expect_memory(1, True)
-    counted.expect_entries(path, Expire)
+    counted.lines.expect_memory(1, True)
     expect("what is counted", counted.count, MIB)
 
 
-def test_counted_connections(serve, path_of):
+def test_counted_connections(bounded):
     """The bound is there where a run ends after so many connections, too, and a line tells at the end that a call was
     refused, and no other line does."""
-    path = path_of("counted.journal")
-    with serve("--connections", "1", "--memory", "1", "--journal", path, until=(), stdin=subprocess.DEVNULL) as served:
-        counted = Counted(served, MIB)
+    with bounded("--connections", "1", until=(), stdin=subprocess.DEVNULL) as counted:
         counted.fill(0)
-        counted.refuse_all()
-        counted.peer.socket.close()
-        expect("the lines", expect_end(served).others, ["the memory is full: 1 of 1 MiB"])
-    counted.expect_entries(path)
+    expect("the lines", counted.lines.others, ["the memory is full: 1 of 1 MiB"])
 
 
-def test_lines(serve, path_of):
+def test_lines(bounded):
     """The last tenth that was passed since the last look is told, once, and at last that the memory is full."""
-    path, bound = path_of("lines.journal"), 20
-    with serve("--memory", str(bound), "--journal", path) as served:
-        counted = Counted(served, bound * MIB)
-        # Up to 5.5 MiB, 5.9, of which no line has to tell, 13.5 and the bound.
+    with bounded(bound=20) as counted:
+        # Up to 5.5 MiB, 5.9, of which no line has to tell, 13.5 and the bound. A look may also come while it is filled.
         for left, told in ((29 * MIB // 2, "[45]"), (141 * MIB // 10, None), (13 * MIB // 2, "1[23]"), (0, "18|19|20")):
             counted.fill(left)
             if told is None:
                 time.sleep(LATELY)
             else:
-                wait_for_line(served, f"memory: ({told}) of {bound} MiB")
+                wait_for_line(counted.served, f"memory: ({told}) of 20 MiB")
         counted.refuse_all()
-        wait_for_line(served, "the memory is full.*")
+        wait_for_line(counted.served, "the memory is full.*")
         counted.refuse_all()
         time.sleep(LATELY)
-        counted.peer.socket.close()
-        tenths = expect_end(served).expect_memory(bound, True)
-    # A look may also come while it is filled.
+    tenths = counted.lines.expect_memory(20, True)
     if not {2, 6, 9} <= set(tenths):
         raise Wrong(f"lines tell of the tenths {tenths}, wanted 2, 6 and 9")
-    counted.expect_entries(path)
 
 
 # Several at once.

@@ -23,8 +23,8 @@ from resource import RLIMIT_NOFILE, setrlimit
 
 import pytest
 
-from gate.crowd import GOOD, MOST, OTHERS, crowd, garbage
-from gate.trial import Late, judged, lawful_journal, peer_of, tried_again
+from gate.crowd import GOOD, MOST, OTHERS, garbage, read_late, run_crowd
+from gate.trial import Late, greet, judged, lawful_journal, peer_of, tried_again
 from model.entries import Expire
 from model.journal import Recorder
 from model.server import CLIENTS_LIMIT
@@ -121,19 +121,13 @@ def test_faults_at_first(given, fault):
 
 def test_crowd(path_of, tell):
     """All connections come before anything is done on one, and end before the run does."""
-    over, path = threading.Event(), path_of("crowd.journal")
-    with ThreadPoolExecutor(MOST) as pool, serve_on("--epoch", "7", "--journal", path) as served:
+    path = path_of("crowd.journal")
+    with serve_on("--epoch", "7", "--journal", path) as served:
         peers = [peer_of(served, receive_buffer=4096) for _ in range(MOST)]
         names = [f"connection {place + 1} from 127.0.0.1:{peer.socket.getsockname()[1]}"
                  for place, peer in enumerate(peers)]
         expect("that all are there", served.next_line(), f"no more connections: {MOST} of {MOST}\n".encode())
-        try:
-            doing = [pool.submit(job) for job in crowd(peers, over)]
-            clients = [job.result() for job in doing[:GOOD]]
-        finally:
-            over.set()
-        for job in doing[GOOD:]:
-            job.result()
+        clients = run_crowd(peers)
         for client in clients:
             client.peer.socket.close()
         status, output, errors = served.end()
@@ -163,8 +157,7 @@ def test_in_turn():
     for a while."""
     with serve_on() as served, peer_of(served) as first:
         for uid in range(IN_TURN):
-            with peer_of(served) as peer:
-                Client(peer, uid).null()
+            greet(served, uid)
         served.program.send_signal(signal.SIGSTOP)
         time.sleep(STOPPED)
         served.program.send_signal(signal.SIGCONT)
@@ -247,16 +240,12 @@ def test_clock():
 
 # Ends.
 
+@tried_again
 def test_replies_before_a_fault():
     """After a record that is too long the replies to what came before it reach a peer that is slow to read them, also
     where it has sent more, which nobody reads. The fault is the run's where it doesn't go on."""
-    tag = opaque(bytes(3000))
-    sent = b"".join(call(xid, COMPOUND, tag + words(0, 1, PUTROOTFH)) for xid in range(10))
-    wanted = b"".join(reply(xid, words(NFS4_OK) + tag + words(1) + done(PUTROOTFH)) for xid in range(10))
-    with serve("--connections", "1") as served, peer_of(served, receive_buffer=4096) as peer:
-        peer.send(sent + words(0xFFFFFFFF) + bytes(200000))
-        time.sleep(0.3)
-        expect("that the replies before a fault come", peer.receive_all() == wanted, True)
+    with serve("--connections", "1") as served:
+        read_late(peer_of(served, receive_buffer=4096))
         expect("the end", served.end(), (1, b"", b"fault: record too long\n"))
 
 
@@ -284,7 +273,7 @@ def test_busy(path_of, tell):
             Client(peer, 1).null()
         *busy, endless, deaf = peers
         sending = pool.submit(send_on, endless, over)
-        deaf.fill(call(1, COMPOUND, opaque(bytes(100000)) + words(0, 1, PUTROOTFH)))
+        deaf.fill(call(1, COMPOUND, opaque(bytes(100000)) + words(0, 1, PUTROOTFH)), seconds=1)
         served.program.send_signal(signal.SIGSTOP)
         for peer in busy:
             peer.send(sent)
@@ -348,8 +337,7 @@ def test_background():
     """A run that a shell began in the background, where an interrupt is for who is in front, goes on."""
     with serve("--until-killed", preexec_fn=lambda: signal.signal(signal.SIGINT, signal.SIG_IGN)) as served:
         served.program.send_signal(signal.SIGINT)
-        with peer_of(served) as peer:
-            Client(peer, 1).null()
+        greet(served)
         served.program.send_signal(signal.SIGTERM)
         expect("the end", served.end(), (-signal.SIGTERM, b"", b""))
 

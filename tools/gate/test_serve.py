@@ -22,8 +22,9 @@ from resource import RLIMIT_AS, RLIMIT_NOFILE, setrlimit
 
 import pytest
 
-from gate.crowd import GOOD, MOST, crowd, garbage, never_read, reset, send_garbage, stop_within, wait_for
-from gate.trial import Late, judged, lawful_journal, peer_of, tried_again
+from gate.crowd import (GOOD, MOST, garbage, never_read, read_late, reset, run_crowd, send_garbage, stop_within,
+                        wait_for)
+from gate.trial import Late, greet, judged, lawful_journal, peer_of, tried_again
 from model.entries import Expire, Revoke
 from model.program import Program, bytes_of
 from model.tree import DEFAULT
@@ -95,30 +96,14 @@ def test_unread_replies():
 ENDLESS = 64 << 20
 
 
-def replies_before_a_fault(length, more):
-    """Ten calls whose replies have so many bytes more than they need, a record that is too long, and so many bytes of
-    it. The peer is slow to read, and has a small buffer: what comes of the replies until its connection ends."""
-    tag = opaque(bytes(length))
-    calls = b"".join(call(xid, COMPOUND, tag + words(0, 2, PUTROOTFH, GETATTR, 0)) for xid in range(10))
-    body = words(2) + done(PUTROOTFH) + done(GETATTR, words(0, 0))
-    wanted = b"".join(reply(xid, words(NFS4_OK) + tag + body) for xid in range(10))
-    with serve() as served:
-        with peer_of(served, receive_buffer=4096) as peer:
-            peer.send(calls + words(0xFFFFFFFF) + bytes(more))
-            time.sleep(0.3)
-            got = peer.receive_all()
-        expect_end(served, "record too long")
-    if got != wanted:
-        # The server waits for a silent peer for half a second.
-        raise Late(f"with {more} bytes behind a fault, {len(got)} bytes of {len(wanted)} come of the replies before")
-
-
 @tried_again
 def test_replies_before_a_fault():
     """After a fault the replies to what came before it reach the peer, also where bytes are left that nobody reads. But
     a peer that sends more and more is ended all the same, and so is one that is silent."""
     for length, more in product((0, 3000), (0, 1000, 60000, 200000)):
-        replies_before_a_fault(length, more)
+        with serve() as served:
+            read_late(peer_of(served, receive_buffer=4096), length, more)
+            expect_end(served, "record too long")
     with serve() as served, peer_of(served) as peer:
         peer.send(words(0xFFFFFFFF))
         for _ in range(ENDLESS >> 20):
@@ -132,23 +117,16 @@ def test_replies_before_a_fault():
 # The crowd.
 
 def test_crowd(path_of, tell):
-    over, path = threading.Event(), path_of("crowd.journal")
-    with ThreadPoolExecutor(MOST) as pool, serve("--epoch", "7", "--journal", path, connections=MOST) as served:
+    path = path_of("crowd.journal")
+    with serve("--epoch", "7", "--journal", path, connections=MOST) as served:
         # Who never reads has a small buffer; for the others it does no harm.
-        peers = [peer_of(served, receive_buffer=4096) for _ in range(MOST)]
-        try:
-            doing = [pool.submit(job) for job in crowd(peers, over)]
-            clients = [job.result() for job in doing[:GOOD]]
-        finally:
-            over.set()
-        for job in doing[GOOD:]:
-            job.result()
+        clients = run_crowd([peer_of(served, receive_buffer=4096) for _ in range(MOST)])
         if not served.is_running():
             raise Wrong("it ends before its last connection")
         for client in clients:
             client.peer.socket.close()
         expect_end(served, "record too long", "input ends inside a record", "input not read", "output not written")
-    journal = judged(path, *clients).journal
+    journal = judged(path, *clients)
     users = {entry.principal[1] for entry in journal.entries}
     expect("the users in the journal", users, {*range(GOOD), MOST})
     numbers = [client.number for client in clients]
@@ -279,7 +257,7 @@ def test_lease(path_of, tell):
     with ThreadPoolExecutor(1) as pool, serve("--lease", "1", "--journal", path, connections=4) as served:
         gone, other, watcher, seconds, moment = lease_ends(served, pool)
         expect_end(served)
-    journal = judged(path, gone, other, watcher).journal
+    journal = judged(path, gone, other, watcher)
     expect_expiry(path, journal, gone)
     # All connections' moments are whole seconds since the same start.
     last, = (entry.moment for entry in journal.entries if getattr(entry, "principal", None) == (1, LATE))
@@ -288,6 +266,7 @@ def test_lease(path_of, tell):
     tell(f"a lease of 1 second ended after {seconds:.1f}")
 
 
+@tried_again
 def test_delegation(path_of, tell):
     """A delegation that isn't given back, though its client renews its lease, is taken when it was called back longer
     than a lease ago, and soon after."""
@@ -302,7 +281,7 @@ def test_delegation(path_of, tell):
         for client in holder, other:
             client.peer.socket.close()
         expect_end(served)
-    ends = [entry for entry in judged(path, holder, other).journal.entries if isinstance(entry, (Expire, Revoke))]
+    ends = [entry for entry in judged(path, holder, other).entries if isinstance(entry, (Expire, Revoke))]
     expect("who loses what", [entry[:1] for entry in ends], [(number,)])
     tell(f"a delegation was taken {seconds:.1f} seconds after it was called back, with a lease of {LENT}")
 
@@ -321,14 +300,17 @@ def borrow(client):
 def open_in_the_end(client, holder):
     """Opens the file that the other one holds a delegation on, until that is OK: how many seconds it takes."""
     client.introduce()
-    client.file, begun = 1, time.monotonic()
+    client.file, begun, renewed = 1, time.monotonic(), time.monotonic()
     while True:
         found, seconds = client.ask(words(PUTROOTFH), client.open_words(1)), time.monotonic() - begun
+        if time.monotonic() - renewed > LENT - 1:
+            raise Late("the lease of the other one isn't renewed")
         if found[6] == NFS4_OK:
             break
         client.expect(Status.DELAY, [(None, done(PUTROOTFH)), (None, done(OPEN, status=Status.DELAY))])
         if seconds > LENT + PATIENT:
             raise Wrong(f"a delegation isn't taken in {seconds:.2f} seconds")
+        renewed = time.monotonic()
         holder.want((holder.renew_words(), done(RENEW)))
         time.sleep(0.02)
     if seconds <= LENT:
@@ -383,16 +365,14 @@ def test_addresses(path_of):
         address = f"127.0.0.1:{first.port}"
         with serve(listen=address) as served:
             expect_end(served, "socket", what=address)
-        with peer_of(first) as peer:
-            Client(peer, 1).null()
+        greet(first)
         expect_end(first)
     for _ in range(2):
         with serve(listen=address) as served:
             # Somebody else may have taken it meanwhile.
             if f"127.0.0.1:{served.port}" != address:
                 raise Late(f"it listens on port {served.port}, wanted {address}")
-            with peer_of(served) as peer:
-                Client(peer, 1).null()
+            greet(served)
             expect_end(served)
     if os.path.exists(path):
         raise Wrong("a journal of no run")
@@ -448,8 +428,7 @@ def test_defaults():
     with begin("--listen", "127.0.0.1:0") as served:
         for uid in range(4):
             expect("it runs", served.is_running(), True)
-            with peer_of(served) as peer:
-                Client(peer, uid).null()
+            greet(served, uid)
         expect_end(served)
     for options, words_of_it in (((), b"3 files, lease 90 s, epoch 1"), (
             ("--tree", os.path.join(TOP, "samples/letters.toml"), "--lease", "33", "--epoch", "7"),
@@ -600,8 +579,7 @@ def test_threads(preloaded):
     for most in range(6):
         with serve(connections=3, env=preloaded("refuse_threads.c", MOST_THREADS=str(most))) as served:
             for uid in range(most - 2):
-                with peer_of(served) as peer:
-                    Client(peer, uid).null()
+                greet(served, uid)
             expect_end(served, *(["no memory"] if most < 5 else []))
 
 
@@ -623,7 +601,7 @@ def test_unswept(path_of, preloaded):
         for client in clients:
             client.peer.socket.close()
         expect_end(served, "no memory")
-    entries = judged(path, *clients).journal.entries
+    entries = judged(path, *clients).entries
     expect("who expires", [entry for entry in entries if isinstance(entry, Expire)], [])
 
 

@@ -19,7 +19,7 @@ import pytest
 
 from gate.crowd import MOST, never_read, reset
 from gate.told import Judge
-from gate.trial import Late, expect_in_journal, judged, lawful_journal, peer_of, tried_again
+from gate.trial import Late, expect_in_journal, greet, judged, lawful_journal, peer_of, tried_again
 from model.journal import Growing, journal_bytes
 from model.program import bytes_of
 from model.server import CLIENTS_LIMIT
@@ -122,7 +122,7 @@ def calls_on_state(client):
 
 def part_of(path, least):
     """The journal as it goes, once it has so many entries."""
-    until = time.monotonic() + REPLY_PATIENCE
+    until = time.monotonic() + PATIENCE
     while time.monotonic() < until:
         data = bytes_of(path + ".part")
         try:
@@ -189,6 +189,13 @@ def test_journal(path_of):
     expect("its head", part[:len(empty)], empty)
 
 
+def expect_replies(peer, sent, count=1):
+    """Each of so many calls, which are sent at once, is answered."""
+    peer.send(sent * count)
+    for _ in range(count):
+        expect("whether a reply comes", peer.receive() != b"", True)
+
+
 def test_long_entries(path_of):
     """Entries of 250,000 bytes, and as many short ones as are written in several pieces. At last come so many long ones
     that they aren't there in time if a second goes by from one to the next."""
@@ -198,15 +205,12 @@ def test_long_entries(path_of):
     with serve("--journal", path) as served:
         with peer_of(served) as peer:
             for turn in range(4):
-                peer.send(long_call)
-                expect("a reply to a long call", len(peer.receive()) > 0, True)
+                expect_replies(peer, long_call)
                 for _ in range(50):
-                    peer.send(sent)
-                    expect("a reply", len(peer.receive()) > 0, True)
-            for _ in range(40):
-                peer.send(long_call)
-                expect("a reply to a long call", len(peer.receive()) > 0, True)
-        part = part_of(path, 44 + 4 * 50 * 63)
+                    expect_replies(peer, sent)
+            for _ in range(80):
+                expect_replies(peer, long_call)
+        part = part_of(path, 84 + 4 * 50 * 63)
         expect_end(served)
     empty = journal_bytes(lawful_journal(PROGRAM, path)._replace(entries=[]))
     expect("the journal as it went", part[len(empty):], bytes_of(path)[len(empty):])
@@ -229,8 +233,7 @@ def test_unwritten(path_of):
             clients[path] = be_client(served, 1, 2)
             # More than is written at once.
             with peer_of(served) as peer:
-                peer.send(long_call * LONG)
-                expect("replies to long calls", all(len(peer.receive()) > 0 for _ in range(LONG)), True)
+                expect_replies(peer, long_call, LONG)
             lines = [re.escape(f"{path}: ") + fault, "fault: file not written"] if fault else []
             expect_end(served, *told_first, *lines, status=1 if fault else 0)
     judge = Judge(beginning(bytes_of(folder + ".part")))
@@ -254,8 +257,7 @@ def test_cut(path_of):
     with serve("--journal", path, preexec_fn=limit_files) as served:
         for _ in range(2):
             with peer_of(served) as peer:
-                peer.send(long_call * 2)
-                expect("a reply to a long call", min(len(peer.receive()), len(peer.receive())) > 0, True)
+                expect_replies(peer, long_call, 2)
             time.sleep(LATELY)
         lost = re.escape(f"{path}.part: ") + "File too large .*; the run goes on without it"
         expect_end(served, lost, re.escape(f"{path}: ") + "File too large.*", "fault: file not written", status=1)
@@ -346,14 +348,12 @@ def test_inputs():
         expect_end(served, line, ends_input=False)
     with serve() as served:
         served.program.stdin.write(b"any bytes\n" * 100)
-        with peer_of(served) as peer:
-            Client(peer, 1).null()
+        greet(served)
         expect("it runs", served.is_running(), True)
         expect_end(served)
     with serve(until="--until-killed", stdin=subprocess.DEVNULL) as served:
         time.sleep(1)
-        with peer_of(served) as peer:
-            Client(peer, 1).null()
+        greet(served)
         served.program.kill()
         expect("the end", served.end(), (-signal.SIGKILL, b"", b""))
 

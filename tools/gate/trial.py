@@ -62,6 +62,12 @@ def peer_of(served: Served, **how: Any) -> Peer:
     return Peer(("127.0.0.1", served.port), **how)
 
 
+def greet(served: Served, uid: int = 1) -> None:
+    """A connection that comes gets its answer, and ends."""
+    with peer_of(served) as peer:
+        Client(peer, uid).null()
+
+
 def lawful_journal(program: str | None, path: str) -> Journal:
     """The journal of this file, which the program, if there is one, and the model find lawful."""
     data = bytes_of(path)
@@ -82,13 +88,13 @@ def expect_in_journal(judge: Judge, client: Client) -> None:
     judge.expect_link(b"".join(client.sent), b"".join(client.got), numbers)
 
 
-def judged(path: str, *clients: Client) -> Judge:
-    """The judge of the journal in this file, which is lawful: by it all clients got their replies, which are these."""
+def judged(path: str, *clients: Client) -> Journal:
+    """The journal in this file, which is lawful, and by which all clients got their replies, which are these."""
     judge = Judge(lawful_journal(PROGRAM, path))
     for client in clients:
         expect_in_journal(judge, client)
     judge.expect_ends()
-    return judge
+    return judge.journal
 
 
 def run_parts(parts: Sequence[Callable[[], Any]]) -> None:
