@@ -1,11 +1,11 @@
 """Counts instructions of calls that come after others, by valgrind's callgrind."""
 import os
-import re
 import subprocess
 import tempfile
 import time
 
 from beside import Scene, read_besides
+from callgrind import Callgrind
 from calls import KINDS
 from nfs4.client import Wrong
 from nfs4.messages import split
@@ -85,14 +85,12 @@ def spoken(program, tree, beside, names):
 
 
 class Counted(Process):
-    """`nfs4state once` under callgrind, which counts only what is to be counted: so the rest takes less time."""
+    """`nfs4state once` under callgrind."""
 
     def __init__(self, program, tree, room):
-        self.room, self.replies, self.answered, self.count = room, os.path.join(room, "replies"), 0, 0
-        words = ["valgrind", "--tool=callgrind", "--instr-atstart=no", f"--callgrind-out-file={room}/counts",
-                 f"--log-file={room}/log", program, "once", "--tree", tree]
+        self.callgrind, self.replies, self.answered = Callgrind(room), os.path.join(room, "replies"), 0
         with open(self.replies, "wb") as replies:
-            super().__init__(words, stdout=replies)
+            super().__init__([*self.callgrind.words, program, "once", "--tree", tree], stdout=replies)
 
     def say(self, sent, received):
         """Until all of it is answered."""
@@ -105,21 +103,9 @@ class Counted(Process):
                 raise Wrong(f"of {self.answered} bytes of replies {there} come under valgrind")
             time.sleep(0.005)
 
-    def command(self, *words):
-        """To callgrind."""
-        ran = subprocess.run(["vgdb", f"--pid={self.program.pid}", *words], capture_output=True, text=True)
-        if ran.returncode != 0:
-            raise Wrong(f"vgdb: {ran.stderr.strip()}")
-
     def instructions(self, sent, received):
         """How many this takes."""
-        self.command("instrumentation", "on")
-        self.say(sent, received)
-        self.command("dump")
-        self.command("instrumentation", "off")
-        self.count += 1
-        with open(f"{self.room}/counts.{self.count}", encoding="utf-8") as source:
-            return int(re.search(r"^totals: (\d+)", source.read(), re.MULTILINE)[1])
+        return self.callgrind.instructions(self.program, lambda: self.say(sent, received))
 
     def expect(self, received):
         """In all."""
