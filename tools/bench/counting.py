@@ -15,44 +15,35 @@ from parties import TREE
 PATIENCE = 3600
 
 
-class Process:
+class Process(subprocess.Popen):
     """A process that is gone in the end, however it comes to that."""
 
-    def __init__(self, words, **streams):
-        self.program = subprocess.Popen(words, stdin=subprocess.PIPE, **streams)
-
-    def __enter__(self):
-        return self
-
-    def __exit__(self, *_):
-        if self.program.poll() is None:
-            self.program.kill()
-            self.program.wait()
-        for stream in self.program.stdin, self.program.stdout:
-            if stream is not None:
-                stream.close()
+    def __exit__(self, *given):
+        if self.poll() is None:
+            self.kill()
+        super().__exit__(*given)
 
     def end(self):
         """By the end of its input."""
-        self.program.stdin.close()
-        if (status := self.program.wait(PATIENCE)) != 0:
-            raise Wrong(f"{self.program.args[0]} ends with status {status}")
+        self.stdin.close()
+        if (status := self.wait(PATIENCE)) != 0:
+            raise Wrong(f"{self.args[0]} ends with status {status}")
 
 
 class Conversation(Process):
     """`nfs4state once` as a peer. It keeps what is sent and received, in the parts between the marks."""
 
     def __init__(self, program, tree):
-        super().__init__([program, "once", "--tree", tree], stdout=subprocess.PIPE, bufsize=0)
+        super().__init__([program, "once", "--tree", tree], stdin=subprocess.PIPE, stdout=subprocess.PIPE, bufsize=0)
         self.rest, self.parts = b"", [([], [])]
 
     def send(self, data):
         self.parts[-1][0].append(data)
-        self.program.stdin.write(data)
+        self.stdin.write(data)
 
     def receive(self):
         while not (found := split(self.rest)[0]):
-            if not (more := self.program.stdout.read(1 << 18)):
+            if not (more := self.stdout.read(1 << 18)):
                 raise Wrong("once ends")
             self.rest += more
         self.rest = self.rest[len(found[0]):]
@@ -90,22 +81,23 @@ class Counted(Process):
     def __init__(self, program, tree, room):
         self.callgrind, self.replies, self.answered = Callgrind(room), os.path.join(room, "replies"), 0
         with open(self.replies, "wb") as replies:
-            super().__init__([*self.callgrind.words, program, "once", "--tree", tree], stdout=replies)
+            words = [*self.callgrind.words, program, "once", "--tree", tree]
+            super().__init__(words, stdin=subprocess.PIPE, stdout=replies)
 
     def say(self, sent, received):
         """Until all of it is answered."""
-        self.program.stdin.write(sent)
-        self.program.stdin.flush()
+        self.stdin.write(sent)
+        self.stdin.flush()
         self.answered += len(received)
         until = time.monotonic() + PATIENCE
         while (there := os.path.getsize(self.replies)) < self.answered:
-            if self.program.poll() is not None or time.monotonic() > until:
+            if self.poll() is not None or time.monotonic() > until:
                 raise Wrong(f"of {self.answered} bytes of replies {there} come under valgrind")
             time.sleep(0.005)
 
     def instructions(self, sent, received):
         """How many this takes."""
-        return self.callgrind.instructions(self.program, lambda: self.say(sent, received))
+        return self.callgrind.instructions(self, lambda: self.say(sent, received))
 
     def expect(self, received):
         """In all."""
