@@ -1,11 +1,11 @@
 """Counts instructions of calls that come after others, by valgrind's callgrind."""
 import os
-import re
 import subprocess
 import tempfile
 import time
 
 from beside import Scene, read_besides
+from callgrind import Callgrind
 from calls import KINDS
 from nfs4.client import Wrong
 from nfs4.messages import split
@@ -15,44 +15,35 @@ from parties import TREE
 PATIENCE = 3600
 
 
-class Process:
+class Process(subprocess.Popen):
     """A process that is gone in the end, however it comes to that."""
 
-    def __init__(self, words, **streams):
-        self.program = subprocess.Popen(words, stdin=subprocess.PIPE, **streams)
-
-    def __enter__(self):
-        return self
-
-    def __exit__(self, *_):
-        if self.program.poll() is None:
-            self.program.kill()
-            self.program.wait()
-        for stream in self.program.stdin, self.program.stdout:
-            if stream is not None:
-                stream.close()
+    def __exit__(self, *given):
+        if self.poll() is None:
+            self.kill()
+        super().__exit__(*given)
 
     def end(self):
         """By the end of its input."""
-        self.program.stdin.close()
-        if (status := self.program.wait(PATIENCE)) != 0:
-            raise Wrong(f"{self.program.args[0]} ends with status {status}")
+        self.stdin.close()
+        if (status := self.wait(PATIENCE)) != 0:
+            raise Wrong(f"{self.args[0]} ends with status {status}")
 
 
 class Conversation(Process):
     """`nfs4state once` as a peer. It keeps what is sent and received, in the parts between the marks."""
 
     def __init__(self, program, tree):
-        super().__init__([program, "once", "--tree", tree], stdout=subprocess.PIPE, bufsize=0)
+        super().__init__([program, "once", "--tree", tree], stdin=subprocess.PIPE, stdout=subprocess.PIPE, bufsize=0)
         self.rest, self.parts = b"", [([], [])]
 
     def send(self, data):
         self.parts[-1][0].append(data)
-        self.program.stdin.write(data)
+        self.stdin.write(data)
 
     def receive(self):
         while not (found := split(self.rest)[0]):
-            if not (more := self.program.stdout.read(1 << 18)):
+            if not (more := self.stdout.read(1 << 18)):
                 raise Wrong("once ends")
             self.rest += more
         self.rest = self.rest[len(found[0]):]
@@ -85,41 +76,28 @@ def spoken(program, tree, beside, names):
 
 
 class Counted(Process):
-    """`nfs4state once` under callgrind, which counts only what is to be counted: so the rest takes less time."""
+    """`nfs4state once` under callgrind."""
 
     def __init__(self, program, tree, room):
-        self.room, self.replies, self.answered, self.count = room, os.path.join(room, "replies"), 0, 0
-        words = ["valgrind", "--tool=callgrind", "--instr-atstart=no", f"--callgrind-out-file={room}/counts",
-                 f"--log-file={room}/log", program, "once", "--tree", tree]
+        self.callgrind, self.replies, self.answered = Callgrind(room), os.path.join(room, "replies"), 0
         with open(self.replies, "wb") as replies:
-            super().__init__(words, stdout=replies)
+            words = [*self.callgrind.words, program, "once", "--tree", tree]
+            super().__init__(words, stdin=subprocess.PIPE, stdout=replies)
 
     def say(self, sent, received):
         """Until all of it is answered."""
-        self.program.stdin.write(sent)
-        self.program.stdin.flush()
+        self.stdin.write(sent)
+        self.stdin.flush()
         self.answered += len(received)
         until = time.monotonic() + PATIENCE
         while (there := os.path.getsize(self.replies)) < self.answered:
-            if self.program.poll() is not None or time.monotonic() > until:
+            if self.poll() is not None or time.monotonic() > until:
                 raise Wrong(f"of {self.answered} bytes of replies {there} come under valgrind")
             time.sleep(0.005)
 
-    def command(self, *words):
-        """To callgrind."""
-        ran = subprocess.run(["vgdb", f"--pid={self.program.pid}", *words], capture_output=True, text=True)
-        if ran.returncode != 0:
-            raise Wrong(f"vgdb: {ran.stderr.strip()}")
-
     def instructions(self, sent, received):
         """How many this takes."""
-        self.command("instrumentation", "on")
-        self.say(sent, received)
-        self.command("dump")
-        self.command("instrumentation", "off")
-        self.count += 1
-        with open(f"{self.room}/counts.{self.count}", encoding="utf-8") as source:
-            return int(re.search(r"^totals: (\d+)", source.read(), re.MULTILINE)[1])
+        return self.callgrind.instructions(self, lambda: self.say(sent, received))
 
     def expect(self, received):
         """In all."""

@@ -1,13 +1,16 @@
-"""A server that lends files, and what a client does about those that are lent to others."""
+"""A server that lends files, how long its sweeps run, and what a client does about files that are lent to others."""
+import os
+import time
 from contextlib import contextmanager
 from tempfile import NamedTemporaryFile
 
 from beside import Scene
 from nfs4.client import BOTH, Wrong
 from nfs4.messages import NFS4_OK
-from nfs4.served import Peer, Served
+from nfs4.served import Peer
 from nfs4.wire import Status
 from parties import TREE
+from servers import serving
 
 
 @contextmanager
@@ -16,14 +19,23 @@ def server(program, lease):
     with NamedTemporaryFile("w", suffix=".toml") as tree:
         tree.write(TREE)
         tree.flush()
-        command = [program, "serve", "--listen", "127.0.0.1:0", "--connections", "1", "--lease", str(lease)]
-        with Served([*command, "--tree", tree.name]) as served:
-            if served.port is None:
-                raise Wrong(f"it doesn't listen: {served.end()}")
-            with Peer(("127.0.0.1", served.port)) as peer:
-                yield served.program.pid, Scene(peer)
-            if (ending := served.end())[0] != 0:
-                raise Wrong(f"it ends with {ending}")
+        serve = [program, "serve", "--lease", str(lease), "--tree", tree.name]
+        with serving(serve) as served, Peer(("127.0.0.1", served.port)) as peer:
+            yield served.program.pid, Scene(peer)
+
+
+def sweeper_milliseconds(pid):
+    """How long the thread has run so far that the server made first, which is that of the sweeps."""
+    thread = sorted(map(int, os.listdir(f"/proc/{pid}/task")))[1]
+    with open(f"/proc/{pid}/task/{thread}/schedstat", encoding="ascii") as source:
+        return int(source.read().split()[0]) / 1e6
+
+
+def sweep_alone(pid, seconds):
+    """How long a sweep runs, of which there is one each second, where nobody calls for so many seconds."""
+    begun = sweeper_milliseconds(pid)
+    time.sleep(seconds)
+    return (sweeper_milliseconds(pid) - begun) / seconds
 
 
 def renew(clients):

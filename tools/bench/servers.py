@@ -6,15 +6,12 @@ import subprocess
 import time
 from contextlib import contextmanager
 
-from nfs4.served import SERVING
+from nfs4.served import Served
+from script import Failure, said_by
 
 HERE = os.path.dirname(os.path.abspath(__file__))
 # The seconds that a server has to listen, or to end.
 PATIENCE = 30
-
-
-class Failure(Exception):
-    """What went wrong, as a line."""
 
 
 def build(source, folder):
@@ -22,10 +19,7 @@ def build(source, folder):
     if shutil.which("rustc") is None:
         raise Failure("there is no rustc to build the load with: https://rustup.rs")
     path = os.path.join(folder, source.partition(".")[0].partition("/")[0])
-    words = ["rustc", "-O", "--edition", "2021", "-o", path, os.path.join(HERE, source)]
-    built = subprocess.run(words, capture_output=True, text=True)
-    if built.returncode != 0:
-        raise Failure(f"{source} can't be built:\n{built.stderr}")
+    said_by(["rustc", "-O", "--edition", "2021", "-o", path, os.path.join(HERE, source)], f"{source} can't be built")
     return path
 
 
@@ -39,8 +33,19 @@ def end(process):
             process.wait()
 
 
+@contextmanager
+def serving(words, connections=1, name="nfs4state"):
+    """A server by its command, which takes so many connections, and ends by itself when these have ended."""
+    with Served([*words, "--listen", "127.0.0.1:0", "--connections", str(connections)]) as served:
+        if served.port is None:
+            raise Failure(f"{name} doesn't listen: {served.end()}")
+        yield served
+        if (ending := served.end()) != (0, b"", b""):
+            raise Failure(f"{name} ends with {ending}")
+
+
 class Counted:
-    """A server that is started for each load, takes so many connections, and ends by itself when these have ended."""
+    """A server that is started for each load."""
 
     def __init__(self, name, words):
         self.name, self.words, self.load_options = name, words, []
@@ -48,28 +53,8 @@ class Counted:
     @contextmanager
     def serving(self, connections):
         """The port and the process's number."""
-        words = [*self.words, "--listen", "127.0.0.1:0", "--connections", str(connections)]
-        process = subprocess.Popen(words, stdin=subprocess.DEVNULL, stdout=subprocess.DEVNULL, stderr=subprocess.PIPE)
-        try:
-            yield self.port(process), process.pid
-            self.expect_end(process)
-        finally:
-            end(process)
-
-    def port(self, process):
-        line = process.stderr.readline().decode().strip()
-        if not line.startswith("listening on 127.0.0.1:"):
-            raise Failure(f"{self.name} says where it listens by the line: {line}")
-        return int(line.rpartition(":")[2])
-
-    def expect_end(self, process):
-        try:
-            errors = process.communicate(timeout=PATIENCE)[1]
-        except subprocess.TimeoutExpired:
-            raise Failure(f"{self.name} doesn't end by itself") from None
-        said = SERVING.sub(b"", errors, count=1).decode().strip()
-        if process.returncode != 0 or said:
-            raise Failure(f"{self.name} ends with status {process.returncode}: {said}")
+        with serving(self.words, connections, self.name) as served:
+            yield served.port, served.program.pid
 
 
 class Ganesha:

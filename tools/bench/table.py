@@ -77,17 +77,8 @@ class Cell:
     def pair(self):
         return self.connections, self.under_way
 
-    def least_rate(self):
-        return LEAST_RATES.get(self.workload, {}).get(self.pair())
-
-    def most_processor(self):
-        return MOST_PROCESSOR.get(self.workload, {}).get(self.under_way)
-
-    def least_of_many(self):
-        return LEAST_OF_MANY.get(self.workload)
-
-    def most_of_echo(self):
-        return MOST_OF_ECHO.get(self.workload, {}).get(self.pair())
+    def bound(self, bounds, key):
+        return bounds.get(self.workload, {}).get(key)
 
 
 class Cells:
@@ -151,7 +142,7 @@ def table(cells, say, of_echo, without=()):
 
 
 def rate(cell):
-    ratios = beside(cell.ratios("rate"), least=cell.least_rate())
+    ratios = beside(cell.ratios("rate"), least=cell.bound(LEAST_RATES, cell.pair()))
     return f"{cell.both('rate', 1000)} {ratios}".strip()
 
 
@@ -160,26 +151,30 @@ def latency(cell):
 
 
 def processor(cell):
-    ratios = beside(cell.ratios("processor"), most=cell.most_processor(), say=of_median)
+    ratios = beside(cell.ratios("processor"), most=cell.bound(MOST_PROCESSOR, cell.under_way), say=of_median)
     return f"{cell.both('processor')} {ratios}".strip()
+
+
+def told(head, ratios):
+    """A line of ratios by their names, if there are any."""
+    said = ", ".join(f"{name} {ratio}" for name, ratio in ratios if ratio)
+    return [filled(f"{head}: {said}.")] if said else []
 
 
 def of_many(cells):
     """Many connections by one alone, where as many calls are under way."""
-    found = {NAMES[cell.workload]: beside(cells.of_many(cell), least=cell.least_of_many(), say=of_median)
-             for cell in cells.found.values() if cell.least_of_many()}
-    said = ", ".join(f"{name} {ratio}" for name, ratio in found.items() if ratio)
     many, alone = ("×".join(map(str, pair)) for pair in (MANY, ALONE))
-    return [filled(f"The rate of {OURS} with {many} by its own with {alone}: {said}.")] if said else []
+    return told(f"The rate of {OURS} with {many} by its own with {alone}", (
+        (NAMES[cell.workload], beside(cells.of_many(cell), least=LEAST_OF_MANY[cell.workload], say=of_median))
+        for cell in cells.found.values() if cell.workload in LEAST_OF_MANY))
 
 
 def of_echo(cells):
     """Processor time by the echo's."""
-    found = {f"{NAMES[cell.workload]} with {cell.connections}×{cell.under_way}": beside(
-        cells.of_echo(cell), most=cell.most_of_echo(), say=of_median)
-             for cell in cells.found.values() if cell.most_of_echo()}
-    said = ", ".join(f"{name} {ratio}" for name, ratio in found.items() if ratio)
-    return [filled(f"Of {OURS} by what NULL takes the echo: {said}.")] if said else []
+    return told(f"Of {OURS} by what NULL takes the echo", (
+        (f"{NAMES[cell.workload]} with {cell.connections}×{cell.under_way}",
+         beside(cells.of_echo(cell), most=cell.bound(MOST_OF_ECHO, cell.pair()), say=of_median))
+        for cell in cells.found.values() if cell.bound(MOST_OF_ECHO, cell.pair())))
 
 
 def tables(lines, servers, how):

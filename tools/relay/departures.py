@@ -2,13 +2,25 @@
 tell of it. Each case has rules, separated by |, a client and its peer, and what a server answers to calls that come
 again, if it isn't what it should; then the words of the lines that are told as WRONG, each of which has one here, words
 that come in others, a status, if it isn't 1 where something is wrong and else 0, and options."""
-from collections import namedtuple
+from collections.abc import Sequence
+from typing import NamedTuple
 
-from relay.peers import (Ahead, Content, GivingUp, Hurrying, Impatient, Late, Patient, Renumbering, Resender, Resetting,
-                         Respelling, Stuck, Wandering, forgets_a_close, gives_another_stateid)
+from relay.peers import (Ahead, Change, Content, GivingUp, Hurrying, Impatient, Late, Patient, Renumbering, Resender,
+                         Resetting, Respelling, Stuck, Wandering, forgets_a_close, gives_another_stateid)
 
-Case = namedtuple("Case", "name rules client peer change wrong told status options", defaults=(
-    Patient, Resender, None, (), (), None, ()))
+
+class Case(NamedTuple):
+    name: str
+    rules: str
+    client: type[Patient] = Patient
+    peer: type[Resender] = Resender
+    change: Change | None = None
+    wrong: Sequence[str] = ()
+    told: Sequence[str] = ()
+    status: int | None = None
+    options: Sequence[str] = ()
+
+
 AGAIN, ORDER, KEPT = (rf" \(RFC 7530, section {section}\)$" for section in (r"3\.1\.1", r"9\.1\.7", r"9\.1\.8"))
 FORGOTTEN = rf"WRONG 1: answered \S*BAD_STATEID, another answer than \S*OK{KEPT}"
 ANOTHER = rf"^WRONG 1: answered \S*OK, another answer than \S*OK{KEPT}"

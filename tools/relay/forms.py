@@ -10,7 +10,7 @@ CHANGE = words(1) + u64(5) + u64(6)
 NAME = opaque(b"name")
 
 
-def open_arguments(how=words(0), claim=words(0) + NAME):
+def open_arguments(how: bytes = words(0), claim: bytes = words(0) + NAME) -> bytes:
     return words(1, 3, 0) + OWNER + how + claim
 
 
@@ -35,7 +35,7 @@ ARGUMENTS = {
     36: [u64(1) + bytes(8)], 37: [ATTRIBUTES], 38: [STATEID + u64(0) + words(2) + opaque(b"data!")], 39: [OWNER]}
 
 
-def delegations():
+def delegations() -> list[bytes]:
     """What an OPEN may lend: nothing, a file to read, or one to write, by a count of bytes or of blocks."""
     entry = words(0, 0, 0) + opaque(b"who@here")
     return [words(0), words(1) + STATEID + words(0) + entry, words(2) + STATEID + words(0, 1) + u64(9) + entry,
