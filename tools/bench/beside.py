@@ -21,7 +21,7 @@ class Scene:
     def come(self):
         """One more client."""
         self.count += 1
-        return Party(self.peer, self.count).arrive()
+        return Party(self.peer, self.count, self).arrive()
 
 
 def clients(scene, count):

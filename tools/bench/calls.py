@@ -5,100 +5,92 @@ from beside import STEP, be_known, lock_runs
 from nfs4.client import BOTH, done, under, Wrong
 from nfs4.messages import CLOSE, NFS4_OK, RELEASE_LOCKOWNER, words
 from nfs4.wire import Status, u64
-from parties import ALL, FILE, NAME, OTHERS, TO_READ
+from parties import ALL, FILE, NAME, OTHERS, TO_READ, Party
 
 # A state's number that is never given; and a byte in the middle of 1,000 runs, that touches none.
 NO_STATE, MIDDLE = 0xFFFFFFF0, STEP * 500 + STEP // 2
 
 
-def nothing(party, scene):
+def nothing(party):
     pass
 
 
-def open_and_close(party, scene):
+def open_and_close(party):
     party.open_file(FILE)
     party.close()
 
 
-def be_lent_it(party, scene):
+def be_lent_it(party):
     """From here on its OPENs to read bring nothing more."""
     be_known(party)
     party.borrow_and_close(NAME)
     party.access = TO_READ
 
 
-def open_it(party, scene):
+def open_it(party):
     party.open_file(FILE)
 
 
-def hold_runs(party, scene):
+def hold_runs(party):
     """The runs that whoever is measured is to hold."""
     party.open_file(FILE)
-    if scene.own_runs:
-        lock_runs(party, scene.own_runs)
+    if party.scene.own_runs:
+        lock_runs(party, party.scene.own_runs)
 
 
-def hold_a_lock_state(party, scene):
+def hold_a_lock_state(party):
     """With these runs, or none."""
-    hold_runs(party, scene)
-    if not scene.own_runs:
+    hold_runs(party)
+    if not party.scene.own_runs:
         party.lock_as(party.locker, MIDDLE)
         party.unlock_byte(MIDDLE)
 
 
-def lock_and_unlock(party, scene):
+def lock_and_unlock(party):
     party.lock_byte(MIDDLE)
     party.unlock_byte(MIDDLE)
 
 
-def test(party, scene):
+def test(party):
     party.test(u64(MIDDLE) + u64(1))
 
 
-def test_all(party, scene):
+def test_all(party):
     party.test(ALL)
 
 
-def read(party, scene):
-    party.read()
-
-
-def introduce_again(party, scene):
-    party.arrive()
-
-
-def close_once(party, scene):
+def close_once(party):
     party.open_file(FILE)
     party.closing = party.close_words(party.last + 1)
     party.close()
 
 
-def close_again(party, scene):
+def close_again(party):
     party.want(*under(FILE, party.closing, done(CLOSE, party.open_stateid())))
 
 
-def close_nothing(party, scene):
+def close_nothing(party):
     party.refuse(Status.BAD_STATEID, words(CLOSE, party.last + 1) + party.stateid(NO_STATE, 1))
 
 
-def reopen_oldest(party, scene):
-    owner = scene.openers.popleft()
+def reopen_oldest(party):
+    owner = party.scene.openers.popleft()
     owner.close()
     owner.open_it(NAME)
-    scene.openers.append(owner)
+    party.scene.openers.append(owner)
 
 
-def release_oldest(party, scene):
-    owner, locker = scene.idle.popleft()
+def release_oldest(party):
+    owner, locker = party.scene.idle.popleft()
     owner.locker = locker
     owner.want((owner.release_words(), done(RELEASE_LOCKOWNER)))
 
 
-def open_for_writing(party, scene):
+def open_for_writing(party):
     """Another file each time, of which all that is lent is called back."""
     party.turn = getattr(party, "turn", -1) + 1
     status = party.open_by_name(OTHERS[party.turn], BOTH).status
-    if status != (Status.DELAY if scene.lenders else NFS4_OK):
+    if status != (Status.DELAY if party.scene.lenders else NFS4_OK):
         raise Wrong(f"an OPEN gets status {status}")
 
 
@@ -113,8 +105,8 @@ KINDS = {
                        2, 50, 250),
     "LOCKT": Kind("of a byte, for reading", hold_runs, test, 1, 50, 500),
     "LOCKT-of-all": Kind("of all bytes, for reading", open_it, test_all, 1, 2, 20),
-    "READ": Kind("of 4 KiB, by an open's stateid", open_it, read, 1, 50, 500),
-    "SETCLIENTID+CONFIRM": Kind("of one id, by the same verifier", nothing, introduce_again, 2, 50, 250),
+    "READ": Kind("of 4 KiB, by an open's stateid", open_it, Party.read, 1, 50, 500),
+    "SETCLIENTID+CONFIRM": Kind("of one id, by the same verifier", nothing, Party.arrive, 2, 50, 250),
     "CLOSE-again": Kind("one that was answered OK comes again", close_once, close_again, 1, 50, 500),
     "CLOSE-of-nothing": Kind("by the number of no state", close_once, close_nothing, 1, 50, 500),
     "oldest-CLOSE+OPEN": Kind("each time by the owner of the oldest open of the file", nothing, reopen_oldest,

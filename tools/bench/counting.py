@@ -66,10 +66,10 @@ def spoken(program, tree, beside, names):
             make(scene, *numbers)
         for name in names:
             kind, party = KINDS[name], scene.come()
-            kind.begin(party, scene)
+            kind.begin(party)
             for times in kind.before, kind.times:
                 for _ in range(times):
-                    kind.again(party, scene)
+                    kind.again(party)
                 conversation.mark()
         conversation.end()
         return conversation.joined()

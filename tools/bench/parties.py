@@ -27,11 +27,12 @@ TO_READ, ALL = 1, u64(0) + u64(2**64 - 1)
 
 
 class Party(Borrower):
-    """A client by one of its owners: the others are copies. The first lock of a lock owner is of one byte."""
+    """A client of a scene, by one of its owners: the others are copies. The first lock of a lock owner is of one
+    byte."""
 
-    def __init__(self, peer, uid):
+    def __init__(self, peer, uid, scene):
         super().__init__(peer, uid)
-        self.byte = 0
+        self.scene, self.byte = scene, 0
 
     def arrive(self):
         self.introduce(NOWHERE)
