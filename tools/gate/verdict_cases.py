@@ -2,7 +2,7 @@
 those before them; of this version of the file, and of the one before."""
 from model.entries import Answer, Call, Expire, Forget, MOMENT_LIMIT, Path, Revoke
 from model.journal import EARLIER, Recorder, journal_bytes
-from model.journal_cases import (CALLBACK, FILE, NOBODY, NOTHING, NOT_JOURNAL, OPENED, SOMEBODY, ask_for_number,
+from gate.journal_cases import (CALLBACK, FILE, NOBODY, NOTHING, NOT_JOURNAL, OPENED, SOMEBODY, ask_for_number,
                                  close_by_a, confirm, earlier, file_of, give_back, holding, idle, introduce, journal_of,
                                  lent, listed_and_set, small)
 from model.tree import Tree

@@ -1,7 +1,7 @@
-"""Refusals, each with the reason that has to be given for it, for check_reasons.py. The reasons were worked out from
+"""Refusals, each with the reason that has to be given for it, for test_reasons.py. The reasons were worked out from
 docs/RULES.md: what stands in the way, since which entry, and under which heading that is."""
+from gate.journal_cases import CALLBACK, FOR_CLIENTS, LAST, NO_CREATE, NOBODY, SOMEBODY
 from model.journal import Recorder
-from model.journal_cases import CALLBACK, FOR_CLIENTS, LAST, NO_CREATE, NOBODY, SOMEBODY
 from model.tree import DEFAULT, Tree
 from nfs4.wire import (Claim, Close, Delegreturn, Getattr, KnownLocker, Lock, LockOwner, Lockt, Locku, NewLocker, Open,
                        OpenConfirm, OpenDowngrade, OpenOwner, Openhow, Opnum, Read, Readdir, ReleaseLockowner, Setattr,
@@ -784,8 +784,7 @@ def closes_beside_locks():
     return story
 
 
-def stories():
-    return [stateids(), ends(), clients(), records_that_give_way(), sequence_ids(), kept_answers(), no_kept_answers(),
-            opens(), shares(), many_shares(), locks(), bytes_of_files(), bytes_of_lent_files(), delays(), many_delays(),
-            delegation_stateids(), ends_of_delegations(), clients_with_delegations(), clients_of_slots(),
-            owners_that_are_forgotten(), closes_beside_locks(), listings(), sizes()]
+STORIES = (stateids, ends, clients, records_that_give_way, sequence_ids, kept_answers, no_kept_answers, opens, shares,
+           many_shares, locks, bytes_of_files, bytes_of_lent_files, delays, many_delays, delegation_stateids,
+           ends_of_delegations, clients_with_delegations, clients_of_slots, owners_that_are_forgotten,
+           closes_beside_locks, listings, sizes)

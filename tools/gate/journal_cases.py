@@ -1,8 +1,8 @@
-"""Journals for check_journals.py: one with each operation, files written out, and files that are no journals, each with
+"""Journals for test_journals.py: one with each operation, files written out, and files that are no journals, each with
 the reason. Some are of the version of the file before this one."""
 import itertools
 
-from model.entries import Answer, Call, Expire, Forget, MOMENT_LIMIT, Path, Revoke, STATUSES, StrictReader
+from model.entries import Answer, Call, Expire, Forget, MOMENT_LIMIT, Path, Revoke, STATUSES, StrictReader, entry_bytes
 from model.journal import (EARLIER, HEAD, HEAD_OF, HEAD_OF_CLIENTS, Journal, Recorder, head_bytes, journal_bytes,
                            read_whole)
 from model.tree import CALLBACKS, CLIENTS, CLOSE_LOCKS, DEFAULT, DELEGATIONS, Node, PROFILES, Policy, ROOT, Tree
@@ -13,8 +13,6 @@ from nfs4.wire import (Callback, Claim, KnownLocker, LockOwner, NewLocker, OpenO
 CLIENTS_POLICY = Tree().policy._replace(profile=CLIENTS)
 NOT_JOURNAL = "fault: not a journal"
 OTHER_WORDS = "other words than the layout has"
-
-
 LAST = 2**32 - 1
 
 
@@ -325,6 +323,31 @@ def written_out():
     data = journal_bytes(journal_of([*ends, Forget(OpenOwner(1, 257, b"ABCDE"), 2**32 + 7)], [], refusing))
     yield data, f"""4e46534a 524e3033 00000001 0000005a 00000002 00000000 00000001 00000000 00000005 {words}
         00000005 00000001 00000101 00000005 41424344 45000000 00000001 00000007"""
+
+
+# Beginnings of journals.
+
+def beginning_of(journal):
+    """Its file with 0 as the number of entries."""
+    return with_words(journal_bytes(journal), len(head_bytes(journal)), 0)
+
+
+def beginnings():
+    """A name and a file, none of which is a journal."""
+    data = beginning_of(small())
+    yield "a beginning", data
+    yield "a beginning that is cut", data[:-4]
+    yield "a beginning with one entry", data[:places_of(small())[1]]
+    yield "a beginning of the earlier version", beginning_of(earlier(small()))
+    yield 'a beginning under "clients"', beginning_of(listed_and_set())
+
+
+def places_of(journal):
+    """Where the first entry begins in the file, and where each ends."""
+    places = [len(head_bytes(journal)) + 4]
+    for entry in journal.entries:
+        places.append(places[-1] + len(entry_bytes(entry)))
+    return places
 
 
 # Files that are no journals: a name, the file, and the reason.
@@ -676,3 +699,7 @@ def all_answers():
     for number in (*range(42), 10043, Opnum.ILLEGAL, 10045, LAST):
         for status in sorted(STATUSES | {1, 5, 28, 62, 10000, 10002, 10006, 10009, 10045, LAST}):
             yield f"an answer to {number} of status {status}", answered(Answer(number, status, b""))
+
+
+# All of them.
+BROKEN = (broken_padding, broken_lengths, broken_heads, broken_entries, broken_operations, broken_answers, broken_nodes)
