@@ -517,21 +517,45 @@ def test_once(number, since, program, memory, add_up):
 
 # Servers on TCP.
 
-def sent_to(served, sent, is_kept_waiting=False):
-    """What a server sends for these bytes, up to the end of the connection; nothing where it has ended before. Where its
-    workers may wait for memory that never comes, it is what comes soon."""
-    try:
-        with Peer(("127.0.0.1", served.port)) as peer:
-            peer.send(sent)
-            peer.finish()
+class Sending:
+    """A connection to a server, by which these bytes are sent. Where the server has ended before, nothing comes."""
+
+    def __init__(self, served, sent):
+        self.peer = None
+        if served.port is not None:
             try:
-                return peer.receive_all(LOOKED if is_kept_waiting else REPLY_PATIENCE)
-            except TimeoutError:
-                if not is_kept_waiting:
-                    raise
-                return peer.rest
-    except (ConnectionRefusedError, ConnectionResetError):
-        return b""
+                self.peer = Peer(("127.0.0.1", served.port))
+                self.peer.send(sent)
+                self.peer.finish()
+            except (ConnectionRefusedError, ConnectionResetError):
+                pass
+
+    def receive(self, seconds=REPLY_PATIENCE):
+        """What comes up to the end of the connection."""
+        return b"" if self.peer is None else self.peer.receive_all(seconds)
+
+    def has_end(self, seconds):
+        """Whether the connection ends so soon, or there is none: it doesn't where a worker waits for memory that never
+        comes."""
+        try:
+            while self.peer is not None and self.peer.take_more(seconds):
+                pass
+            return True
+        except TimeoutError:
+            return False
+
+    def close(self):
+        if self.peer is not None:
+            self.peer.socket.close()
+
+
+def sent_to(served, sent):
+    """What a server sends for these bytes, up to the end of the connection."""
+    sending = Sending(served, sent)
+    try:
+        return sending.receive()
+    finally:
+        sending.close()
 
 
 def entries_of(data):
@@ -554,8 +578,7 @@ def test_serve(since, memory, tell):
     def is_refused(growth):
         refusal = memory.refusal(growth, since)
         with Served(serve_command(row, path, "--connections", "1"), env=refusal.environment) as served:
-            got = b"" if served.port is None else sent_to(served, connection.sent)
-            ending, data = served.end(), taken(path)
+            got, ending, data = sent_to(served, connection.sent), served.end(), taken(path)
         when = refusal.when()
         # Where a growth was refused within a call, its reply says so; but there is one.
         are_as_many = len(split_records(got)[0]) == len(split_records(connection.wanted)[0])
@@ -612,12 +635,17 @@ def test_going_on(since, memory, tell):
         path, refusal = memory.new_path("journal"), memory.refusal(growth, since)
         command = serve_command(row, path, "--until-input-ends", "--connections", "2")
         with Served(command, env=refusal.environment, stdin=subprocess.PIPE) as served:
-            got = b"" if served.port is None else sent_to(served, connection.sent, since)
+            sending = Sending(served, connection.sent)
+            if not sending.has_end(LOOKED if since else REPLY_PATIENCE) and not since:
+                raise Wrong(f"where growth {growth} is refused, its connection has no end")
             if not since and served.port is not None and not serves_on(served):
                 raise Wrong(f"where growth {growth} is refused, it serves no connection after it")
             time.sleep(LOOKED * served.is_running())
             served.end_input()
             (status, _, errors), data, part = served.end(), taken(path), taken(path + ".part")
+            # Also what came while it was thought to wait.
+            got = sending.receive()
+            sending.close()
         was_refused, fault = refusal.took_place(), TOLD.sub(b"", errors)
         is_ending = (status, fault) == (0, b"") or status == 1 and was_refused and fault in REFUSALS
         is_reply = was_refused or got == connection.wanted
@@ -755,7 +783,7 @@ def test_end_of_connection(memory):
 
 # The libraries' tests.
 
-def tests_of(path, named):
+def named_tests(path, named):
     """The test of this name, or all tests of the module."""
     listed = subprocess.run([path, "--list"], stdout=subprocess.PIPE, check=True, text=True).stdout
     names = [line.removesuffix(": test") for line in listed.splitlines() if line.endswith(": test")]
@@ -767,7 +795,7 @@ def test_tests(crate, named, memory, add_up):
     """They pass with each of their growths refused."""
     path = os.path.join(TOP, f"crates/{crate}/out/{crate}_tests")
     assert os.path.exists(path), f"`rt test` in crates/{crate} builds it"
-    found = tests_of(path, named)
+    found = named_tests(path, named)
     assert found
     for test in found:
         def is_refused(growth):
