@@ -1,5 +1,8 @@
-"""Clients that renew their leases at the last moment, beside the sweeps of `nfs4state serve`; and the judge of all that
-they got, which is tried on histories before.
+"""Clients that renew their leases at the last moment, beside the sweeps of `nfs4state serve`.
+
+By the journal, the replies and their times (`timed.py`) none is ended within a lease of a renewal that was answered, or
+seen last when nothing renewed; no RENEW is OK that was sent behind a reply from after its client's end, also where its
+slot is given again; and a sweep that ends one leaves none whose lease is over.
 
 Several threads have two connections and a few clients each. A client renews its lease where that would be over, at the
 edge of a second, a little before or behind the time at which the sweep comes: there where as many renewals miss it as
@@ -9,18 +12,16 @@ so does now and then one that hasn't, whose place it takes; meanwhile the thread
 numbers. One more connection keeps the lock busy about the time of the sweep."""
 import os
 import random
-import sys
 import tempfile
 import time
 from collections import Counter, namedtuple
 from concurrent.futures import ThreadPoolExecutor
 
 from gate.timed import Exchange, SECOND, TimedJudge, numbers_of
-from gate.timed_cases import try_cases
 from model.attributes import SIZE
 from model.entries import Call, Expire
 from model.journal import NotJournal, read_journal, verdict
-from model.program import bytes_of
+from model.program import Program, bytes_of
 from model.server import NOT_COUNTED, RENEWING_BY_CLIENTID, RENEWING_BY_STATEID
 from model.states import SLOTS
 from nfs4.client import Client, numbers_of as words_of, way_to, Wrong
@@ -364,19 +365,16 @@ class Tally:
         tries = self.counts["in time"] + self.counts["missed"]
         return found + [what for what in ("in time", "missed") if 20 * self.counts[what] < tries]
 
-    def tell(self, seconds):
-        return ("stress: clients with leases of {} s renew at the last moment for {seconds} s, {in time} times in "
-                "time, and miss it {missed} times; {came} came, {again} of them in slots that were given before, "
-                "{ended} were ended by sweeps, none within a lease of a renewal that was answered, and {replaced} "
-                "replaced; {renewed} operations renewed a lease, and {refused} named a client that wasn't live; "
-                "{renews} RENEWs are answered as their clients were live, of which {sure} could be answered only so"
-                ).format(" and ".join(map(str, LEASES)), seconds=seconds, **self.counts)
+    def words(self) -> str:
+        return ("leases of {} s are renewed at the last moment {in time} times in time, and {missed} times missed; {came} "
+                "clients came, {again} of them in slots that were given before, {ended} were ended by sweeps, none within "
+                "a lease of a renewal that was answered, and {replaced} replaced; {renewed} operations renewed a lease, "
+                "and {refused} named a client that wasn't live; {renews} RENEWs are answered as their clients were live, "
+                "of which {sure} could be answered only so").format(" and ".join(map(str, LEASES)), **self.counts)
 
 
-def run(program, seconds, seed):
-    """Clients at one server for each lease, at once; it ends where something is wrong."""
-    if (wrong := try_cases()) is not None:
-        sys.exit(f"stress: {wrong}")
+def run(program: Program, seconds: int, seed: int) -> Tally:
+    """Clients at one server for each lease, at once."""
     tally = Tally()
     with ThreadPoolExecutor(len(LEASES)) as pool:
         servers = [pool.submit(serve, program.path, lease, seconds, seed) for lease in LEASES]
@@ -387,7 +385,5 @@ def run(program, seconds, seed):
             tally.add(outcome, judge(outcome, program))
         except (Wrong, NotJournal, OSError) as wrong:
             kept = f"; see {keep(outcome)}" if outcome else ""
-            sys.exit(f"stress: at the last moment of leases of {lease} s: {wrong}{kept}")
-    print(tally.tell(seconds))
-    if tally.missing():
-        sys.exit(f"stress: nothing, or little, of {', '.join(tally.missing())}, so that this shows too little")
+            raise Wrong(f"at the last moment of leases of {lease} s: {wrong}{kept}") from wrong
+    return tally
