@@ -3,8 +3,8 @@ calls are those of `model/fuzz.py`, without its orders.
 
 Each run is a server of its own with eight connections: a call goes over one of them, and its reply has come before the
 next one is sent. Clients are called back at a listener that answers each call OK, and have a lease that doesn't end
-meanwhile, so that no owner is forgotten. At the end the journal is lawful, by `nfs4state audit` and by the model, and has
-just the entries that the model has, but for their moments."""
+meanwhile, so that no owner is forgotten. At the end the journal is lawful, by `nfs4state audit` and by the model, and
+has just the entries that the model has, but for their moments."""
 import os
 import subprocess
 from collections import Counter

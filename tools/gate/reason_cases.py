@@ -1,5 +1,8 @@
 """Refusals, each with the reason that has to be given for it, for test_reasons.py. The reasons were worked out from
 docs/RULES.md: what stands in the way, since which entry, and under which heading that is."""
+from collections.abc import Callable, Sequence
+from typing import Any
+
 from gate.journal_cases import CALLBACK, FOR_CLIENTS, LAST, NO_CREATE, NOBODY, SOMEBODY
 from model.journal import Recorder
 from model.tree import DEFAULT, Tree
@@ -7,6 +10,9 @@ from nfs4.wire import (Claim, Close, Delegreturn, Getattr, KnownLocker, Lock, Lo
                        OpenConfirm, OpenDowngrade, OpenOwner, Openhow, Opnum, Read, Readdir, ReleaseLockowner, Setattr,
                        Setclientid, SetclientidConfirm, Stateid, Write)
 
+# A reason in words, and the heading of the rules that it stands under; and who sends a call.
+Reason = tuple[str, str]
+Principal = tuple[int, int]
 ROOT, FILE, OTHER_FILE, DIRECTORY = 0, 1, 2, 3
 ALL = 2**64 - 1
 ZEROS, ONES = Stateid(0, 0, 0, 0), Stateid(LAST, LAST, LAST, LAST)
@@ -20,84 +26,93 @@ OPEN_BY_A = 'OPEN by open owner "A" of client 1'
 class Story:
     """Calls to a server, one after the other, and the reasons that are wanted of those that are refused."""
 
-    def __init__(self, name, document=DEFAULT):
-        self.name, self.server, self.wanted = name, Recorder(Tree(document)), {}
+    def __init__(self, name: str, document: str = DEFAULT) -> None:
+        self.name, self.server = name, Recorder(Tree(document))
+        self.wanted: dict[int, Reason] = {}
         # By the numbers of entries: the texts of what they do about delegations.
-        self.events = {}
+        self.events: dict[int, list[str]] = {}
         # By the numbers of entries that have a kept answer: the texts that say whose it is.
-        self.again = {}
+        self.again: dict[int, str] = {}
 
-    def tell(self, *texts):
+    def tell(self, *texts: str) -> None:
         """What the next entry is to do about delegations."""
         self.events[self.server.entries] = list(texts)
 
-    def call(self, opnum, arguments, because=None, filehandle=FILE, principal=NOBODY):
+    def call(self, opnum: Opnum, arguments: Any, because: Reason | None = None, filehandle: int | None = FILE,
+             principal: Principal = NOBODY) -> None:
         if because is not None:
             self.wanted[self.server.entries] = because
         self.server.apply(opnum, arguments, filehandle, principal)
 
-    def repeat(self, number, whose=None, because=None):
+    def repeat(self, number: int, whose: str | None = None, because: Reason | None = None) -> None:
         """The call of this entry once more; where it is said whose, it has to have the answer that was kept of it."""
         if whose is not None:
             self.again[self.server.entries] = f"{whose} is the request of entry {number} again"
         call = self.server.recorded[number]
         self.call(call.opnum, call.arguments, because, call.filehandle, call.principal)
 
-    def introduce(self, name=b"c1", verifier=1, because=None, principal=NOBODY):
+    def introduce(self, name: bytes = b"c1", verifier: int = 1, because: Reason | None = None,
+                  principal: Principal = NOBODY) -> None:
         arguments = Setclientid(verifier.to_bytes(8, "big"), name, CALLBACK)
         self.call(Opnum.SETCLIENTID, arguments, because, None, principal)
 
-    def confirm_client(self, client, confirm, because=None, principal=NOBODY, epoch=1):
+    def confirm_client(self, client: int, confirm: int, because: Reason | None = None, principal: Principal = NOBODY,
+                       epoch: int = 1) -> None:
         self.call(Opnum.SETCLIENTID_CONFIRM, SetclientidConfirm(epoch, client, confirm), because, None, principal)
 
-    def open(self, seqid, because=None, owner=b"A", access=3, deny=0, client=1, epoch=1, **more):
+    def open(self, seqid: int, because: Reason | None = None, owner: bytes = b"A", access: int = 3, deny: int = 0,
+             client: int = 1, epoch: int = 1, **more: Any) -> None:
         """By the name `a`, in the root, if nothing else is said."""
         claim, how = more.get("claim", Claim(0, more.get("name", b"a"), None)), more.get("how", NO_CREATE)
         arguments = Open(seqid, access, deny, OpenOwner(epoch, client, owner), how, claim)
         self.call(Opnum.OPEN, arguments, because, more.get("directory", ROOT))
 
-    def confirm(self, seqid, stateid, because=None, filehandle=FILE):
+    def confirm(self, seqid: int, stateid: Stateid, because: Reason | None = None,
+                filehandle: int | None = FILE) -> None:
         self.call(Opnum.OPEN_CONFIRM, OpenConfirm(stateid, seqid), because, filehandle)
 
-    def close(self, seqid, stateid, because=None, filehandle=FILE):
+    def close(self, seqid: int, stateid: Stateid, because: Reason | None = None, filehandle: int | None = FILE) -> None:
         self.call(Opnum.CLOSE, Close(seqid, stateid), because, filehandle)
 
-    def lock_first(self, seqid, stateid, lock_seqid, because=None, owner=LockOwner(1, 1, b"x"), locktype=2, **more):
+    def lock_first(self, seqid: int, stateid: Stateid, lock_seqid: int, because: Reason | None = None,
+                   owner: LockOwner = LockOwner(1, 1, b"x"), locktype: int = 2, **more: Any) -> None:
         locker = NewLocker(seqid, stateid, lock_seqid, owner)
         asked = more.get("reclaim", 0), more.get("offset", 0), more.get("length", 10)
         self.call(Opnum.LOCK, Lock(locktype, *asked, locker), because, more.get("filehandle", FILE))
 
-    def lock_next(self, seqid, stateid, because=None):
+    def lock_next(self, seqid: int, stateid: Stateid, because: Reason | None = None) -> None:
         self.call(Opnum.LOCK, Lock(2, 0, 0, 10, KnownLocker(stateid, seqid)), because)
 
-    def unlock(self, seqid, stateid, because=None, length=10):
+    def unlock(self, seqid: int, stateid: Stateid, because: Reason | None = None, length: int = 10) -> None:
         self.call(Opnum.LOCKU, Locku(2, seqid, stateid, 0, length), because)
 
-    def give_back(self, stateid, because=None, filehandle=FILE):
+    def give_back(self, stateid: Stateid, because: Reason | None = None, filehandle: int | None = FILE) -> None:
         self.call(Opnum.DELEGRETURN, Delegreturn(stateid), because, filehandle)
 
-    def read(self, stateid, because=None, filehandle=FILE):
+    def read(self, stateid: Stateid, because: Reason | None = None, filehandle: int | None = FILE) -> None:
         self.call(Opnum.READ, Read(stateid, 0, 5), because, filehandle)
 
-    def write(self, stateid, because=None, filehandle=FILE, offset=0):
+    def write(self, stateid: Stateid, because: Reason | None = None, filehandle: int | None = FILE,
+              offset: int = 0) -> None:
         self.call(Opnum.WRITE, Write(stateid, offset, 2, b"bytes"), because, filehandle)
 
-    def list(self, because=None, filehandle=ROOT, **more):
+    def list(self, because: Reason | None = None, filehandle: int | None = ROOT, **more: Any) -> None:
         """The names and numbers of a directory's children."""
         arguments = Readdir(0, bytes(8), 0, 4096, (1 << 20,))._replace(**more)
         self.call(Opnum.READDIR, arguments, because, filehandle)
 
-    def ask_for(self, mask, because=None, filehandle=FILE):
+    def ask_for(self, mask: Sequence[int], because: Reason | None = None, filehandle: int | None = FILE) -> None:
         self.call(Opnum.GETATTR, Getattr(mask), because, filehandle)
 
-    def set(self, mask, values, because=None, filehandle=FILE, stateid=ZEROS):
+    def set(self, mask: Sequence[int], values: bytes, because: Reason | None = None, filehandle: int | None = FILE,
+            stateid: Stateid = ZEROS) -> None:
         self.call(Opnum.SETATTR, Setattr(stateid, (mask, values)), because, filehandle)
 
-    def expire(self, client, now=91):
+    def expire(self, client: int, now: int = 91) -> None:
         self.server.expire(client, 0, now)
 
 
-def begun(name):
+def begun(name: str) -> Story:
     """Client 1, live; and state 1, its open of `a` by A for both, confirmed: entries 0 to 3. The next is 3."""
     story = Story(name)
     story.introduce()
@@ -107,11 +122,11 @@ def begun(name):
     return story
 
 
-def state(number, seqid=1, client=1, epoch=1):
+def state(number: int, seqid: int = 1, client: int = 1, epoch: int = 1) -> Stateid:
     return Stateid(seqid, epoch, client, number)
 
 
-def stateids():
+def stateids() -> Story:
     """Each cause of BAD_STATEID, and the other verdicts."""
     story = begun("stateids")
     story.lock_first(3, state(1, 2), 1)
@@ -134,7 +149,7 @@ def stateids():
     return story
 
 
-def ends():
+def ends() -> Story:
     """States that have ended, each in its way, and one of another client."""
     story = begun("states that ended")
     story.lock_first(3, state(1, 2), 1)
@@ -155,16 +170,16 @@ def ends():
     return story
 
 
-def clients():
+def clients() -> Story:
     story = begun("clients")
     story.introduce(b"c2")
     never = ("client 2, which entry 4 (SETCLIENTID) gave, was never confirmed", CLIENT_IDS)
     story.open(1, never, client=2)
     story.introduce(b"c2")
-    never = ("client 2, which entry 4 (SETCLIENTID) gave, was never confirmed, and entry 6 (SETCLIENTID) gave its id "
+    again = ("client 2, which entry 4 (SETCLIENTID) gave, was never confirmed, and entry 6 (SETCLIENTID) gave its id "
              "client 258 (slot 2, second)")
-    story.open(1, (never, CLIENT_IDS), client=2)
-    story.close(1, state(1, client=2), (never, STATEIDS))
+    story.open(1, (again, CLIENT_IDS), client=2)
+    story.close(1, state(1, client=2), (again, STATEIDS))
     story.open(1, ("client 4 was never given", CLIENT_IDS), client=4)
     story.open(1, ("client 514 (slot 2, third) was never given", CLIENT_IDS), client=514)
     story.close(1, state(1, client=512), ("the stateid is one of client 512, which was never given", STATEIDS))
@@ -197,7 +212,7 @@ def clients():
     return story
 
 
-def records_that_give_way():
+def records_that_give_way() -> Story:
     """Client 1, which asks for another callback, and 254 ids whose records wait: entries 3 to 256. Where another id
     comes the first of these gives way, and not the record of client 1, though that came before."""
     story = Story("records that give way")
@@ -227,7 +242,7 @@ def records_that_give_way():
     return story
 
 
-def sequence_ids():
+def sequence_ids() -> Story:
     """Also requests that come again, whose answers are given again."""
     story = begun("sequence ids")
     due = '3 is the next sequence id of open owner "A" of client 1, after entry 3 (OPEN_CONFIRM), and '
@@ -253,7 +268,7 @@ def sequence_ids():
     return story
 
 
-def kept_answers():
+def kept_answers() -> Story:
     """A request of each operation that an owner has, which comes again; also a refusal, and one that comes twice."""
     story = Story("kept answers")
     story.introduce()
@@ -285,7 +300,7 @@ def kept_answers():
     return story
 
 
-def no_kept_answers():
+def no_kept_answers() -> Story:
     """Calls that come again, and mostly get the same answer, but no kept one, except the last."""
     story = begun("no kept answers")
     # Of no owner, and of one that has gone on since: entries 4 to 8.
@@ -315,10 +330,10 @@ def no_kept_answers():
     return story
 
 
-def opens():
+def opens() -> Story:
     """What an OPEN is refused for."""
     story = begun("opens")
-    refused = (
+    refused: tuple[tuple[str, dict[str, Any]], ...] = (
         ("no filehandle is current: no operation before it in its COMPOUND made one so", {"directory": None}),
         ("it reclaims (CLAIM_PREVIOUS), and no run keeps anything of the one before", {"claim": Claim(1, None, 0)}),
         ("CLAIM_DELEGATE_PREV isn't supported", {"claim": Claim(3, b"a", None)}),
@@ -344,7 +359,7 @@ def opens():
     return story
 
 
-def shares():
+def shares() -> Story:
     story = begun("shares")
     share = "Share reservations"
     held = 'open owner "A" of client 1 has file "/a" open for WRITE, which this OPEN denies, since entry 2'
@@ -365,7 +380,7 @@ def shares():
     return story
 
 
-def many_shares():
+def many_shares() -> Story:
     """Of many that are in the way some are named."""
     story = begun("many shares")
     named = ['open owner "A" of client 1 has file "/a" open for READ, which this OPEN denies, since entry 2']
@@ -377,7 +392,7 @@ def many_shares():
     return story
 
 
-def locks():
+def locks() -> Story:
     story = begun("locks")
     reclaims = "it reclaims, and no lock outlives a run"
     story.lock_first(3, state(1, 2), 1, (reclaims, "LOCK"), reclaim=1)
@@ -409,12 +424,13 @@ def locks():
     return story
 
 
-def bytes_of_files():
+def bytes_of_files() -> Story:
     """READ and WRITE by special stateids, and by those of opens and lock states."""
     story, second = begun("bytes of files"), state(1, 2)
     missing = ("no filehandle is current: no operation before it in its COMPOUND made one so", "COMPOUND")
     directory = 'the current filehandle is that of directory "/d", and no file\'s'
-    for ask, heading in ((story.read, "READ"), (story.write, "WRITE")):
+    asks: list[tuple[Callable[..., None], str]] = [(story.read, "READ"), (story.write, "WRITE")]
+    for ask, heading in asks:
         for stateid in (ZEROS, second):
             ask(stateid, missing, None)
             ask(stateid, (directory, heading), DIRECTORY)
@@ -454,7 +470,7 @@ def bytes_of_files():
     return story
 
 
-def bytes_of_lent_files():
+def bytes_of_lent_files() -> Story:
     """READ and WRITE by delegations, and by special stateids beside them."""
     story = lent("bytes of lent files")
     story.write(state(2))
@@ -487,7 +503,7 @@ def bytes_of_lent_files():
 A_DELEGATION, TO_READ = 'a delegation of file "/a" for writing', 'a delegation of file "/b" for reading'
 
 
-def lent(name):
+def lent(name: str) -> Story:
     """Client 1 has state 1, its open of `a` by A, and state 2, a delegation for writing: entries 0 to 4. A's next
     sequence id is 4. Client 2 is live: entries 5 and 6."""
     story = Story(name, 'policy.callbacks = "assume"\n' + DEFAULT)
@@ -502,7 +518,7 @@ def lent(name):
     return story
 
 
-def delays():
+def delays() -> Story:
     """OPENs that meet delegations of others, called back by them or before."""
     story = lent("delays")
     bars = f"state 2, {A_DELEGATION} to client 1 since entry 4 (OPEN), keeps out any open of another client, and "
@@ -523,7 +539,7 @@ def delays():
     return story
 
 
-def many_delays():
+def many_delays() -> Story:
     """Of many that are in the way some are named, in the order of their numbers."""
     story, named = Story("many delays", 'policy.callbacks = "assume"\n' + DEFAULT), []
     for client in range(1, 6):
@@ -542,7 +558,7 @@ def many_delays():
     return story
 
 
-def delegation_stateids():
+def delegation_stateids() -> Story:
     """Of delegations, in the operations that work on them and in those that don't."""
     story, other = lent("stateids of delegations"), "the stateid is that of state 2, "
     story.close(4, state(2), (f"{other}{A_DELEGATION} to client 1, and a delegation has no owner", OWNERS))
@@ -575,7 +591,7 @@ def delegation_stateids():
     return story
 
 
-def ends_of_delegations():
+def ends_of_delegations() -> Story:
     """Returned after a recall, revoked, and gone with their clients."""
     story = lent("ends of delegations")
     bars = f"state 2, {A_DELEGATION} to client 1 since entry 4 (OPEN), keeps out any open of another client, and "
@@ -610,7 +626,7 @@ def ends_of_delegations():
     return story
 
 
-def clients_with_delegations():
+def clients_with_delegations() -> Story:
     """A delegation is state of its client, and goes where another one takes its place."""
     story = lent("clients with delegations")
     story.close(4, state(1, 3))
@@ -625,7 +641,7 @@ def clients_with_delegations():
     return story
 
 
-def clients_of_slots():
+def clients_of_slots() -> Story:
     """Clients 257 and 258, live, each the second in its slot: entries 3 to 7. The first has a delegation."""
     story = Story("clients of slots", 'policy.callbacks = "assume"\n' + DEFAULT)
     one, other = "client 257 (slot 1, second)", "client 258 (slot 2, second)"
@@ -658,7 +674,7 @@ def clients_of_slots():
     return story
 
 
-def owners_that_are_forgotten():
+def owners_that_are_forgotten() -> Story:
     """The number of a closed open leads nowhere then; nor did it where the CLOSE wasn't the kept request any longer."""
     story = begun("owners that are forgotten")
     story.close(3, state(1, 2))
@@ -686,7 +702,7 @@ def owners_that_are_forgotten():
     return story
 
 
-def listings():
+def listings() -> Story:
     """READDIR, and GETATTR of what can only be set, under the profile "clients"."""
     story = Story("listings", FOR_CLIENTS)
     missing = ("no filehandle is current: no operation before it in its COMPOUND made one so", "COMPOUND")
@@ -714,7 +730,7 @@ def listings():
     return story
 
 
-def sizes():
+def sizes() -> Story:
     """SETATTR under the profile "clients"."""
     story = Story("sizes", FOR_CLIENTS)
     story.introduce()
@@ -723,7 +739,8 @@ def sizes():
     story.confirm(2, state(1))
     size, server_time = (2).to_bytes(8, "big"), bytes(4)
 
-    def refuse(mask, values, text, heading="SETATTR", filehandle=OTHER_FILE, stateid=ZEROS):
+    def refuse(mask: Sequence[int], values: bytes, text: str, heading: str = "SETATTR",
+               filehandle: int | None = OTHER_FILE, stateid: Stateid = ZEROS) -> None:
         story.set(mask, values, (text, heading), filehandle, stateid)
 
     missing = "no filehandle is current: no operation before it in its COMPOUND made one so"
@@ -754,7 +771,7 @@ def sizes():
     return story
 
 
-def closes_beside_locks():
+def closes_beside_locks() -> Story:
     """Refused as long as a byte is held; and what comes before that."""
     story = Story("CLOSEs beside locks", 'policy.close_locks = "refuse"\n' + DEFAULT)
     story.introduce()

@@ -159,12 +159,13 @@ class Tally:
         return found + ["RENEW"] * (True not in self.renews)
 
     def words(self) -> str:
-        good, total = sum(count for (_, status), count in self.answers.items() if status == Status.OK), self.answers.total()
-        return (f"{self.entries} entries; {total} calls, {good} of them OK, with {self.turns[SMALL]} turns from one "
-                f"connection to another, {self.turns[LARGE]} where reads bring many calls; {self.sweeps} sweeps removed "
-                f"{self.expired} clients, took {self.revoked} delegations and forgot {self.forgotten} owners, of which "
-                f"{self.back} came again; {self.again} clients had a slot that was given before; {len(self.renews)} RENEWs "
-                f"are answered as their clients were live, of which {sum(self.renews)} could be answered only so")
+        good = sum(count for (_, status), count in self.answers.items() if status == Status.OK)
+        return (f"{self.entries} entries; {self.answers.total()} calls, {good} of them OK, with {self.turns[SMALL]} "
+                f"turns from one connection to another, {self.turns[LARGE]} where reads bring many calls; {self.sweeps} "
+                f"sweeps removed {self.expired} clients, took {self.revoked} delegations and forgot {self.forgotten} "
+                f"owners, of which {self.back} came again; {self.again} clients had a slot that was given before; "
+                f"{len(self.renews)} RENEWs are answered as their clients were live, of which {sum(self.renews)} could "
+                "be answered only so")
 
 
 def serve(driver: Driver, plan: Plan) -> Outcome:
@@ -178,7 +179,9 @@ def serve(driver: Driver, plan: Plan) -> Outcome:
 def keep(seed: int, driver: Driver, outcome: Outcome | None) -> str:
     """The folder with what there is of a run."""
     folder = mkdtemp(prefix=f"stress{seed}.")
-    kept = {"input": driver.orders, "output": driver.answers, **({"journal": outcome.journal} if outcome else {})}
+    kept: dict[str, bytes | bytearray] = {"input": driver.orders, "output": driver.answers}
+    if outcome:
+        kept["journal"] = outcome.journal
     for name, content in kept.items():
         with open(os.path.join(folder, name), "wb") as file:
             file.write(content)

@@ -10,8 +10,8 @@ import time
 
 import pytest
 
-from gate.journal_cases import (LAST, NOBODY, ask_for_number, beginning_of, confirm, earlier, idle, lent, listed_and_set,
-                                open_by, places_of, sample, sample_for_clients, small, with_words)
+from gate.journal_cases import (LAST, NOBODY, ask_for_number, beginning_of, confirm, earlier, idle, lent,
+                                listed_and_set, open_by, places_of, sample, sample_for_clients, small, with_words)
 from gate.reason_cases import kept_answers
 from model.entries import Expire, Forget, NotJournal, entry_bytes
 from model.journal import EARLIER, Growing, HEAD, HEAD_OF_CLIENTS, Recorder, journal_bytes
@@ -351,8 +351,8 @@ def interrupt(_path, _put, _file, follower):
 
 
 def another():
-    journal = sample()
-    return journal._replace(entries=[*journal.entries[:-2], journal.entries[-2]._replace(moment=7), journal.entries[-1]])
+    *entries, other, last = sample().entries
+    return sample()._replace(entries=[*entries, other._replace(moment=7), last])
 
 
 LAST_ENTRY = len(sample().entries) - 1

@@ -53,8 +53,8 @@ from model.tree import DEFAULT, Tree
 from nfs4.callback_listener import Listener, accept
 from nfs4.callbacks import recall_call
 from nfs4.client import Wrong, numbers_of
-from nfs4.messages import (GETATTR, NFS4_OK, NFS4ERR_RESOURCE, NULL, PUTROOTFH, SETATTR, TYPE_SIZE_FILEID, call, compound,
-                           opening, reply, split, words, xid)
+from nfs4.messages import (GETATTR, NFS4_OK, NFS4ERR_RESOURCE, NULL, PUTROOTFH, SETATTR, TYPE_SIZE_FILEID, call,
+                           compound, opening, reply, split, words, xid)
 from nfs4.preload import preloading
 from nfs4.rows import Part, Row as ModelRow
 from nfs4.served import PROGRAM, Peer, Piped, REPLY_PATIENCE, Served, TOP
@@ -82,8 +82,8 @@ LEFT_OUT = ("client_slots.rows", "runs.rows")
 LEFT_OUT_ROWS = ("a delegation that is due goes with its client",
                  "a delegation of a client that isn't there any longer isn't revoked",
                  "a delegation that is due goes with its client, and another one is revoked")
-# The files whose rows of one part are also run with threads, of which each makes more growths; but for rows of a WRITE in
-# one call with a READ or READDIR, which would tell of it when it is taken again.
+# The files whose rows of one part are also run with threads, of which each makes more growths; but for rows of a WRITE
+# in one call with a READ or READDIR, which would tell of it when it is taken again.
 SHARED = ("client_ids.rows", "delegation_parts.rows", "lockt.rows", "read.rows", "readdir.rows",
           "release_lockowner.rows", "setclientid.rows")
 UNSHARED_ROWS = ("the attributes of each child",)
@@ -752,7 +752,8 @@ GET = compound(1, words(PUTROOTFH), *[words(GETATTR, 1, TYPE_SIZE_FILEID)] * 60)
 LARGE = compound(2, words(PUTROOTFH), opening(1, 3, 0, words(1, 1) + opaque(b"o"), b"n" * 262044))
 # Rows whose journals are long, by the documents of their files and what they send.
 LONG = {"no entry": (None, b""), "many entries": (None, GET * 50), "large entries": (None, (LARGE * 2 + GET) * 3),
-        "a large tree": ("".join(f'[[file]]\npath = "f{number}"\ntext = "{"t" * 65536}"\n' for number in range(64)), GET)}
+        "a large tree": ("".join(f'[[file]]\npath = "f{number}"\ntext = "{"t" * 65536}"\n' for number in range(64)),
+                         GET)}
 
 
 @pytest.mark.parametrize("name", LONG)
@@ -767,8 +768,8 @@ def test_end(name, program, memory):
 
 def test_end_of_connection(memory):
     """The same for a server on TCP that has a row's connection, where the end is that of the connection."""
-    row, refusal, path = model_row("many entries", *LONG["many entries"]), memory.refusal_at_end(), memory.new_path("journal")
-    connection = row.connections[0]
+    row = model_row("many entries", *LONG["many entries"])
+    connection, refusal, path = row.connections[0], memory.refusal_at_end(), memory.new_path("journal")
     with Served(serve_command(row, path, "--connections", "1"), env=refusal.environment) as served:
         # All threads have begun before the end, and asked for what they need.
         if not served.has_caller(PATIENCE):

@@ -1,10 +1,10 @@
 """Journals: the model's beside their rules, and the built program beside the model.
 
 Of each row the model makes the journal, which has to be lawful, to be read as it was written, and to be shown in words
-that spell it. With one word of one answer changed it has to be wrong at just that entry, or no journal: each word of the
-journals whose answers are short, and some words of the others, drawn with a fixed seed. Besides there are files that are
-no journals, each with the reason, lists of nodes, and entries that can't follow. The program has to say of each of these
-files what the model says, and to write the model's file where `once` can carry the row."""
+that spell it. With one word of one answer changed it has to be wrong at just that entry, or no journal: each word of
+the journals whose answers are short, and some words of the others, drawn with a fixed seed. Besides there are files
+that are no journals, each with the reason, lists of nodes, and entries that can't follow. The program has to say of
+each of these files what the model says, and to write the model's file where `once` can carry the row."""
 import itertools
 import random
 

@@ -1,8 +1,8 @@
 """The built program at its limits of 16,384 owners, also of both kinds together, of 65,536 opens, of as many opens and
-delegations or opens and lock states together, of 1,024 runs of a lock state, of 65,536 bytes of a file, and of a journal
-of 1,000,000 entries, each met and passed by one. The bytes are written and read at once, and one by one. The journal is
-that of a client which begins anew again and again, and so gets 500,000 numbers. The calls up to 1,024 runs have to be
-answered within ten seconds.
+delegations or opens and lock states together, of 1,024 runs of a lock state, of 65,536 bytes of a file, and of a
+journal of 1,000,000 entries, each met and passed by one. The bytes are written and read at once, and one by one. The
+journal is that of a client which begins anew again and again, and so gets 500,000 numbers. The calls up to 1,024 runs
+have to be answered within ten seconds.
 
 What is wanted is written beside each call, since the model would take minutes for so many."""
 import subprocess

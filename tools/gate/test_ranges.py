@@ -21,7 +21,8 @@ def bytes_of(offset, length):
     """The places of a range's bytes, or None where there is no such range: each byte asked alone."""
     if length == 0 or (length != ALL_ONES and offset + length > 2**64 - 1):
         return None
-    return [place for place in PLACES if offset <= BYTES[place] and (length == ALL_ONES or ENDS[place] < offset + length)]
+    end = 2**64 if length == ALL_ONES else offset + length
+    return [place for place in PLACES if offset <= BYTES[place] and ENDS[place] < end]
 
 
 def run_round(modes, place):
