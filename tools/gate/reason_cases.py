@@ -10,8 +10,10 @@ from nfs4.wire import (Claim, Close, Delegreturn, Getattr, KnownLocker, Lock, Lo
                        OpenConfirm, OpenDowngrade, OpenOwner, Openhow, Opnum, Read, Readdir, ReleaseLockowner, Setattr,
                        Setclientid, SetclientidConfirm, Stateid, Write)
 
-# A reason in words, and the heading of the rules that it stands under; and who sends a call.
-Reason = tuple[str, str]
+# A reason in words, and the heading of the rules that it stands under, or None; the current filehandle; and who sends a
+# call.
+Because = tuple[str, str] | None
+Handle = int | None
 Principal = tuple[int, int]
 ROOT, FILE, OTHER_FILE, DIRECTORY = 0, 1, 2, 3
 ALL = 2**64 - 1
@@ -21,6 +23,8 @@ OWNERS, STATEIDS, CLIENT_IDS, RANGES, DELEGATIONS = (
 OPEN_A = 'open of file "/a" by open owner "A" of client 1'
 LOCK_X = 'lock state of file "/a" by lock owner "x" of client 1'
 OPEN_BY_A = 'OPEN by open owner "A" of client 1'
+NO_HANDLE = "no filehandle is current: no operation before it in its COMPOUND made one so", "COMPOUND"
+OLD = "state 1 has seqid 2 since entry 3 (OPEN_CONFIRM), and the stateid has the earlier 1", STATEIDS
 
 
 class Story:
@@ -28,7 +32,7 @@ class Story:
 
     def __init__(self, name: str, document: str = DEFAULT) -> None:
         self.name, self.server = name, Recorder(Tree(document))
-        self.wanted: dict[int, Reason] = {}
+        self.wanted: dict[int, tuple[str, str]] = {}
         # By the numbers of entries: the texts of what they do about delegations.
         self.events: dict[int, list[str]] = {}
         # By the numbers of entries that have a kept answer: the texts that say whose it is.
@@ -38,73 +42,71 @@ class Story:
         """What the next entry is to do about delegations."""
         self.events[self.server.entries] = list(texts)
 
-    def call(self, opnum: Opnum, arguments: Any, because: Reason | None = None, filehandle: int | None = FILE,
+    def call(self, opnum: Opnum, arguments: Any, because: Because = None, filehandle: Handle = FILE,
              principal: Principal = NOBODY) -> None:
         if because is not None:
             self.wanted[self.server.entries] = because
         self.server.apply(opnum, arguments, filehandle, principal)
 
-    def repeat(self, number: int, whose: str | None = None, because: Reason | None = None) -> None:
+    def repeat(self, number: int, whose: str | None = None, because: Because = None) -> None:
         """The call of this entry once more; where it is said whose, it has to have the answer that was kept of it."""
         if whose is not None:
             self.again[self.server.entries] = f"{whose} is the request of entry {number} again"
         call = self.server.recorded[number]
         self.call(call.opnum, call.arguments, because, call.filehandle, call.principal)
 
-    def introduce(self, name: bytes = b"c1", verifier: int = 1, because: Reason | None = None,
+    def introduce(self, name: bytes = b"c1", verifier: int = 1, because: Because = None,
                   principal: Principal = NOBODY) -> None:
         arguments = Setclientid(verifier.to_bytes(8, "big"), name, CALLBACK)
         self.call(Opnum.SETCLIENTID, arguments, because, None, principal)
 
-    def confirm_client(self, client: int, confirm: int, because: Reason | None = None, principal: Principal = NOBODY,
+    def confirm_client(self, client: int, confirm: int, because: Because = None, principal: Principal = NOBODY,
                        epoch: int = 1) -> None:
         self.call(Opnum.SETCLIENTID_CONFIRM, SetclientidConfirm(epoch, client, confirm), because, None, principal)
 
-    def open(self, seqid: int, because: Reason | None = None, owner: bytes = b"A", access: int = 3, deny: int = 0,
+    def open(self, seqid: int, because: Because = None, owner: bytes = b"A", access: int = 3, deny: int = 0,
              client: int = 1, epoch: int = 1, **more: Any) -> None:
         """By the name `a`, in the root, if nothing else is said."""
         claim, how = more.get("claim", Claim(0, more.get("name", b"a"), None)), more.get("how", NO_CREATE)
         arguments = Open(seqid, access, deny, OpenOwner(epoch, client, owner), how, claim)
         self.call(Opnum.OPEN, arguments, because, more.get("directory", ROOT))
 
-    def confirm(self, seqid: int, stateid: Stateid, because: Reason | None = None,
-                filehandle: int | None = FILE) -> None:
+    def confirm(self, seqid: int, stateid: Stateid, because: Because = None, filehandle: Handle = FILE) -> None:
         self.call(Opnum.OPEN_CONFIRM, OpenConfirm(stateid, seqid), because, filehandle)
 
-    def close(self, seqid: int, stateid: Stateid, because: Reason | None = None, filehandle: int | None = FILE) -> None:
+    def close(self, seqid: int, stateid: Stateid, because: Because = None, filehandle: Handle = FILE) -> None:
         self.call(Opnum.CLOSE, Close(seqid, stateid), because, filehandle)
 
-    def lock_first(self, seqid: int, stateid: Stateid, lock_seqid: int, because: Reason | None = None,
+    def lock_first(self, seqid: int, stateid: Stateid, lock_seqid: int, because: Because = None,
                    owner: LockOwner = LockOwner(1, 1, b"x"), locktype: int = 2, **more: Any) -> None:
         locker = NewLocker(seqid, stateid, lock_seqid, owner)
         asked = more.get("reclaim", 0), more.get("offset", 0), more.get("length", 10)
         self.call(Opnum.LOCK, Lock(locktype, *asked, locker), because, more.get("filehandle", FILE))
 
-    def lock_next(self, seqid: int, stateid: Stateid, because: Reason | None = None) -> None:
+    def lock_next(self, seqid: int, stateid: Stateid, because: Because = None) -> None:
         self.call(Opnum.LOCK, Lock(2, 0, 0, 10, KnownLocker(stateid, seqid)), because)
 
-    def unlock(self, seqid: int, stateid: Stateid, because: Reason | None = None, length: int = 10) -> None:
+    def unlock(self, seqid: int, stateid: Stateid, because: Because = None, length: int = 10) -> None:
         self.call(Opnum.LOCKU, Locku(2, seqid, stateid, 0, length), because)
 
-    def give_back(self, stateid: Stateid, because: Reason | None = None, filehandle: int | None = FILE) -> None:
+    def give_back(self, stateid: Stateid, because: Because = None, filehandle: Handle = FILE) -> None:
         self.call(Opnum.DELEGRETURN, Delegreturn(stateid), because, filehandle)
 
-    def read(self, stateid: Stateid, because: Reason | None = None, filehandle: int | None = FILE) -> None:
+    def read(self, stateid: Stateid, because: Because = None, filehandle: Handle = FILE) -> None:
         self.call(Opnum.READ, Read(stateid, 0, 5), because, filehandle)
 
-    def write(self, stateid: Stateid, because: Reason | None = None, filehandle: int | None = FILE,
-              offset: int = 0) -> None:
+    def write(self, stateid: Stateid, because: Because = None, filehandle: Handle = FILE, offset: int = 0) -> None:
         self.call(Opnum.WRITE, Write(stateid, offset, 2, b"bytes"), because, filehandle)
 
-    def list(self, because: Reason | None = None, filehandle: int | None = ROOT, **more: Any) -> None:
+    def list(self, because: Because = None, filehandle: Handle = ROOT, **more: Any) -> None:
         """The names and numbers of a directory's children."""
         arguments = Readdir(0, bytes(8), 0, 4096, (1 << 20,))._replace(**more)
         self.call(Opnum.READDIR, arguments, because, filehandle)
 
-    def ask_for(self, mask: Sequence[int], because: Reason | None = None, filehandle: int | None = FILE) -> None:
+    def ask_for(self, mask: Sequence[int], because: Because = None, filehandle: Handle = FILE) -> None:
         self.call(Opnum.GETATTR, Getattr(mask), because, filehandle)
 
-    def set(self, mask: Sequence[int], values: bytes, because: Reason | None = None, filehandle: int | None = FILE,
+    def set(self, mask: Sequence[int], values: bytes, because: Because = None, filehandle: Handle = FILE,
             stateid: Stateid = ZEROS) -> None:
         self.call(Opnum.SETATTR, Setattr(stateid, (mask, values)), because, filehandle)
 
@@ -143,8 +145,7 @@ def stateids() -> Story:
     story.close(4, state(1, 2), (place, STATEIDS), OTHER_FILE)
     later = "state 1 has seqid 2 since entry 3 (OPEN_CONFIRM), and the stateid has the later 3"
     story.close(4, state(1, 3), (later, STATEIDS))
-    old = "state 1 has seqid 2 since entry 3 (OPEN_CONFIRM), and the stateid has the earlier 1"
-    story.close(4, state(1), (old, STATEIDS))
+    story.close(4, state(1), OLD)
     story.confirm(5, state(1, 2), ('open owner "A" of client 1 is confirmed since entry 3', "OPEN_CONFIRM"))
     return story
 
@@ -334,7 +335,7 @@ def opens() -> Story:
     """What an OPEN is refused for."""
     story = begun("opens")
     refused: tuple[tuple[str, dict[str, Any]], ...] = (
-        ("no filehandle is current: no operation before it in its COMPOUND made one so", {"directory": None}),
+        (NO_HANDLE[0], {"directory": None}),
         ("it reclaims (CLAIM_PREVIOUS), and no run keeps anything of the one before", {"claim": Claim(1, None, 0)}),
         ("CLAIM_DELEGATE_PREV isn't supported", {"claim": Claim(3, b"a", None)}),
         ("the access is 0, and has to be 1 to 3", {"access": 0}),
@@ -349,8 +350,8 @@ def opens() -> Story:
         ('file "/a" is there, and EXCLUSIVE4 creates a new one', {"how": Openhow(1, 2, bytes(8))}))
     seqid = 3
     for text, asked in refused:
-        story.open(seqid, (text, "COMPOUND" if text.startswith("no filehandle") else "OPEN"), **asked)
-        seqid += not text.startswith("no filehandle")
+        story.open(seqid, NO_HANDLE if text in NO_HANDLE else (text, "OPEN"), **asked)
+        seqid += text not in NO_HANDLE
     other = "of the delegation's stateid: the stateid is of epoch 3, and this server's is 1"
     story.open(seqid, (other, STATEIDS), claim=Claim(2, b"a", state(1, epoch=3)))
     other = f"of the delegation's stateid: the stateid is that of state 1, an {OPEN_A}; a delegation is wanted here"
@@ -427,12 +428,11 @@ def locks() -> Story:
 def bytes_of_files() -> Story:
     """READ and WRITE by special stateids, and by those of opens and lock states."""
     story, second = begun("bytes of files"), state(1, 2)
-    missing = ("no filehandle is current: no operation before it in its COMPOUND made one so", "COMPOUND")
     directory = 'the current filehandle is that of directory "/d", and no file\'s'
     asks: list[tuple[Callable[..., None], str]] = [(story.read, "READ"), (story.write, "WRITE")]
     for ask, heading in asks:
         for stateid in (ZEROS, second):
-            ask(stateid, missing, None)
+            ask(stateid, NO_HANDLE, None)
             ask(stateid, (directory, heading), DIRECTORY)
         ask(ZEROS)
         ask(second)
@@ -569,8 +569,7 @@ def delegation_stateids() -> Story:
     stands = "state 2 has seqid 1 since entry 4 (OPEN), and the stateid has the "
     story.give_back(state(2, 0), (stands + "earlier 0", STATEIDS))
     story.give_back(state(2, 2), (stands + "later 2", STATEIDS))
-    missing = "no filehandle is current: no operation before it in its COMPOUND made one so"
-    story.give_back(state(2), (missing, "COMPOUND"), None)
+    story.give_back(state(2), NO_HANDLE, None)
     strange = "the stateid is of epoch 2, and this server's is 1"
     story.give_back(state(2, epoch=2), (strange, STATEIDS))
     whose = "state 2 was given to client 1, and the stateid is one of client 2"
@@ -705,8 +704,7 @@ def owners_that_are_forgotten() -> Story:
 def listings() -> Story:
     """READDIR, and GETATTR of what can only be set, under the profile "clients"."""
     story = Story("listings", FOR_CLIENTS)
-    missing = ("no filehandle is current: no operation before it in its COMPOUND made one so", "COMPOUND")
-    story.list(missing, filehandle=None)
+    story.list(NO_HANDLE, filehandle=None)
     story.list(('the current filehandle is that of file "/a", and no directory\'s', "READDIR"), filehandle=FILE)
     story.list()
     story.list(("attribute 54 (time_modify_set) can only be set", "READDIR"), mask=(0, 1 << 22), cookie=1)
@@ -722,7 +720,7 @@ def listings() -> Story:
     story.list(("a listing without an entry has 16 bytes, and 15 are the most here", "READDIR"), cookie=5, maxcount=15)
     story.list(maxcount=56)
     story.list(cookie=5, maxcount=16)
-    story.ask_for((0, 1 << 16), missing, None)
+    story.ask_for((0, 1 << 16), NO_HANDLE, None)
     story.ask_for((0, 1 << 16), ("attribute 48 (time_access_set) can only be set", "GETATTR"))
     story.ask_for((2**32 - 1, 2**32 - 1), ("attribute 48 (time_access_set); 54 (time_modify_set) can only be set",
                                            "GETATTR"))
@@ -740,11 +738,10 @@ def sizes() -> Story:
     size, server_time = (2).to_bytes(8, "big"), bytes(4)
 
     def refuse(mask: Sequence[int], values: bytes, text: str, heading: str = "SETATTR",
-               filehandle: int | None = OTHER_FILE, stateid: Stateid = ZEROS) -> None:
+               filehandle: Handle = OTHER_FILE, stateid: Stateid = ZEROS) -> None:
         story.set(mask, values, (text, heading), filehandle, stateid)
 
-    missing = "no filehandle is current: no operation before it in its COMPOUND made one so"
-    refuse((16,), size, missing, "COMPOUND", None)
+    refuse((16,), size, *NO_HANDLE, None)
     refuse((24, 1 << 16), b"", "attribute 48 (time_access_set) isn't supported")
     refuse((0, 0, 1), b"", "attribute 64 isn't supported")
     refuse((2**32 - 1,), b"", "attribute 12; 13; 14; and 8 more isn't supported")
@@ -760,8 +757,7 @@ def sizes() -> Story:
     story.set((), b"", filehandle=DIRECTORY, stateid=state(9))
     refuse((16,), size, 'the current filehandle is that of directory "/d", and no file\'s', filehandle=DIRECTORY)
     refuse((16,), size, 'open owner "A" of client 1 denies WRITE of file "/a" since entry 2', filehandle=FILE)
-    refuse((16,), size, "state 1 has seqid 2 since entry 3 (OPEN_CONFIRM), and the stateid has the earlier 1", STATEIDS,
-           FILE, state(1))
+    refuse((16,), size, *OLD, FILE, state(1))
     access = f"SETATTR takes access to WRITE, and state 1, an {OPEN_A}, has access to READ alone"
     refuse((16,), size, access, filehandle=FILE, stateid=state(1, 2))
     refuse((0, 1 << 22), server_time, "the stateid is of epoch 2, and this server's is 1", STATEIDS, FILE,
@@ -792,8 +788,7 @@ def closes_beside_locks() -> Story:
             "changed last by entry 7 (LOCK)")
     both = by_x.format(3, ", the first of 2 ranges") + f"entry 8 (LOCKU); {by_y}"
     story.close(6, state(1, 2), (both, "CLOSE"))
-    old = "state 1 has seqid 2 since entry 3 (OPEN_CONFIRM), and the stateid has the earlier 1"
-    story.close(7, state(1), (old, STATEIDS))
+    story.close(7, state(1), OLD)
     story.unlock(3, state(2, 2), length=ALL)
     story.close(8, state(1, 2), (by_y, "CLOSE"))
     story.unlock(2, state(3), length=ALL)

@@ -1,34 +1,28 @@
 """Each growth of memory is refused in turn, to the programs and to some tests, as the gate has proved and built them.
 
-The server's program is run on the rows of `crates/rows/data` but those of `runs.rows` and `client_slots.rows`, a record
-at a time, once for each growth that it makes: while it starts, with the default tree and with the tree of each row
-that has one, and while it answers. Where a growth is refused, each reply has to be what it is without that, or a
-refusal for want of memory: SYSTEM_ERR, or the results up to an operation that is answered NFS4ERR_RESOURCE, or the end
-of the connection, with a line that says so. A record that was refused is sent again, and has to get the reply that it
-gets without a refusal; but not where an operation of the record had changed the state before the refused one.
+The server's program is run on rows of `crates/rows/data`, a record at a time, once for each growth that it makes: while
+it starts, with the default tree and with that of each row that has one, and while it answers. Then each reply has to be
+what it is without that, or a refusal for want of memory: SYSTEM_ERR, or the results up to an operation that is answered
+NFS4ERR_RESOURCE, or the end of the connection, with a line that says so. A record that was refused is sent again, and
+has to get the reply that it gets without a refusal; but not where an operation of the record had changed the state
+before the refused one.
 
 That program has one connection, and one moment. So a row of several parts, which are its connections and what is sent
-between changes of the clock and orders, such as sweeps of leases, is run by the program of rows, as `tools/rows
---again` does, which has a part or an order taken once more where it goes wrong: each call has to get its reply then,
-also where the refusal ended the connection, each sweep has to have removed its clients, taken its delegations and
-forgotten its owners, and the same recalls have to wait in the same order. It is left out where a part makes more than
-one change of the state, since the first would be made twice. Where memory is refused to the program of rows itself, it
-has to say so, and to end. The journal at the end is looked at, too: without a refusal it is the model's; with one, it
-is lawful, and the same but for calls of the part that was taken again. So a call that was refused has ended no lease,
-and renewed none but of the client that it names. All of this goes for these rows, and those of a few files besides,
-also where each part has a thread of its own and the state is shared (`tools/rows --shared --again`).
+between changes of the clock and orders, is run by the program of rows, as `tools/rows --again` does, which has a part or
+an order taken once more where it goes wrong: each call has to get its reply then, also where the refusal ended the
+connection, each sweep has to have removed its clients, taken its delegations and forgotten its owners, and the same
+recalls have to wait in the same order. It is left out where a part makes more than one change of the state, since the
+first would be made twice. Where memory is refused to the program of rows itself, it has to say so, and to end. The
+journal at the end is looked at, too: without a refusal it is the model's; with one, it is lawful, and the same but for
+calls of the part that was taken again. So a call that was refused has ended no lease, and renewed none but of the
+client that it names. All of this goes for these rows, and those of a few files besides, also where each part has a
+thread of its own and the state is shared (`tools/rows --shared --again`).
 
 The server's program is also run on files of journals, of which it has to say what it says without a refusal, or that it
-has no memory; and it writes the journals of some rows. A file that it leaves has to be the model's, after the same
-replies. It leaves none only where the growth was refused before the run began, and says why then. So it is run as a
-server on TCP, for one connection with one of these rows: replies, the end of the run and the journal have to be those
-without a refusal or with one, as above; and likewise as a server that goes on until its input ends, and that has to
-serve another connection then. With these rows memory also runs out for good: all growths after the refused one are
-refused, too. And after the end of the input nothing is asked for at all, however long the journal is. A server that
-goes on also calls a client back, and lends it a file that another one opens, with each growth refused from the client's
-first call on: once a call that was refused is sent again, all is as without that, and each callback comes once.
-
-The tests that are named below have to pass with each of their growths refused."""
+has no memory; and it writes the journals of some rows, also as a server on TCP. A file that it leaves has to be the
+model's, after the same replies. It leaves none only where the growth was refused before the run began, and says why
+then. There memory also runs out for good: all growths after the refused one are refused, too. And after the end of the
+input nothing is asked for at all, however long the journal is."""
 import os
 import re
 import subprocess
@@ -56,7 +50,7 @@ from nfs4.client import Wrong, numbers_of
 from nfs4.messages import (GETATTR, NFS4_OK, NFS4ERR_RESOURCE, NULL, PUTROOTFH, SETATTR, TYPE_SIZE_FILEID, call,
                            compound, opening, reply, split, words, xid)
 from nfs4.preload import preloading
-from nfs4.rows import Part, Row as ModelRow
+from nfs4.rows import Part, Row
 from nfs4.served import PROGRAM, Peer, Piped, REPLY_PATIENCE, Served, TOP
 from nfs4.wire import BOTH, Opnum, READ, Status, opaque, record, split_records
 from sending.driver import ALONE, NoMemory, PROGRAM as ROWS, SHARED as BY_THREADS
@@ -165,27 +159,15 @@ def memory(tmp_path_factory):
 
 # Rows of one part.
 
-class Row:
-    """A row of one part: its name, the options of its server, the records that are sent, and what is wanted."""
-
-    def __init__(self, name, options, sent, wanted, fault):
-        self.name, self.options, self.fault = name, options, fault
-        whole, rest = split(sent)
-        self.sent = whole + [rest] * bool(rest)
-        self.replies = split(wanted)[0]
-
-
-def row_with_one_part(row, memory):
-    """The row, as the server's program runs it."""
-    [part] = parts_of(row)
+def options_of(row, memory):
+    """Those by which the server's program runs the row."""
     options = [f"--lease={row.lease}"] * (row.lease != 90) + [f"--epoch={row.epoch}"] * (row.epoch != 1)
     if row.document is not None:
         path = memory.new_path("toml")
         with open(path, "w", encoding="utf-8") as tree:
             tree.write(row.document)
         options += ["--tree", path]
-    fault = f"fault: {part.fault}" if part.fault else ""
-    return Row(f"{os.path.basename(row.file)}: {row.name}", options, part.sent, part.wanted, fault)
+    return options
 
 
 def parts_of(row):
@@ -244,10 +226,11 @@ class Client(Piped):
         return output, self.program.returncode, REASON.sub("", errors.decode()).strip(), self.refusal.took_place()
 
 
-def converse(row, peer):
-    """How many records were refused and sent again, where the row gets its replies; or None where a refusal ends it."""
-    wanted, again = list(row.replies), 0
-    for message in row.sent:
+def converse(part, peer):
+    """How many records were refused and sent again, where the row's part gets its replies; or None where a refusal ends
+    it."""
+    (whole, rest), wanted, again = split(part.sent), split(part.wanted)[0], 0
+    for message in whole + [rest] * bool(rest):
         peer.send(message)
         # A reply has the xid of its call.
         if not wanted or xid(wanted[0]) != xid(message):
@@ -259,38 +242,43 @@ def converse(row, peer):
             return None
         before = b"" if is_system_error(got, reply) else refused_results(got, reply)
         if before is None:
-            raise Wrong(f"{row.name}: {got.hex()} in place of {reply.hex()}")
+            raise Wrong(f"{got.hex()} in place of {reply.hex()}")
         if changes(before):
             return None
         again += 1
         peer.send(message)
         if peer.receive(PATIENCE) != reply:
-            raise Wrong(f"{row.name}: sent again, a record that was refused gets another reply")
+            raise Wrong("sent again, a record that was refused gets another reply")
     return again
 
 
-def run_row(row, refusal):
-    """Runs the row where this is refused: whether it was, and how many records were sent again."""
-    peer = Client(row.options, refusal)
-    again = converse(row, peer)
+def run_part(part, options, refusal):
+    """Runs a row's one part where this is refused: whether it was, and how many records were sent again."""
+    peer, fault = Client(options, refusal), f"fault: {part.fault}" if part.fault else ""
+    again = converse(part, peer)
     output, status, line, was_refused = peer.end()
-    is_undisturbed = again is not None and (status, line) == (1 if row.fault else 0, row.fault)
+    is_undisturbed = again is not None and (status, line) == (1 if fault else 0, fault)
     is_refusal = status == 1 and line in ("fault: no memory", "fault: tree refused (5)")
     is_cut = again is None and (status, line) == (0, "")
     if output or not (is_undisturbed or was_refused and (is_refusal or is_cut)):
-        raise Wrong(f"{row.name}, under {refusal}: status {status}, {line}, {output.hex()}")
+        raise Wrong(f"status {status}, {line}, {output.hex()}")
     return was_refused, again or 0
 
 
-def refuse_in_row(memory, row, first=1, after=None):
-    """Refuses each growth of a row from this one on: how many there are, and how many records were sent again."""
-    again = []
+def refuse_in_row(memory, row, starting=0, after=None):
+    """Refuses each growth of a row with one part, but for those while the program starts with the default tree, where
+    their number is given: how many there are, and how many records were sent again."""
+    ([part], options), again = (parts_of(row), options_of(row, memory)), []
 
     def is_refused(growth):
-        was_refused, count_again = run_row(row, memory.refusal(growth, after=after))
+        refusal = memory.refusal(growth, after=after)
+        try:
+            was_refused, count_again = run_part(part, options, refusal)
+        except Wrong as wrong:
+            raise Wrong(f"{row.name}, under {refusal}: {wrong}") from wrong
         again.append(count_again)
         return was_refused
-    return growths_in(is_refused, first), sum(again)
+    return growths_in(is_refused, 1 if "--tree" in options else starting + 1), sum(again)
 
 
 # Rows of several parts.
@@ -371,7 +359,7 @@ def refuse_in_parts(memory, way, row):
 def starting(memory):
     """How many growths the program makes while it starts, with the default tree: the same for each row without one of
     its own."""
-    found, _ = refuse_in_row(memory, Row("no input", [], b"", b"", ""))
+    found, _ = refuse_in_row(memory, model_row("no input", None, b""))
     assert found, "the program makes no growth while it starts"
     return found
 
@@ -411,8 +399,8 @@ def rows_at(file, first):
 @pytest.mark.parametrize("file, first", places())
 def test_rows(file, first, memory, starting, add_up):
     single, several, shared = rows_at(file, first)
-    for row in map(lambda row: row_with_one_part(row, memory), single):
-        growths, again = refuse_in_row(memory, row, 1 if "--tree" in row.options else starting + 1)
+    for row in single:
+        growths, again = refuse_in_row(memory, row, starting)
         add_up(1, "rows")
         add_up(growths, "growths")
         add_up(again, "records sent again")
@@ -428,8 +416,7 @@ def growths_of_record(memory, number):
     """How many growths the record of this number makes, of those that each have 60 entries, and how many of these are
     refused where the record can be sent again; each is refused in turn."""
     sent = [compound(xid, words(PUTROOTFH), *[words(GETATTR, 1, TYPE_SIZE_FILEID)] * 60) for xid in range(number)]
-    row = row_with_one_part(model_row("pieces of entries", None, b"".join(sent)), memory)
-    return refuse_in_row(memory, row, after=sum(map(len, sent[:-1])))
+    return refuse_in_row(memory, model_row("pieces of entries", None, b"".join(sent)), after=sum(map(len, sent[:-1])))
 
 
 def test_new_piece(memory, tell):
@@ -744,7 +731,7 @@ def test_callbacks(memory, tell):
 def model_row(name, document, sent):
     """A row of one connection that gets what the model gives."""
     wanted, fault = Server(Tree(document or DEFAULT)).converse(sent)
-    return ModelRow("", 0, name, document=document, steps=[Part(sent=sent, wanted=wanted, fault=fault)])
+    return Row("", 0, name, document=document, steps=[Part(sent=sent, wanted=wanted, fault=fault)])
 
 
 GET = compound(1, words(PUTROOTFH), *[words(GETATTR, 1, TYPE_SIZE_FILEID)] * 60)
