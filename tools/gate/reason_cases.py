@@ -10,11 +10,10 @@ from nfs4.wire import (Claim, Close, Delegreturn, Getattr, KnownLocker, Lock, Lo
                        OpenConfirm, OpenDowngrade, OpenOwner, Openhow, Opnum, Read, Readdir, ReleaseLockowner, Setattr,
                        Setclientid, SetclientidConfirm, Stateid, Write)
 
-# A reason in words, and the heading of the rules that it stands under, or None; the current filehandle; and who sends a
-# call.
+# A reason in words, and the heading of the rules that has it, or None; the current filehandle; and who sends a call.
 Because = tuple[str, str] | None
 Handle = int | None
-Principal = tuple[int, int]
+Sender = tuple[int, int]
 ROOT, FILE, OTHER_FILE, DIRECTORY = 0, 1, 2, 3
 ALL = 2**64 - 1
 ZEROS, ONES = Stateid(0, 0, 0, 0), Stateid(LAST, LAST, LAST, LAST)
@@ -24,18 +23,18 @@ OPEN_A = 'open of file "/a" by open owner "A" of client 1'
 LOCK_X = 'lock state of file "/a" by lock owner "x" of client 1'
 OPEN_BY_A = 'OPEN by open owner "A" of client 1'
 NO_HANDLE = "no filehandle is current: no operation before it in its COMPOUND made one so", "COMPOUND"
+NO_FILE = 'directory "/" has no "e"', "OPEN"
 OLD = "state 1 has seqid 2 since entry 3 (OPEN_CONFIRM), and the stateid has the earlier 1", STATEIDS
 
 
 class Story:
     """Calls to a server, one after the other, and the reasons that are wanted of those that are refused."""
 
-    def __init__(self, name: str, document: str = DEFAULT) -> None:
-        self.name, self.server = name, Recorder(Tree(document))
+    def __init__(self, document: str = DEFAULT) -> None:
+        self.server = Recorder(Tree(document))
         self.wanted: dict[int, tuple[str, str]] = {}
-        # By the numbers of entries: the texts of what they do about delegations.
+        # By the numbers of entries: what they do about delegations; and whose kept answer they have.
         self.events: dict[int, list[str]] = {}
-        # By the numbers of entries that have a kept answer: the texts that say whose it is.
         self.again: dict[int, str] = {}
 
     def tell(self, *texts: str) -> None:
@@ -43,7 +42,7 @@ class Story:
         self.events[self.server.entries] = list(texts)
 
     def call(self, opnum: Opnum, arguments: Any, because: Because = None, filehandle: Handle = FILE,
-             principal: Principal = NOBODY) -> None:
+             principal: Sender = NOBODY) -> None:
         if because is not None:
             self.wanted[self.server.entries] = because
         self.server.apply(opnum, arguments, filehandle, principal)
@@ -56,11 +55,11 @@ class Story:
         self.call(call.opnum, call.arguments, because, call.filehandle, call.principal)
 
     def introduce(self, name: bytes = b"c1", verifier: int = 1, because: Because = None,
-                  principal: Principal = NOBODY) -> None:
+                  principal: Sender = NOBODY) -> None:
         arguments = Setclientid(verifier.to_bytes(8, "big"), name, CALLBACK)
         self.call(Opnum.SETCLIENTID, arguments, because, None, principal)
 
-    def confirm_client(self, client: int, confirm: int, because: Because = None, principal: Principal = NOBODY,
+    def confirm_client(self, client: int, confirm: int, because: Because = None, principal: Sender = NOBODY,
                        epoch: int = 1) -> None:
         self.call(Opnum.SETCLIENTID_CONFIRM, SetclientidConfirm(epoch, client, confirm), because, None, principal)
 
@@ -114,9 +113,9 @@ class Story:
         self.server.expire(client, 0, now)
 
 
-def begun(name: str) -> Story:
+def begun() -> Story:
     """Client 1, live; and state 1, its open of `a` by A for both, confirmed: entries 0 to 3. The next is 3."""
-    story = Story(name)
+    story = Story()
     story.introduce()
     story.confirm_client(1, 1)
     story.open(1)
@@ -130,7 +129,7 @@ def state(number: int, seqid: int = 1, client: int = 1, epoch: int = 1) -> State
 
 def stateids() -> Story:
     """Each cause of BAD_STATEID, and the other verdicts."""
-    story = begun("stateids")
+    story = begun()
     story.lock_first(3, state(1, 2), 1)
     story.close(4, Stateid(0, 0, 0, 0), ("all bits of the stateid are zero, and it names no state", STATEIDS))
     story.close(4, Stateid(*[LAST] * 4), ("all bits of the stateid are one, and it names no state", STATEIDS))
@@ -152,7 +151,7 @@ def stateids() -> Story:
 
 def ends() -> Story:
     """States that have ended, each in its way, and one of another client."""
-    story = begun("states that ended")
+    story = begun()
     story.lock_first(3, state(1, 2), 1)
     story.close(4, state(1, 2))
     story.close(5, state(1, 2), (f"state 1, an {OPEN_A}, was ended by entry 5 (CLOSE)", STATEIDS))
@@ -172,7 +171,7 @@ def ends() -> Story:
 
 
 def clients() -> Story:
-    story = begun("clients")
+    story = begun()
     story.introduce(b"c2")
     never = ("client 2, which entry 4 (SETCLIENTID) gave, was never confirmed", CLIENT_IDS)
     story.open(1, never, client=2)
@@ -216,7 +215,7 @@ def clients() -> Story:
 def records_that_give_way() -> Story:
     """Client 1, which asks for another callback, and 254 ids whose records wait: entries 3 to 256. Where another id
     comes the first of these gives way, and not the record of client 1, though that came before."""
-    story = Story("records that give way")
+    story = Story()
     story.introduce()
     story.confirm_client(1, 1)
     story.introduce()
@@ -245,17 +244,16 @@ def records_that_give_way() -> Story:
 
 def sequence_ids() -> Story:
     """Also requests that come again, whose answers are given again."""
-    story = begun("sequence ids")
+    story = begun()
     due = '3 is the next sequence id of open owner "A" of client 1, after entry 3 (OPEN_CONFIRM), and '
     story.close(4, state(1, 2), (due + "4 came", OWNERS))
     story.close(2, state(1), (due + "2 came: that of the entry itself, with another operation", OWNERS))
     itself = due + "2 came: that of the entry itself, with "
     story.confirm(2, state(1, 2), (itself + "other arguments", OWNERS))
     story.confirm(2, state(1), (itself + "another current filehandle", OWNERS), OTHER_FILE)
-    story.open(3, ('directory "/" has no "e"', "OPEN"), name=b"e")
-    again = ('it is the request of entry 8 (OPEN) again, and gets the same answer; what stood in its way then: '
-             'directory "/" has no "e"')
-    story.repeat(8, OPEN_BY_A, (again, OWNERS))
+    story.open(3, NO_FILE, name=b"e")
+    again = "it is the request of entry 8 (OPEN) again, and gets the same answer; what stood in its way then: "
+    story.repeat(8, OPEN_BY_A, (again + NO_FILE[0], OWNERS))
     story.lock_first(4, state(1, 2), 7)
     due = '8 is the next sequence id of lock owner "x" of client 1, after entry 10 (LOCK), and '
     story.unlock(7, state(2), (due + "7 came: that of the entry itself, with another operation", OWNERS))
@@ -271,7 +269,7 @@ def sequence_ids() -> Story:
 
 def kept_answers() -> Story:
     """A request of each operation that an owner has, which comes again; also a refusal, and one that comes twice."""
-    story = Story("kept answers")
+    story = Story()
     story.introduce()
     story.confirm_client(1, 1)
     # Entries 2 to 5: state 1 is the open of `a` by A.
@@ -292,10 +290,9 @@ def kept_answers() -> Story:
     story.unlock(3, state(2, 2))
     story.repeat(14, 'LOCKU by lock owner "x" of client 1')
     # Entries 16 to 19: a refusal is kept as well, and a CLOSE though the open is gone.
-    story.open(6, ('directory "/" has no "e"', "OPEN"), name=b"e")
-    again = ('it is the request of entry 16 (OPEN) again, and gets the same answer; what stood in its way then: '
-             'directory "/" has no "e"')
-    story.repeat(16, OPEN_BY_A, (again, OWNERS))
+    story.open(6, NO_FILE, name=b"e")
+    again = "it is the request of entry 16 (OPEN) again, and gets the same answer; what stood in its way then: "
+    story.repeat(16, OPEN_BY_A, (again + NO_FILE[0], OWNERS))
     story.close(7, state(1, 4))
     story.repeat(18, 'CLOSE by open owner "A" of client 1')
     return story
@@ -303,7 +300,7 @@ def kept_answers() -> Story:
 
 def no_kept_answers() -> Story:
     """Calls that come again, and mostly get the same answer, but no kept one, except the last."""
-    story = begun("no kept answers")
+    story = begun()
     # Of no owner, and of one that has gone on since: entries 4 to 8.
     story.repeat(1)
     story.read(state(1, 2))
@@ -315,9 +312,8 @@ def no_kept_answers() -> Story:
     story.repeat(8, None, (due, OWNERS))
     story.repeat(8, None, (due, OWNERS))
     # A refusal behind which the owner is still unknown: 11 and 12.
-    missing = ('directory "/" has no "e"', "OPEN")
-    story.open(1, missing, owner=b"C", name=b"e")
-    story.repeat(11, None, missing)
+    story.open(1, NO_FILE, owner=b"C", name=b"e")
+    story.repeat(11, None, NO_FILE)
     # A lock state that has ended: 13 to 16.
     story.lock_first(4, state(1, 3), 1)
     story.unlock(2, state(2))
@@ -333,7 +329,7 @@ def no_kept_answers() -> Story:
 
 def opens() -> Story:
     """What an OPEN is refused for."""
-    story = begun("opens")
+    story = begun()
     refused: tuple[tuple[str, dict[str, Any]], ...] = (
         (NO_HANDLE[0], {"directory": None}),
         ("it reclaims (CLAIM_PREVIOUS), and no run keeps anything of the one before", {"claim": Claim(1, None, 0)}),
@@ -361,7 +357,7 @@ def opens() -> Story:
 
 
 def shares() -> Story:
-    story = begun("shares")
+    story = begun()
     share = "Share reservations"
     held = 'open owner "A" of client 1 has file "/a" open for WRITE, which this OPEN denies, since entry 2'
     story.open(1, (held, share), b"B", 1, 2)
@@ -383,7 +379,7 @@ def shares() -> Story:
 
 def many_shares() -> Story:
     """Of many that are in the way some are named."""
-    story = begun("many shares")
+    story = begun()
     named = ['open owner "A" of client 1 has file "/a" open for READ, which this OPEN denies, since entry 2']
     for number, name in enumerate((b"B", b"C", b"D", b"E"), 4):
         story.open(1, None, name, 1)
@@ -394,7 +390,7 @@ def many_shares() -> Story:
 
 
 def locks() -> Story:
-    story = begun("locks")
+    story = begun()
     reclaims = "it reclaims, and no lock outlives a run"
     story.lock_first(3, state(1, 2), 1, (reclaims, "LOCK"), reclaim=1)
     story.lock_first(4, state(1, 2), 1, ("a length of 0 names no bytes", RANGES), length=0)
@@ -427,7 +423,7 @@ def locks() -> Story:
 
 def bytes_of_files() -> Story:
     """READ and WRITE by special stateids, and by those of opens and lock states."""
-    story, second = begun("bytes of files"), state(1, 2)
+    story, second = begun(), state(1, 2)
     directory = 'the current filehandle is that of directory "/d", and no file\'s'
     asks: list[tuple[Callable[..., None], str]] = [(story.read, "READ"), (story.write, "WRITE")]
     for ask, heading in asks:
@@ -472,7 +468,7 @@ def bytes_of_files() -> Story:
 
 def bytes_of_lent_files() -> Story:
     """READ and WRITE by delegations, and by special stateids beside them."""
-    story = lent("bytes of lent files")
+    story = lent()
     story.write(state(2))
     story.read(state(2))
     bars = (f"state 2, {A_DELEGATION} to client 1 since entry 4 (OPEN), keeps out READs and WRITEs by a special "
@@ -503,10 +499,10 @@ def bytes_of_lent_files() -> Story:
 A_DELEGATION, TO_READ = 'a delegation of file "/a" for writing', 'a delegation of file "/b" for reading'
 
 
-def lent(name: str) -> Story:
+def lent() -> Story:
     """Client 1 has state 1, its open of `a` by A, and state 2, a delegation for writing: entries 0 to 4. A's next
     sequence id is 4. Client 2 is live: entries 5 and 6."""
-    story = Story(name, 'policy.callbacks = "assume"\n' + DEFAULT)
+    story = Story('policy.callbacks = "assume"\n' + DEFAULT)
     story.introduce()
     story.confirm_client(1, 1)
     story.open(1)
@@ -520,7 +516,7 @@ def lent(name: str) -> Story:
 
 def delays() -> Story:
     """OPENs that meet delegations of others, called back by them or before."""
-    story = lent("delays")
+    story = lent()
     bars = f"state 2, {A_DELEGATION} to client 1 since entry 4 (OPEN), keeps out any open of another client, and "
     story.open(1, (bars + "is called back now", DELEGATIONS), b"B", 1, client=2)
     story.open(1, (bars + "was called back by entry 7 (OPEN)", DELEGATIONS), b"B", 2, client=2)
@@ -541,7 +537,7 @@ def delays() -> Story:
 
 def many_delays() -> Story:
     """Of many that are in the way some are named, in the order of their numbers."""
-    story, named = Story("many delays", 'policy.callbacks = "assume"\n' + DEFAULT), []
+    story, named = Story('policy.callbacks = "assume"\n' + DEFAULT), []
     for client in range(1, 6):
         story.introduce(b"c%d" % client)
         story.confirm_client(client, client)
@@ -560,7 +556,7 @@ def many_delays() -> Story:
 
 def delegation_stateids() -> Story:
     """Of delegations, in the operations that work on them and in those that don't."""
-    story, other = lent("stateids of delegations"), "the stateid is that of state 2, "
+    story, other = lent(), "the stateid is that of state 2, "
     story.close(4, state(2), (f"{other}{A_DELEGATION} to client 1, and a delegation has no owner", OWNERS))
     wanted = f"the stateid is that of state 1, an {OPEN_A}; a delegation is wanted here"
     story.give_back(state(1, 3), (wanted, STATEIDS))
@@ -592,7 +588,7 @@ def delegation_stateids() -> Story:
 
 def ends_of_delegations() -> Story:
     """Returned after a recall, revoked, and gone with their clients."""
-    story = lent("ends of delegations")
+    story = lent()
     bars = f"state 2, {A_DELEGATION} to client 1 since entry 4 (OPEN), keeps out any open of another client, and "
     called = (bars + "is called back now", DELEGATIONS)
     story.open(1, called, b"B", 1, client=2)
@@ -627,7 +623,7 @@ def ends_of_delegations() -> Story:
 
 def clients_with_delegations() -> Story:
     """A delegation is state of its client, and goes where another one takes its place."""
-    story = lent("clients with delegations")
+    story = lent()
     story.close(4, state(1, 3))
     used = (f'the id "c1" is that of client 1, by AUTH_NONE, which has state: state 2, {A_DELEGATION} to client 1, '
             "since entry 4 (OPEN)")
@@ -642,7 +638,7 @@ def clients_with_delegations() -> Story:
 
 def clients_of_slots() -> Story:
     """Clients 257 and 258, live, each the second in its slot: entries 3 to 7. The first has a delegation."""
-    story = Story("clients of slots", 'policy.callbacks = "assume"\n' + DEFAULT)
+    story = Story('policy.callbacks = "assume"\n' + DEFAULT)
     one, other = "client 257 (slot 1, second)", "client 258 (slot 2, second)"
     story.introduce()
     story.confirm_client(1, 1)
@@ -675,7 +671,7 @@ def clients_of_slots() -> Story:
 
 def owners_that_are_forgotten() -> Story:
     """The number of a closed open leads nowhere then; nor did it where the CLOSE wasn't the kept request any longer."""
-    story = begun("owners that are forgotten")
+    story = begun()
     story.close(3, state(1, 2))
     story.server.forget(91)
     closed = f"state 1, an {OPEN_A}, was ended by entry 4 (CLOSE)"
@@ -695,7 +691,7 @@ def owners_that_are_forgotten() -> Story:
     story.close(3, state(1, 2), ended)
     story.confirm(8, state(2))
     story.close(9, state(2, 2))
-    story.open(10, ('directory "/" has no "e"', "OPEN"), name=b"e")
+    story.open(10, NO_FILE, name=b"e")
     story.server.forget(91)
     story.close(9, state(2, 2), (f"state 2, an {OPEN_A}, was ended by entry 16 (CLOSE)", OWNERS))
     return story
@@ -703,7 +699,7 @@ def owners_that_are_forgotten() -> Story:
 
 def listings() -> Story:
     """READDIR, and GETATTR of what can only be set, under the profile "clients"."""
-    story = Story("listings", FOR_CLIENTS)
+    story = Story(FOR_CLIENTS)
     story.list(NO_HANDLE, filehandle=None)
     story.list(('the current filehandle is that of file "/a", and no directory\'s', "READDIR"), filehandle=FILE)
     story.list()
@@ -730,7 +726,7 @@ def listings() -> Story:
 
 def sizes() -> Story:
     """SETATTR under the profile "clients"."""
-    story = Story("sizes", FOR_CLIENTS)
+    story = Story(FOR_CLIENTS)
     story.introduce()
     story.confirm_client(1, 1)
     story.open(1, access=1, deny=2)
@@ -769,7 +765,7 @@ def sizes() -> Story:
 
 def closes_beside_locks() -> Story:
     """Refused as long as a byte is held; and what comes before that."""
-    story = Story("CLOSEs beside locks", 'policy.close_locks = "refuse"\n' + DEFAULT)
+    story = Story('policy.close_locks = "refuse"\n' + DEFAULT)
     story.introduce()
     story.confirm_client(1, 1)
     story.open(1)
