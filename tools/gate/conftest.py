@@ -5,14 +5,15 @@ import signal
 import sys
 from collections import Counter, defaultdict
 from collections.abc import Callable, Iterator
-from functools import partial
+from functools import cache, partial
 from tempfile import TemporaryDirectory
 from typing import Any
 
 import pytest
 
 from model.program import Program
-from nfs4.served import PROGRAM
+from nfs4.preload import preloading
+from nfs4.served import PROGRAM, TOP
 
 sys.dont_write_bytecode = True
 
@@ -77,3 +78,12 @@ def path_of() -> Iterator[Callable[[str], str]]:
     """The path of a file of this name in a folder that the test has for itself, and that is gone behind it."""
     with TemporaryDirectory() as room:
         yield partial(os.path.join, room)
+
+
+@pytest.fixture(scope="session")
+def preloaded(tmp_path_factory: pytest.TempPathFactory) -> Callable[..., dict[str, str]]:
+    """The environment in which a program is loaded with a library that is made of this file of `tools`, once, and with
+    these variables. CC names the compiler, if it isn't cc."""
+    folder = str(tmp_path_factory.mktemp("libraries"))
+    environment = cache(lambda source: preloading(os.path.join(TOP, "tools", source), folder))
+    return lambda source, **variables: {**environment(source), **variables}

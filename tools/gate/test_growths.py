@@ -49,7 +49,6 @@ from nfs4.callbacks import recall_call
 from nfs4.client import Wrong, numbers_of
 from nfs4.messages import (GETATTR, NFS4_OK, NFS4ERR_RESOURCE, NULL, PUTROOTFH, SETATTR, TYPE_SIZE_FILEID, call,
                            compound, opening, reply, split, words, xid)
-from nfs4.preload import preloading
 from nfs4.rows import Part, Row
 from nfs4.served import PROGRAM, Peer, Piped, REPLY_PATIENCE, Served, TOP
 from nfs4.wire import BOTH, Opnum, READ, Status, opaque, record, split_records
@@ -96,9 +95,8 @@ REASON = re.compile(r"(?m)^/.*\.toml: .*\n")
 class Memory:
     """The memory of programs, and the files of their runs, in a folder."""
 
-    def __init__(self, folder):
-        self.folder, self.numbers = folder, count()
-        self.environment = preloading(os.path.join(TOP, "tools/refuse_growth.c"), folder)
+    def __init__(self, folder, environment):
+        self.folder, self.environment, self.numbers = folder, environment, count()
 
     def new_path(self, ending):
         return os.path.join(self.folder, f"{next(self.numbers)}.{ending}")
@@ -153,8 +151,8 @@ def growths_in(is_refused, first=1):
 
 
 @pytest.fixture(scope="session")
-def memory(tmp_path_factory):
-    return Memory(str(tmp_path_factory.mktemp("memory")))
+def memory(tmp_path_factory, preloaded):
+    return Memory(str(tmp_path_factory.mktemp("memory")), preloaded("refuse_growth.c"))
 
 
 # Rows of one part.
