@@ -30,7 +30,7 @@ import time
 from concurrent.futures import ThreadPoolExecutor
 from dataclasses import replace
 from fcntl import ioctl
-from itertools import count, groupby
+from itertools import count, groupby, takewhile
 from termios import FIONREAD
 
 import pytest
@@ -66,8 +66,10 @@ DIVIDING = ("moment", "at", "sweep", "mark", "revoke", "take", "pending", "probe
 # The rows whose journals are written.
 JOURNALED = (("client_ids.rows", "each case of client ids that comes without opens"),
              ("lock.rows", "a write lock with a hole, as another owner meets it"))
-# So many rows of a file are tried together.
-TOGETHER = 8
+# So many rows of a file are tried together, and fewer of those whose parts are also served by threads.
+TOGETHER, PARTS_TOGETHER = 8, 3
+# So many parts of the growths of a test are tried, each by itself.
+SHARES = 4
 # A thousand locks, or 255 clients, make so many growths, and each would be a run of them all.
 LEFT_OUT = ("client_slots.rows", "runs.rows")
 # Rows in which one sweep removes a client whose delegation is due: where memory is refused for the first, the
@@ -114,7 +116,8 @@ class Memory:
         return Refusal(self, REFUSED_END="1")
 
 
-# When a growth was refused: before the run began. To begin is to read of the input, or to accept.
+# When a growth was refused: before the run began, which may leave no journal then. To begin is to read of the input, or
+# to accept.
 BEFORE = b""
 
 
@@ -144,10 +147,10 @@ def taken(path):
     return data
 
 
-def growths_in(is_refused, first=1):
-    """Refuses each growth from this one on in turn, by a function that runs something and says whether there was such a
-    growth: how many there are."""
-    return next(growth for growth in count(first) if not is_refused(growth)) - first
+def growths_in(is_refused, first=1, step=1):
+    """Refuses each growth from this one on in turn, or each so many further, by a function that runs something and says
+    whether there was such a growth: how many there are."""
+    return sum(1 for _ in takewhile(is_refused, count(first, step)))
 
 
 @pytest.fixture(scope="session")
@@ -367,20 +370,22 @@ def test_start(starting, tell):
 
 
 def places():
-    """Those of all rows: a file, and the first of the rows that are tried together."""
+    """Those of all rows: a file, and the numbers of the rows that are tried together."""
     for file, path in ROW_FILES.items():
         with open(path, encoding="utf-8") as source:
             total = 0 if file in LEFT_OUT else source.read().count("\nrow ")
-        yield from (pytest.param(file, first, id=f"{file} {first}") for first in range(0, total, TOGETHER))
+        size = PARTS_TOGETHER if file.endswith("_parts.rows") else TOGETHER
+        yield from (pytest.param(file, range(first, min(first + size, total)), id=f"{file} {first}")
+                    for first in range(0, total, size))
 
 
-def rows_at(file, first):
+def rows_at(file, place):
     """The rows there with one part; those with several that can be sent again; and those that are also run with
     threads."""
     with open(ROW_FILES[file], encoding="utf-8") as source:
         texts = re.split(r"(?m)^row ", source.read())[1:]
     single, several, shared = [], [], []
-    for row, text in list(zip(rows_of(file), texts, strict=True))[first:first + TOGETHER]:
+    for row, text in list(zip(rows_of(file), texts, strict=True))[place.start:place.stop]:
         if row.name in LEFT_OUT_ROWS:
             continue
         has_parts = len(parts_of(row)) > 1 or row.is_ordering
@@ -394,9 +399,9 @@ def rows_at(file, first):
     return single, several, shared
 
 
-@pytest.mark.parametrize("file, first", places())
-def test_rows(file, first, memory, starting, add_up):
-    single, several, shared = rows_at(file, first)
+@pytest.mark.parametrize("file, place", places())
+def test_rows(file, place, memory, starting, add_up):
+    single, several, shared = rows_at(file, place)
     for row in single:
         growths, again = refuse_in_row(memory, row, starting)
         add_up(1, "rows")
@@ -438,11 +443,6 @@ def journal_after(row, output):
         if replies and replies[0][:4] == message[:4] and not server.follows(message, replies.pop(0)):
             raise Wrong(f"{row.name}: no server may reply {output.hex()}")
     return journal_bytes(server.journal())
-
-
-def may_be_left_out(when, status):
-    """Whether a run that ends so may leave no journal, where a growth was refused then: only before it began."""
-    return when == BEFORE and status == 1
 
 
 def named_row(number):
@@ -490,7 +490,7 @@ def test_once(number, since, program, memory, add_up):
         when = refusal.when()
         is_undisturbed = (status, errors) == ending_of_once(row)[::2]
         is_refusal = when is not None and status == 1 and errors in REFUSALS
-        is_left_out = data is None and may_be_left_out(when, status)
+        is_left_out = data is None and when == BEFORE and status == 1
         if not (is_undisturbed or is_refusal) or not (is_left_out or data == journal_after(row, output)):
             raise Wrong(f"{row.name}, where growth {growth} is refused: status {status}, {errors}, {output.hex()}, and "
                         f"the file {data and data.hex()}")
@@ -570,7 +570,7 @@ def test_serve(since, memory, tell):
         is_undisturbed = ending == (0, b"", b"") and are_as_many and (when is not None or got == connection.wanted)
         status, _, errors = ending
         is_refusal = when is not None and status == 1 and errors in REFUSALS
-        is_left_out = is_refusal and data is None and may_be_left_out(when, status)
+        is_left_out = is_refusal and data is None and when == BEFORE
         is_written = data is not None and entries_of(data) == entries_of(journal_after(row, got))
         if not (is_undisturbed or is_refusal) or not (is_left_out or is_written):
             raise Wrong(f"where growth {growth} is refused it ends with {ending}, after {got.hex()}, with the journal "
@@ -776,8 +776,9 @@ def named_tests(path, named):
     return [name for name in names if name == named or name.startswith(f"{named}::")]
 
 
+@pytest.mark.parametrize("share", range(SHARES))
 @pytest.mark.parametrize("crate, named", TESTS)
-def test_tests(crate, named, memory, add_up):
+def test_tests(crate, named, share, memory, add_up):
     """They pass with each of their growths refused."""
     path = os.path.join(TOP, f"crates/{crate}/out/{crate}_tests")
     assert os.path.exists(path), f"`rt test` in crates/{crate} builds it"
@@ -790,8 +791,8 @@ def test_tests(crate, named, memory, add_up):
                                  errors="replace", env=refusal.environment)
             assert ran.returncode == 0, f"{test}, where growth {growth} is refused:\n{ran.stdout}"
             return refusal.took_place()
-        growths = growths_in(is_refused)
+        growths = growths_in(is_refused, 1 + share, SHARES)
         # A run in which nothing was ever refused would show nothing.
-        assert growths, f"{test} makes no growth"
-        add_up(1, "tests")
+        assert growths or share, f"{test} makes no growth"
+        add_up(share == 0, "tests")
         add_up(growths, "growths")
