@@ -172,7 +172,7 @@ class TimedJudge(Judge):
         for client, heard in by_client.items():
             self.expect_renews(client, [one for one in heard if one.number is None])
         for number, end in self.times.ends:
-            self.expect_end(number, end, by_client[end.client])
+            self.expect_timely_end(number, end, by_client[end.client])
         # The last end at each moment is the last of its sweep.
         for now, number in {end.now: number for number, end in self.times.ends}.items():
             self.expect_kept(number, now, by_client)
@@ -213,7 +213,7 @@ class TimedJudge(Judge):
         moment: int = self.journal.entries[one.number].moment
         return moment, moment
 
-    def expect_end(self, number: int, end: Expire, heard: list[Heard]) -> None:
+    def expect_timely_end(self, number: int, end: Expire, heard: list[Heard]) -> None:
         """No renewal that was answered is within a lease of the end, or later than what that saw; and something renewed
         the lease at the moment that it saw. A RENEW that was answered OK came before; so did a call whose entry does.
         One whose entry stands behind it may have, since a call renews before it waits for the lock."""
