@@ -11,10 +11,9 @@ from collections import Counter
 from tempfile import TemporaryDirectory
 from typing import Any
 
+from gate.trial import lawful_journal
 from model.entries import Call, NotJournal
 from model.fuzz import AGAIN, Caller, NONE_LEFT, YIELDED, missing_cases
-from model.journal import read_journal, verdict
-from model.program import Program
 from model.server import CLIENTS_LIMIT
 from nfs4.callback_listener import Listener, accept, universal_address
 from nfs4.client import Wrong, expect
@@ -53,18 +52,6 @@ def calls_of(entries: list[Any]) -> list[Call]:
     return [entry._replace(moment=0) for entry in entries if isinstance(entry, Call)]
 
 
-def expect_journal(path: str, client: Client, program: Program) -> None:
-    """It is lawful, and has the model's calls."""
-    with open(path, "rb") as file:
-        data = file.read()
-    is_lawful, line = verdict(data)
-    if not is_lawful:
-        raise Wrong(f"the model says of the journal: {line}")
-    expect("what the program says of the journal", program.audit(data), (0, f"{line}\n".encode(), b""))
-    if calls_of(read_journal(data).entries) != calls_of(client.server.recorded):
-        raise Wrong("the journal's calls aren't the model's")
-
-
 def run(program: str, seed: int, count: int, ids: int, profile: str | None = None) -> Counter[Any]:
     """A run with so many calls: how often the model answered what. Where something is wrong, it says the seed."""
     with Listener(accept) as listener, TemporaryDirectory() as room:
@@ -81,7 +68,8 @@ def run(program: str, seed: int, count: int, ids: int, profile: str | None = Non
                 served.end_input()
                 status, _, errors = served.end()
             expect("the status", (status, errors if status else b""), (0, b""))
-            expect_journal(journal, client, Program(program))
+            if calls_of(lawful_journal(program, journal).entries) != calls_of(client.server.recorded):
+                raise Wrong("the journal's calls aren't the model's")
         except (Wrong, NotJournal, TimeoutError) as wrong:
             raise Wrong(f"seed {seed}: {wrong}") from wrong
         counts: Counter[Any] = client.server.counts
