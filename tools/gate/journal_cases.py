@@ -590,7 +590,7 @@ def file_of(*given: Any) -> bytes:
     return journal_bytes(journal_of(*given))
 
 
-def asked(opnum: int, arguments: Any) -> bytes:
+def asked(opnum: Opnum, arguments: Any) -> bytes:
     return file_of([Call(0, NOBODY, None, opnum, arguments, Answer(opnum, Status.NOFILEHANDLE, b""))])
 
 
