@@ -5,6 +5,7 @@ import os
 import signal
 import subprocess
 import sys
+from collections import Counter, defaultdict
 from collections.abc import Callable, Iterator
 from functools import cache, partial
 from tempfile import TemporaryDirectory
@@ -12,8 +13,9 @@ from typing import Any
 
 import pytest
 
+from model.program import Program
 from nfs4.preload import preloading
-from nfs4.served import TOP
+from nfs4.served import PROGRAM, TOP
 
 sys.dont_write_bytecode = True
 
@@ -40,6 +42,12 @@ def pytest_terminal_summary(terminalreporter: Any) -> None:
     """Behind the results, what the tests tell of themselves: a line each, under the test's name."""
     told = [(report.nodeid, line) for report in terminalreporter.getreports("passed") if report.when == "call"
             for name, line in report.user_properties if name == "told"]
+    sums: dict[str, Counter[str]] = defaultdict(Counter)
+    for report in terminalreporter.getreports("passed"):
+        for name, found in report.user_properties:
+            if report.when == "call" and name == "counts":
+                sums[report.nodeid.partition("[")[0]].update(found)
+    told += [(test, ", ".join(f"{number} {what}" for what, number in sum.items())) for test, sum in sums.items() if sum]
     for test, line in sorted(told):
         terminalreporter.write_line(f"{test.rpartition('/')[2]}: {line}")
 
@@ -48,6 +56,23 @@ def pytest_terminal_summary(terminalreporter: Any) -> None:
 def tell(record_property: Callable[[str, object], None]) -> Callable[[str], None]:
     """Takes a line that the end of the run shows: a figure, or how many checks there were."""
     return partial(record_property, "told")
+
+
+@pytest.fixture
+def add_up(record_property: Callable[[str, object], None]) -> Callable[[int, str], None]:
+    """Takes a number and what it counts, of which the end of the run shows the sums over all cases of the test."""
+    counts: dict[str, int] = {}
+    record_property("counts", counts)
+
+    def add(number: int, what: str) -> None:
+        counts[what] = counts.get(what, 0) + number
+    return add
+
+
+@pytest.fixture(scope="session")
+def program() -> Program:
+    """The built program, to be judged by the model."""
+    return Program(PROGRAM)
 
 
 @pytest.fixture

@@ -1,5 +1,8 @@
-"""Clients that renew their leases at the last moment, beside the sweeps of `nfs4state serve`; and the judge of all that
-they got, which is tried on histories before.
+"""Clients that renew their leases at the last moment, beside the sweeps of `nfs4state serve`.
+
+By the journal, the replies and their times (`timed.py`) none is ended within a lease of a renewal that was answered, or
+seen last when nothing renewed; no RENEW is OK that was sent behind a reply from after its client's end, also where its
+slot is given again; and a sweep that ends one leaves none whose lease is over.
 
 Several threads have two connections and a few clients each. A client renews its lease where that would be over, at the
 edge of a second, a little before or behind the time at which the sweep comes: there where as many renewals miss it as
@@ -9,18 +12,18 @@ so does now and then one that hasn't, whose place it takes; meanwhile the thread
 numbers. One more connection keeps the lock busy about the time of the sweep."""
 import os
 import random
-import sys
 import tempfile
 import time
-from collections import Counter, namedtuple
+from collections import Counter
+from collections.abc import Sequence
 from concurrent.futures import ThreadPoolExecutor
+from typing import NamedTuple
 
 from gate.timed import Exchange, SECOND, TimedJudge, numbers_of
-from gate.timed_cases import try_cases
 from model.attributes import SIZE
-from model.entries import Call, Expire
-from model.journal import NotJournal, read_journal, verdict
-from model.program import bytes_of
+from model.entries import Call, Expire, NotJournal
+from model.journal import read_journal, verdict
+from model.program import Program, bytes_of
 from model.sequenced import NOT_COUNTED
 from model.server import OPERATIONS, Lease
 from model.states import SLOTS
@@ -45,25 +48,33 @@ SILENT, AGAIN, EARLIER, ONLY_RENEW = 0.06, 0.03, 0.3, 0.4
 BUSY = 2
 RENEWING = {opnum for opnum, operation in OPERATIONS.items() if operation.lease != Lease.OF_NOBODY}
 
-# What came of a server: by the users of its connections what went over each; its journal; and how many of the
-# renewals at the last moment came in time, and how many missed.
-Outcome = namedtuple("Outcome", "lease exchanges journal in_time missed")
+
+class Outcome(NamedTuple):
+    """What came of a server: by the users of its connections what went over each; its journal; and how many of the
+    renewals at the last moment came in time, and how many missed."""
+    lease: int
+    exchanges: dict[int, list[Exchange]]
+    journal: bytes
+    in_time: int
+    missed: int
 
 
 class Link:
     """A connection of a user of its own, and what went over it."""
 
-    def __init__(self, port, uid):
-        self.peer, self.uid, self.exchanges, self.waiting, self.sent = Peer(("127.0.0.1", port)), uid, [], [], 0
+    def __init__(self, port: int, uid: int) -> None:
+        self.peer, self.uid, self.sent = Peer(("127.0.0.1", port)), uid, 0
+        self.exchanges: list[Exchange] = []
+        self.waiting: list[bytes] = []
 
-    def send(self, calls):
+    def send(self, calls: Sequence[list[bytes]]) -> None:
         """Calls of these operations each, in one write."""
         first = len(self.exchanges) + 1
         self.waiting = [compound(xid, *operations, uid=self.uid) for xid, operations in enumerate(calls, first)]
         self.sent = time.monotonic_ns()
         self.peer.send(b"".join(self.waiting))
 
-    def receive(self):
+    def receive(self) -> list[list[int]]:
         """The words of the replies to them."""
         for record in self.waiting:
             reply = self.peer.receive()
@@ -72,37 +83,38 @@ class Link:
                 raise Wrong(f"user {self.uid} gets {reply.hex(' ', 4)} for {record.hex(' ', 4)}")
         return [words_of(it.reply) for it in self.exchanges[len(self.exchanges) - len(self.waiting):]]
 
-    def ask(self, *calls):
+    def ask(self, *calls: list[bytes]) -> list[list[int]]:
         self.send(calls)
         return self.receive()
 
 
-def status_of(reply):
+def status_of(reply: list[int]) -> int:
     return reply[6]
 
 
-def renew(number):
+def renew(number: int) -> list[bytes]:
     return [words(RENEW, EPOCH, number)]
 
 
 class Pace:
     """How far behind the edge, in seconds, the sweep comes, as the renewals before have found it."""
 
-    def __init__(self, chance):
-        self.chance, self.middle, self.counts = chance, 0.0, Counter()
+    def __init__(self, chance: random.Random) -> None:
+        self.chance, self.middle = chance, 0.0
+        self.counts: Counter[bool] = Counter()
         # Of renewals since the time was looked for last: how far behind the edge they were, and whether in time.
-        self.tries = []
+        self.tries: list[tuple[float, bool]] = []
 
-    def draw(self):
+    def draw(self) -> float:
         """When to renew."""
         is_near = self.chance.random() < NEAR
         return self.middle + (self.chance.gauss(0, SPREAD) if is_near else self.chance.uniform(-MOST, MOST))
 
-    def tell(self, behind, is_in_time):
+    def tell(self, behind: float, is_in_time: bool) -> None:
         self.counts[is_in_time] += 1
         self.tries.append((behind, is_in_time))
 
-    def look(self):
+    def look(self) -> None:
         """Takes the time before which most came in time, and behind which most missed."""
         tries, self.tries = sorted(self.tries), []
         if tries:
@@ -118,12 +130,12 @@ class Pace:
 class Holder(Client):
     """A client that holds a lease, with one open."""
 
-    def __init__(self, uid):
+    def __init__(self, uid: int) -> None:
         super().__init__(None, uid, EPOCH)
         # How often it came; the second at whose edge its lease is over; and whether it lets that happen.
         self.visits, self.edge, self.is_silent = 0, 0, False
 
-    def come(self, home, side):
+    def come(self, home: Link, side: Link) -> None:
         """Comes over one connection, and in its own place if it is there, while the other one asks for both."""
         before, self.visits, self.is_silent, self.open = self.number, self.visits + 1, False, 0
         found, = home.ask([setclientid(u64(self.visits), self.name)])
@@ -137,7 +149,7 @@ class Holder(Client):
         side.ask(*both)
         self.begin(home)
 
-    def begin(self, link):
+    def begin(self, link: Link) -> None:
         """Opens the file, unless the lease has ended meanwhile."""
         self.file, self.last, self.open_seqid, self.lock_last = FILE, 1, 1, 0
         found, = link.ask([*(words for words, _ in way_to(FILE)), self.open_words(1)])
@@ -146,7 +158,7 @@ class Holder(Client):
             link.ask([words(PUTFH) + handle(FILE), self.open_confirm_words(2)])
             self.last, self.open_seqid = 2, 2
 
-    def earlier(self, kind, chance):
+    def earlier(self, kind: str, chance: random.Random) -> list[bytes] | None:
         """A RENEW or a READ that names a number which its slot had before, if there is one."""
         generation = self.number // SLOTS
         if not generation:
@@ -156,7 +168,7 @@ class Holder(Client):
             return renew(number)
         return [words(PUTFH) + handle(FILE), words(READ, 1, EPOCH, number, 1) + u64(0) + words(1)]
 
-    def operations(self, kind):
+    def operations(self, kind: str) -> list[bytes]:
         """Those of this kind, which renew by the clientid, by the open, or by a stateid that isn't there."""
         if kind == "renew":
             return renew(self.number)
@@ -173,7 +185,7 @@ class Holder(Client):
             "open_confirm": words(OPEN_CONFIRM) + none + words(1),
             "open_downgrade": words(OPEN_DOWNGRADE) + none + words(1, 1, 0)}[kind]]
 
-    def take(self, kind, reply):
+    def take(self, kind: str, reply: list[int]) -> bool:
         """Whether the lease was there, by the reply to such a call."""
         status = status_of(reply)
         if kind in ("open", "lock") and status not in NOT_COUNTED:
@@ -186,19 +198,19 @@ class Holder(Client):
         return status not in (NFS4ERR_STALE_CLIENTID, Status.EXPIRED)
 
 
-KINDS = ("renew",) * 8 + ("read", "write", "setattr", "open", "lock", "lockt", "release", "close", "locku", "delegreturn",
-                          "open_confirm", "open_downgrade")
+KINDS = ("renew",) * 8 + ("read", "write", "setattr", "open", "lock", "lockt", "release", "close", "locku",
+                          "delegreturn", "open_confirm", "open_downgrade")
 
 
 class House:
     """The clients of a thread, and its two connections."""
 
-    def __init__(self, setting, place):
+    def __init__(self, setting: "Setting", place: int) -> None:
         self.setting, self.chance = setting, random.Random(f"{setting.seed} {place}")
         self.home, self.side = setting.links[2 * place:2 * place + 2]
         self.holders = [Holder(1 + place * EACH + number) for number in range(EACH)]
 
-    def live(self):
+    def live(self) -> None:
         """From the first second to the last."""
         for holder in self.holders:
             self.come(holder)
@@ -212,13 +224,14 @@ class House:
                 self.setting.wait(edge + behind)
                 self.turn(group, edge)
 
-    def come(self, holder):
+    def come(self, holder: Holder) -> None:
         holder.come(self.home, self.side)
         holder.edge = self.setting.edge()
 
-    def turn(self, group, edge):
+    def turn(self, group: list[Holder], edge: int) -> None:
         """Each of these renews its lease, or has let it end, in one write."""
-        calls, kinds = [], ("renew",) if self.chance.random() < ONLY_RENEW else KINDS
+        calls: list[tuple[Holder | None, str, list[bytes]]] = []
+        kinds = ("renew",) if self.chance.random() < ONLY_RENEW else KINDS
         for holder in group:
             kind, likely = self.chance.choice(kinds), EARLIER
             if not holder.is_silent and self.chance.random() < SILENT:
@@ -228,15 +241,15 @@ class House:
                 calls.append((holder, kind, holder.operations(kind)))
             earlier = holder.earlier(self.chance.choice(kinds), self.chance)
             if earlier is not None and self.chance.random() < likely:
-                calls.insert(self.chance.randint(0, len(calls)), (None, None, earlier))
+                calls.insert(self.chance.randint(0, len(calls)), (None, "", earlier))
         link = self.chance.choice([self.home, self.side])
         replies = link.ask(*(operations for _, _, operations in calls))
         behind, next_edge = self.setting.since(link.sent) - edge, self.setting.edge()
-        for (holder, kind, _), reply in zip(calls, replies):
-            if holder is not None:
-                self.go_on(holder, holder.take(kind, reply), behind, next_edge)
+        for (whose, kind, _), reply in zip(calls, replies):
+            if whose is not None:
+                self.go_on(whose, whose.take(kind, reply), behind, next_edge)
 
-    def go_on(self, holder, is_live, behind, edge):
+    def go_on(self, holder: Holder, is_live: bool, behind: float, edge: int) -> None:
         """Comes again if it has to."""
         if not holder.is_silent:
             self.setting.pace.tell(behind, is_live)
@@ -249,24 +262,24 @@ class House:
 class Setting:
     """A server's process, its connections, and when they come to it."""
 
-    def __init__(self, served, lease, seconds, seed):
+    def __init__(self, served: Served, lease: int, seconds: int, seed: int) -> None:
         self.lease, self.seconds, self.seed, self.begun = lease, seconds, seed, time.monotonic_ns()
-        self.links = [Link(served.port, uid) for uid in range(1, 2 * THREADS + 2)]
+        self.links = [Link(served.port or 0, uid) for uid in range(1, 2 * THREADS + 2)]
         self.pace = Pace(random.Random(seed))
 
-    def since(self, time):
+    def since(self, time: int) -> float:
         """The seconds up to this time since the server began, about."""
         return (time - self.begun) / SECOND
 
-    def wait(self, seconds):
+    def wait(self, seconds: float) -> None:
         """Until so many seconds have passed since then."""
         time.sleep(max(0, seconds - self.since(time.monotonic_ns())))
 
-    def edge(self):
+    def edge(self) -> int:
         """The second at whose edge a lease is over that was renewed just now."""
         return int(self.since(time.monotonic_ns())) + self.lease + 1
 
-    def keep_busy(self):
+    def keep_busy(self) -> None:
         """Batches of calls about when each sweep comes, which name no client; and before, a call about the edge, which
         tells the judge of the server's clock. Behind the sweep, looks when it came."""
         link, look = self.links[-1], [words(PUTROOTFH), words(GETATTR, 1, 0x10)]
@@ -279,7 +292,7 @@ class Setting:
             self.wait(edge + self.pace.middle + 0.2)
             self.pace.look()
 
-    def live(self):
+    def live(self) -> None:
         jobs = [House(self, place).live for place in range(THREADS)] + [self.keep_busy]
         with ThreadPoolExecutor(len(jobs)) as pool:
             for job in [pool.submit(job) for job in jobs]:
@@ -288,7 +301,7 @@ class Setting:
             link.peer.socket.close()
 
 
-def serve(program, lease, seconds, seed):
+def serve(program: str, lease: int, seconds: int, seed: int) -> Outcome:
     """What comes of a server with this lease. Their seconds begin apart."""
     time.sleep(LEASES.index(lease) / len(LEASES))
     with tempfile.TemporaryDirectory() as folder:
@@ -303,12 +316,12 @@ def serve(program, lease, seconds, seed):
             if (ending := served.end()) != (0, b"", b""):
                 raise Wrong(f"the server ends with {ending}")
         exchanges = {link.uid: link.exchanges for link in setting.links}
-        return Outcome(lease, exchanges, bytes_of(journal), *(setting.pace.counts[it] for it in (True, False)))
+        return Outcome(lease, exchanges, bytes_of(journal) or b"", *(setting.pace.counts[it] for it in (True, False)))
 
 
 # What is made of it.
 
-def judge(outcome, program):
+def judge(outcome: Outcome, program: Program) -> TimedJudge:
     """Who judged it; the journal is lawful by the model and by this program."""
     is_lawful, line = verdict(outcome.journal)
     if not is_lawful:
@@ -325,7 +338,7 @@ def judge(outcome, program):
     return judge
 
 
-def keep(outcome):
+def keep(outcome: Outcome) -> str:
     """The folder with what there is of a server: its journal, and a line for each call, with its user and times."""
     folder = tempfile.mkdtemp(prefix=f"stress.lease{outcome.lease}.")
     with open(os.path.join(folder, "journal"), "wb") as file:
@@ -340,10 +353,11 @@ def keep(outcome):
 class Tally:
     """What there was at all servers."""
 
-    def __init__(self):
-        self.counts, self.renewed = Counter(), set()
+    def __init__(self) -> None:
+        self.counts: Counter[str] = Counter()
+        self.renewed: set[Opnum] = set()
 
-    def add(self, outcome, judge):
+    def add(self, outcome: Outcome, judge: TimedJudge) -> None:
         entries, came = judge.journal.entries, judge.came
         for one in judge.heard:
             opnum = Opnum.RENEW if one.number is None else entries[one.number].opnum
@@ -358,26 +372,24 @@ class Tally:
         sends = Counter(exchange.sent for exchanges in outcome.exchanges.values() for exchange in exchanges)
         self.counts["writes of many"] += sum(count > 1 for count in sends.values())
 
-    def missing(self):
+    def missing(self) -> list[str]:
         found = [f"{opnum.name} that renews" for opnum in sorted(RENEWING - self.renewed)]
         found += [what for what in ("ended", "replaced", "again", "refused", "writes of many") if not self.counts[what]]
         # Few of either say that they weren't about the time of the sweeps.
         tries = self.counts["in time"] + self.counts["missed"]
         return found + [what for what in ("in time", "missed") if 20 * self.counts[what] < tries]
 
-    def tell(self, seconds):
-        return ("stress: clients with leases of {} s renew at the last moment for {seconds} s, {in time} times in "
-                "time, and miss it {missed} times; {came} came, {again} of them in slots that were given before, "
-                "{ended} were ended by sweeps, none within a lease of a renewal that was answered, and {replaced} "
-                "replaced; {renewed} operations renewed a lease, and {refused} named a client that wasn't live; "
-                "{renews} RENEWs are answered as their clients were live, of which {sure} could be answered only so"
-                ).format(" and ".join(map(str, LEASES)), seconds=seconds, **self.counts)
+    def words(self) -> str:
+        return ("leases of {} s are renewed at the last moment {in time} times in time, and {missed} times missed; "
+                "{came} clients came, {again} of them in slots that were given before, {ended} were ended by sweeps, "
+                "none within a lease of a renewal that was answered, and {replaced} replaced; {renewed} operations "
+                "renewed a lease, and {refused} named a client that wasn't live; {renews} RENEWs are answered as their "
+                "clients were live, of which {sure} could be answered only so"
+                ).format(" and ".join(map(str, LEASES)), **self.counts)
 
 
-def run(program, seconds, seed):
-    """Clients at one server for each lease, at once; it ends where something is wrong."""
-    if (wrong := try_cases()) is not None:
-        sys.exit(f"stress: {wrong}")
+def run(program: Program, seconds: int, seed: int) -> Tally:
+    """Clients at one server for each lease, at once."""
     tally = Tally()
     with ThreadPoolExecutor(len(LEASES)) as pool:
         servers = [pool.submit(serve, program.path, lease, seconds, seed) for lease in LEASES]
@@ -388,7 +400,5 @@ def run(program, seconds, seed):
             tally.add(outcome, judge(outcome, program))
         except (Wrong, NotJournal, OSError) as wrong:
             kept = f"; see {keep(outcome)}" if outcome else ""
-            sys.exit(f"stress: at the last moment of leases of {lease} s: {wrong}{kept}")
-    print(tally.tell(seconds))
-    if tally.missing():
-        sys.exit(f"stress: nothing, or little, of {', '.join(tally.missing())}, so that this shows too little")
+            raise Wrong(f"at the last moment of leases of {lease} s: {wrong}{kept}") from wrong
+    return tally

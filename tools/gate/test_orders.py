@@ -8,7 +8,7 @@ import subprocess
 
 import pytest
 
-from model import limits
+from gate import test_limits as limits
 from model.entries import Expire, Path
 from model.journal import read_journal
 from model.state import JOURNAL_LIMIT, OWNERS_LIMIT

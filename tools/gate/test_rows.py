@@ -12,7 +12,7 @@ import sys
 import pytest
 
 from model import check_rows
-from model.check_journals import journal_of
+from gate.row_journals import journal_of
 from model.journal import journal_bytes
 from nfs4.rows import File, files_of
 from nfs4.served import TOP

@@ -4,12 +4,15 @@ client is live, on whatever connection that was shown before, and whether a leas
 A server's moments are whole seconds since it began, which it reads between a call and its reply. When it began is told
 by all calls together, as closely as they come to the seconds' edges."""
 from bisect import bisect_left, bisect_right
-from collections import defaultdict, namedtuple
+from collections import defaultdict
+from collections.abc import Iterable
 from itertools import accumulate
 from math import inf
+from typing import Any, NamedTuple
 
 from gate.told import Judge, Told
 from model.entries import Expire
+from model.journal import Journal
 from model.states import Refusal
 from nfs4.client import Wrong
 from nfs4.wire import Opnum, Status
@@ -17,16 +20,30 @@ from nfs4.wire import Opnum, Status
 
 SECOND = 10**9
 
-# A call as its connection saw it: the record that was sent and the reply's, and by one clock, in nanoseconds, a time
-# before the one was sent, and one after the other came.
-Exchange = namedtuple("Exchange", "record reply sent answered")
-# An operation that renews the lease of the client that it names: the times of its call; the number of its entry, or
-# None for RENEW; whether it is a RENEW that was answered OK; and the first and the last state between the entries of
-# its connection, in which it was asked.
-Heard = namedtuple("Heard", "client sent answered number is_ok first last")
+
+class Exchange(NamedTuple):
+    """A call as its connection saw it: the record that was sent and the reply's, and by one clock, in nanoseconds, a
+    time before the one was sent, and one after the other came."""
+    record: bytes
+    reply: bytes
+    sent: int
+    answered: int
 
 
-def numbers_of(journal, uid):
+class Heard(NamedTuple):
+    """An operation that renews the lease of the client that it names: the times of its call; the number of its entry,
+    or None for RENEW; whether it is a RENEW that was answered OK; and the first and the last state between the entries
+    of its connection, in which it was asked."""
+    client: int
+    sent: int
+    answered: int
+    number: int | None
+    is_ok: bool
+    first: int
+    last: int
+
+
+def numbers_of(journal: Journal, uid: int) -> list[int]:
     """The numbers of this user's calls."""
     calls = enumerate(journal.entries)
     return [number for number, entry in calls if getattr(entry, "principal", None) == (1, uid)]
@@ -36,11 +53,12 @@ class Asked(Told):
     """Answers by the entries of a connection's calls, and RENEW as it was answered. `heard` has each operation that
     renews a lease."""
 
-    def __init__(self, *told):
+    def __init__(self, *told: Any) -> None:
         super().__init__(*told)
-        self.exchange, self.heard = None, []
+        self.exchange: Any = None
+        self.heard: list[Heard] = []
 
-    def renew_by(self, opnum, arguments):
+    def renew_by(self, opnum: Opnum, arguments: Any) -> None:
         client = self.renewed_by(opnum, arguments)
         if client is not None:
             is_renew, last = opnum == Opnum.RENEW, self.numbers[0] if self.numbers else len(self.journal)
@@ -48,22 +66,25 @@ class Asked(Told):
             number, is_ok = None if is_renew else last, is_renew and not self.is_stale
             self.heard.append(Heard(client, *times, number, is_ok, self.state, last))
 
-    def renew(self, _arguments):
+    def renew(self, _arguments: Any) -> bytes:
         if self.is_stale:
             raise Refusal(Status.STALE_CLIENTID)
         return b""
 
 
-# A call that has entries: how it went, and the numbers of the first and the last of them.
-Entered = namedtuple("Entered", "exchange first last")
+class Entered(NamedTuple):
+    """A call that has entries: how it went, and the numbers of the first and the last of them."""
+    exchange: Exchange
+    first: int
+    last: int
 
 
-def beginnings(entries, calls, ends):
+def beginnings(entries: list[Any], calls: list[Entered], ends: list[tuple[int, Expire]]) -> tuple[int, int]:
     """Between which times the clock began by which the entries have their moments. It was read within each call; and by
     a sweep before each call was answered whose entry stands behind an end that it made."""
     calls = sorted(calls, key=lambda call: call.last)
     numbers, first_answers = [call.last for call in calls], [call.exchange.answered for call in calls]
-    first_answers = list(accumulate(first_answers[::-1], min))[::-1]
+    first_answers = list(accumulate(first_answers[::-1], less))[::-1]
     first = max(call.exchange.sent - (entries[call.last].moment + 1) * SECOND for call in calls)
     last = min(call.exchange.answered - entries[call.last].moment * SECOND for call in calls)
     for number, end in ends:
@@ -75,32 +96,41 @@ def beginnings(entries, calls, ends):
     return first, last
 
 
+def less(one: int, other: int) -> int:
+    return min(one, other)
+
+
+def greater(one: int, other: int) -> int:
+    return max(one, other)
+
+
 class Times:
     """What the times of calls say of the order of entries, and of the server's clock."""
 
-    def __init__(self, entries, calls):
+    def __init__(self, entries: list[Any], calls: list[Entered]) -> None:
         self.ends = [(number, end) for number, end in enumerate(entries) if isinstance(end, Expire)]
         self.begun_first, self.begun_last = beginnings(entries, calls, self.ends)
         # When calls were answered, and the state that is there once the first of these were.
         answered = sorted((call.exchange.answered, call.last + 1) for call in calls)
         self.answered = [time for time, _ in answered]
-        self.there = [0, *accumulate((state for _, state in answered), max)]
+        self.there: list[int] = [0, *accumulate((state for _, state in answered), greater)]
         # When calls were sent, and sweeps read the clock at the earliest; and the state that is left while all but the
         # first of these are to come.
         sent = sorted([(call.exchange.sent, call.first) for call in calls]
                       + [(self.begun_first + end.now * SECOND, number) for number, end in self.ends])
         self.sent = [time for time, _ in sent]
-        self.left = [*accumulate((state for _, state in sent[::-1]), min, initial=len(entries))][::-1]
+        left = accumulate((state for _, state in sent[::-1]), less, initial=len(entries))
+        self.left: list[int] = [*left][::-1]
 
-    def first_state(self, time):
+    def first_state(self, time: int) -> int:
         """Not an earlier one at this time: a reply that came before is of it."""
         return self.there[bisect_left(self.answered, time)]
 
-    def last_state(self, time):
+    def last_state(self, time: int) -> int:
         """Not a later one at this time: a call that was sent after it, or a later sweep, has the next entry."""
         return self.left[bisect_right(self.sent, time)]
 
-    def seconds(self, sent, answered):
+    def seconds(self, sent: int, answered: int) -> tuple[int, int]:
         """The first and the last moment that the server's clock may have shown between these times."""
         return max(0, (sent - self.begun_last) // SECOND), (answered - self.begun_first) // SECOND
 
@@ -108,17 +138,20 @@ class Times:
 class TimedJudge(Judge):
     """Judges what links got by the journal and by the times of their calls."""
 
-    def __init__(self, journal):
+    def __init__(self, journal: Journal) -> None:
         super().__init__(journal)
-        self.times, self.calls, self.heard = None, [], []
+        self.times: Times
+        self.calls: list[Entered] = []
+        self.heard: list[Heard] = []
         # By clients: the number of the entry by which each came, and of the one by which it went.
-        self.came, self.went = {}, {}
+        self.came: dict[int, int] = {}
+        self.went: dict[int, int] = {}
         for number, (before, after) in enumerate(zip(self.lives, self.lives[1:])):
             if before is not after:
                 self.came.update((client, number) for client in after - before)
                 self.went.update((client, number) for client in before - after)
 
-    def expect_exchanges(self, exchanges, numbers):
+    def expect_exchanges(self, exchanges: Iterable[Exchange], numbers: list[int]) -> None:
         """The replies that a link got are those of the entries of its calls, which have these numbers."""
         server = Asked(self.journal, self.lives, numbers)
         for exchange in exchanges:
@@ -130,16 +163,16 @@ class TimedJudge(Judge):
             raise Wrong(f"{len(server.numbers)} entries of nothing that it sent")
         self.heard += server.heard
 
-    def expect_times(self):
+    def expect_times(self) -> None:
         """What has to be once all links were looked at."""
         self.times = Times(self.journal.entries, self.calls)
-        by_client = defaultdict(list)
+        by_client: dict[int, list[Heard]] = defaultdict(list)
         for one in self.heard:
             by_client[one.client].append(one)
         for client, heard in by_client.items():
             self.expect_renews(client, [one for one in heard if one.number is None])
         for number, end in self.times.ends:
-            self.expect_end(number, end, by_client[end.client])
+            self.expect_timely_end(number, end, by_client[end.client])
         # The last end at each moment is the last of its sweep.
         for now, number in {end.now: number for number, end in self.times.ends}.items():
             self.expect_kept(number, now, by_client)
@@ -148,11 +181,11 @@ class TimedJudge(Judge):
 
     # RENEW.
 
-    def first_state(self, one):
+    def first_state(self, one: Heard) -> int:
         """The earliest state in which it may have been asked."""
         return max(one.first, self.times.first_state(one.sent))
 
-    def expect_renews(self, client, renews):
+    def expect_renews(self, client: int, renews: list[Heard]) -> None:
         """Each is answered as the client is live, or isn't, in a state that may have been meanwhile; and none OK that
         was sent behind one that showed the client's end. Of two clients of which one takes the other's place both may
         be answered so while the call is under way that does it: this isn't told by the order of the two."""
@@ -173,13 +206,14 @@ class TimedJudge(Judge):
 
     # Ends.
 
-    def moments(self, one):
+    def moments(self, one: Heard) -> tuple[int, int]:
         """The first and the last moment to which it may have renewed."""
         if one.number is None:
             return self.times.seconds(one.sent, one.answered)
-        return (self.journal.entries[one.number].moment,) * 2
+        moment: int = self.journal.entries[one.number].moment
+        return moment, moment
 
-    def expect_end(self, number, end, heard):
+    def expect_timely_end(self, number: int, end: Expire, heard: list[Heard]) -> None:
         """No renewal that was answered is within a lease of the end, or later than what that saw; and something renewed
         the lease at the moment that it saw. A RENEW that was answered OK came before; so did a call whose entry does.
         One whose entry stands behind it may have, since a call renews before it waits for the lock."""
@@ -200,7 +234,7 @@ class TimedJudge(Judge):
         if not any(first <= end.seen <= last for first, last in seen):
             raise Wrong(f"client {end.client} ends, seen last at {end.seen}, when it wasn't heard of")
 
-    def expect_kept(self, number, now, by_client):
+    def expect_kept(self, number: int, now: int, by_client: dict[int, list[Heard]]) -> None:
         """The sweep whose last entry is this one leaves none whose lease is over, whatever was renewed meanwhile."""
         over = min((call.exchange.answered for call in self.calls if call.first > number), default=inf)
         for client in self.lives[number + 1]:

@@ -17,7 +17,7 @@ from nfs4.wire import FILE_SYNC4, OTHER_STATUSES, Status, opaque, record, split_
 GRACE, DELAY, RESOURCE = OTHER_STATUSES["GRACE"], int(Status.DELAY), int(Status.RESOURCE)
 PUT_OFF = GRACE, DELAY, RESOURCE
 # The seconds between two attempts, and those behind which a reply isn't there soon.
-PAUSE, SOON = 0.05, 1.5
+PAUSE, SOON = 0.05, 3
 
 # What makes operations by a sequence id, or by 0 where they have none; and what makes another reply of a record and its
 # reply.
@@ -130,7 +130,7 @@ class Impatient(Resender):
             self.leave()
             self.peer = None
             # Until the end is seen, which comes by another way than what is sent again.
-            time.sleep(0.5)
+            time.sleep(2)
             self.send_again()
         return super().receive()
 

@@ -1,8 +1,10 @@
-"""Journals for check_journals.py: one with each operation, files written out, and files that are no journals, each with
+"""Journals for test_journals.py: one with each operation, files written out, and files that are no journals, each with
 the reason. Some are of the version of the file before this one."""
 import itertools
+from collections.abc import Callable, Iterable, Iterator
+from typing import Any
 
-from model.entries import Answer, Call, Expire, Forget, MOMENT_LIMIT, Path, Revoke, STATUSES, StrictReader
+from model.entries import Answer, Call, Expire, Forget, MOMENT_LIMIT, Path, Revoke, STATUSES, StrictReader, entry_bytes
 from model.journal import (EARLIER, HEAD, HEAD_OF, HEAD_OF_CLIENTS, Journal, Recorder, head_bytes, journal_bytes,
                            read_whole)
 from model.tree import CALLBACKS, CLIENTS, CLOSE_LOCKS, DEFAULT, DELEGATIONS, Node, PROFILES, Policy, ROOT, Tree
@@ -12,9 +14,12 @@ from nfs4.wire import (Callback, Claim, KnownLocker, LockOwner, NewLocker, OpenO
 
 CLIENTS_POLICY = Tree().policy._replace(profile=CLIENTS)
 NOT_JOURNAL = "fault: not a journal"
+# An operation with its arguments and the current filehandle; a name and a file; and the same with the reason why it is
+# no journal.
+Asked = tuple[Opnum, Any, int | None]
+Named = tuple[str, bytes]
+Broken = tuple[str, bytes, str]
 OTHER_WORDS = "other words than the layout has"
-
-
 LAST = 2**32 - 1
 
 
@@ -29,16 +34,16 @@ NO_CREATE, EXCLUSIVE = Openhow(0, None, None), Openhow(1, 2, bytes(8))
 BY_NAME, FILE = Claim(0, b"a", None), 1
 
 
-def introduce(server):
+def introduce(server: Recorder) -> None:
     server.apply(Opnum.SETCLIENTID, wire.Setclientid(bytes(range(1, 9)), b"c1", CALLBACK), None, NOBODY)
     server.apply(Opnum.SETCLIENTID_CONFIRM, wire.SetclientidConfirm(1, 1, 1), None, NOBODY)
 
 
-def opening(seqid, how=NO_CREATE, claim=BY_NAME):
+def opening(seqid: int, how: Openhow = NO_CREATE, claim: Claim = BY_NAME) -> Asked:
     return Opnum.OPEN, wire.Open(seqid, 3, 0, OWNER, how, claim), 0
 
 
-def calls():
+def calls() -> Iterator[Asked]:
     """Operations with their arguments and the current filehandle."""
     yield opening(1)
     yield Opnum.OPEN_CONFIRM, wire.OpenConfirm(OPENED, 2), FILE
@@ -64,7 +69,7 @@ def calls():
     yield Opnum.GETATTR, wire.Getattr(()), None
 
 
-def calls_on_bytes(opened):
+def calls_on_bytes(opened: Stateid) -> Iterator[Asked]:
     """READ and WRITE: of texts and of other bytes, few and many, by special stateids and by that of an open."""
     texts = (b"", b"!", b"\0\xff", b'a "quote"', b"t" * 64, b"t" * 65, bytes(range(256)))
     for stable, text in enumerate(texts):
@@ -79,33 +84,33 @@ def calls_on_bytes(opened):
     yield Opnum.WRITE, wire.Write(LOCKED, 0, 0, b"x"), FILE
 
 
-def open_by(server, client, seqid, access=3, name=b"a"):
+def open_by(server: Recorder, client: int, seqid: int, access: int = 3, name: bytes = b"a") -> None:
     """An OPEN by the owner A of the client."""
     arguments = wire.Open(seqid, access, 0, OpenOwner(1, client, b"A"), NO_CREATE, Claim(0, name, None))
     server.apply(Opnum.OPEN, arguments, 0, NOBODY)
 
 
-def give_back(server, state):
+def give_back(server: Recorder, state: int) -> None:
     """By client 1, which has it on file a."""
     server.apply(Opnum.DELEGRETURN, wire.Delegreturn(Stateid(1, 1, 1, state)), FILE, NOBODY)
 
 
-def introduce_other(server):
+def introduce_other(server: Recorder) -> None:
     """Client 2."""
     ask_for_number(server, b"c2")
     confirm(server, 2)
 
 
-def ask_for_number(server, name):
+def ask_for_number(server: Recorder, name: bytes) -> None:
     server.apply(Opnum.SETCLIENTID, wire.Setclientid(bytes(8), name, CALLBACK), None, NOBODY)
 
 
-def confirm(server, number):
+def confirm(server: Recorder, number: int) -> None:
     """The client whose SETCLIENTID was the last one."""
     server.apply(Opnum.SETCLIENTID_CONFIRM, wire.SetclientidConfirm(1, number, server.last_confirm), None, NOBODY)
 
 
-def lend(server, seqid):
+def lend(server: Recorder, seqid: int) -> None:
     """Once client 1 can be called, its owner A, whose next sequence id this is, gets a delegation of file a for
     reading, which it gives back; and one for writing, which an OPEN of client 2 calls back, and which is taken."""
     server.mark_path(1, True)
@@ -119,7 +124,7 @@ def lend(server, seqid):
     give_back(server, server.last_state)
 
 
-def lent():
+def lent() -> Recorder:
     """Ten entries: client 1 has state 2, a delegation of a for writing, and state 4, one of b. Client 2 asks for b at
     200, and for a at 210."""
     server = Recorder(Tree('policy.callbacks = "assume"\n' + DEFAULT))
@@ -136,7 +141,7 @@ def lent():
     return server
 
 
-def idle():
+def idle() -> Recorder:
     """Ten entries: client 1, whose owners A and B open, confirm and close file a, A at 100 and B at 101."""
     server = Recorder(Tree())
     introduce(server)
@@ -146,7 +151,7 @@ def idle():
     return server
 
 
-def live_and_close(server, name, number):
+def live_and_close(server: Recorder, name: bytes, number: int) -> None:
     """An open owner of client 1 comes, and has file a open for a while, by the state of this number."""
     arguments = wire.Open(1, 1, 0, OpenOwner(1, 1, name), NO_CREATE, BY_NAME)
     server.apply(Opnum.OPEN, arguments, 0, NOBODY)
@@ -155,7 +160,7 @@ def live_and_close(server, name, number):
     server.apply(Opnum.CLOSE, wire.Close(3, stateid._replace(seqid=2)), FILE, NOBODY)
 
 
-def holding():
+def holding() -> Recorder:
     """Five entries, under a policy by which a CLOSE is refused: client 1, whose owner A has file a open, and whose lock
     owner x holds its first nine bytes."""
     server = Recorder(Tree('policy.close_locks = "refuse"\n' + DEFAULT))
@@ -167,11 +172,11 @@ def holding():
     return server
 
 
-def close_by_a(server, seqid):
+def close_by_a(server: Recorder, seqid: int) -> None:
     server.apply(Opnum.CLOSE, wire.Close(seqid, OPENED._replace(seqid=2)), FILE, NOBODY)
 
 
-def sample():
+def sample() -> Journal:
     server = Recorder(Tree())
     introduce(server)
     for call in calls():
@@ -191,7 +196,7 @@ FOR_CLIENTS = 'policy.profile = "clients"\n' + DEFAULT
 NO_VERIFIER = bytes(8)
 
 
-def calls_for_clients():
+def calls_for_clients() -> Iterator[Asked]:
     """Listings, and attributes that are asked for and set, each with the refusals that it has of its own."""
     everything = 0xFFFFFFFF, 0xFFBEFFFF
     listing = wire.Readdir(0, NO_VERIFIER, 0, LAST, everything)
@@ -216,7 +221,7 @@ def calls_for_clients():
     yield Opnum.READ, wire.Read(NOTHING, 0, 9), FILE
 
 
-def sample_for_clients():
+def sample_for_clients() -> Journal:
     server = Recorder(Tree(FOR_CLIENTS))
     introduce(server)
     for call in calls_for_clients():
@@ -224,7 +229,7 @@ def sample_for_clients():
     return server.journal()
 
 
-def listed_and_set():
+def listed_and_set() -> Journal:
     """Four entries: a listing of `d`, an attribute that can only be set, and of file a its size and its mode."""
     server = Recorder(Tree(FOR_CLIENTS))
     server.apply(Opnum.READDIR, wire.Readdir(0, NO_VERIFIER, 0, 56, (16,)), 3, NOBODY)
@@ -234,13 +239,13 @@ def listed_and_set():
     return server.journal()
 
 
-def earlier(journal):
+def earlier(journal: Journal) -> Journal:
     """The journal as one of the version before: it has no Forget, and frees."""
     entries = [entry for entry in journal.entries if not isinstance(entry, Forget)]
     return journal._replace(entries=entries, head=EARLIER)
 
 
-def small():
+def small() -> Journal:
     """A client id, its confirmation, and the confirmation again."""
     server = Recorder(Tree())
     introduce(server)
@@ -299,7 +304,7 @@ THREE_ENTRIES = """4e46534a 524e3033 00000001 0000005a 00000002 00000000 0000000
     00000024 00000001 00000001 00000000 00000001 00000024 00000000"""
 
 
-def of_bytes():
+def of_bytes() -> Journal:
     """A WRITE behind the end of the one file b, and a READ of all."""
     tree = Tree("")
     tree.nodes = [ROOT, file(0, b"b")]
@@ -310,7 +315,7 @@ def of_bytes():
     return server.journal()
 
 
-def written_out():
+def written_out() -> Iterator[tuple[bytes, str]]:
     """What the model writes, and what it should."""
     yield file_of([], [file(0, b"b")]), NO_ENTRY
     yield journal_bytes(of_bytes()), OF_BYTES
@@ -327,9 +332,34 @@ def written_out():
         00000005 00000001 00000101 00000005 41424344 45000000 00000001 00000007"""
 
 
+# Beginnings of journals.
+
+def beginning_of(journal: Journal) -> bytes:
+    """Its file with 0 as the number of entries."""
+    return with_words(journal_bytes(journal), len(head_bytes(journal)), 0)
+
+
+def beginnings() -> Iterator[Named]:
+    """A name and a file, none of which is a journal."""
+    data = beginning_of(small())
+    yield "a beginning", data
+    yield "a beginning that is cut", data[:-4]
+    yield "a beginning with one entry", data[:places_of(small())[1]]
+    yield "a beginning of the earlier version", beginning_of(earlier(small()))
+    yield 'a beginning under "clients"', beginning_of(listed_and_set())
+
+
+def places_of(journal: Journal) -> list[int]:
+    """Where the first entry begins in the file, and where each ends."""
+    places = [len(head_bytes(journal)) + 4]
+    for entry in journal.entries:
+        places.append(places[-1] + len(entry_bytes(entry)))
+    return places
+
+
 # Files that are no journals: a name, the file, and the reason.
 
-def with_words(data, place, *words):
+def with_words(data: bytes, place: int, *words: int) -> bytes:
     """The file with these words in place of those from the place on."""
     return data[:place] + u32(*words) + data[place + 4 * len(words):]
 
@@ -337,17 +367,17 @@ def with_words(data, place, *words):
 class PaddingReader(StrictReader):
     """Has the places of all bytes of padding."""
 
-    def __init__(self, data):
+    def __init__(self, data: bytes) -> None:
         super().__init__(data)
-        self.padding = []
+        self.padding: list[int] = []
 
-    def opaque(self, limit=2**32 - 1):
+    def opaque(self, limit: int = 2**32 - 1) -> bytes:
         value = super().opaque(limit)
         self.padding += range(self.at - -len(value) % 4, self.at)
         return value
 
 
-def broken_padding():
+def broken_padding() -> Iterator[Broken]:
     for journal, which in ((sample(), ""), (sample_for_clients(), ' under "clients"')):
         data = journal_bytes(journal)
         reader = PaddingReader(data)
@@ -356,7 +386,7 @@ def broken_padding():
             yield f"padding at {place}{which}", data[:place] + b"\1" + data[place + 1:], "padding that isn't zero"
 
 
-def broken_lengths():
+def broken_lengths() -> Iterator[Broken]:
     data = journal_bytes(listed_and_set())
     for length in range(len(data)):
         yield f'the first {length} bytes under "clients"', data[:length], "it ends too early"
@@ -367,7 +397,7 @@ def broken_lengths():
         yield f"{len(more)} bytes more", data + more, "bytes after the last entry"
 
 
-def other_lengths():
+def other_lengths() -> Iterator[Named]:
     """A lawful file with a word too few or too many, at each place: a name and the file."""
     data = file_of(small().entries + [Expire(1, 100, 191)])
     for place in range(0, len(data), 4):
@@ -375,7 +405,7 @@ def other_lengths():
         yield f"a word too many at {place}", data[:place] + bytes(4) + data[place:]
 
 
-def broken_heads():
+def broken_heads() -> Iterator[Broken]:
     data = journal_bytes(small())
     begins, lease, early = "it begins with other bytes", "a lease outside its limits", "it ends too early"
     for version in (b"NFSJRN01", b"NFSJRN04", b"NFSJRC01", b"NFSJRC02", b"NFSJRC04", b"NFSJRP03"):
@@ -408,13 +438,13 @@ def broken_heads():
     yield name, with_words(data, 40, LAST), "more than 255 bytes"
 
 
-def broken_entries():
+def broken_entries() -> Iterator[Broken]:
     """An entry's own fields."""
     journal = small()
     first, begin = journal.entries[0], len(head_bytes(journal)) + 4
     data, path, limit = journal_bytes(journal), file_of([Path(1, 1)]), "a moment of 2^40 - 2 or more"
 
-    def put(entry):
+    def put(entry: Any) -> bytes:
         return file_of([entry])
 
     for kind in (0, 6, 2**32 - 1):
@@ -432,7 +462,7 @@ def broken_entries():
     yield "a node outside the tree", put(first._replace(filehandle=5)), "a node that isn't there"
 
 
-def broken_forgets():
+def broken_forgets() -> Iterator[Broken]:
     """A Forget's own fields; and that journals of the earlier version have none."""
     forget = Forget(OpenOwner(1, 1, b"A"), 191)
     data, limit = file_of([forget]), "a moment of 2^40 - 2 or more"
@@ -450,7 +480,7 @@ def broken_forgets():
     yield "a Forget without its moment", data[:-8], "it ends too early"
 
 
-def broken_operations():
+def broken_operations() -> Iterator[Broken]:
     """The number of an operation, and arguments that can't be read."""
     data, begin = journal_bytes(small()), len(head_bytes(small())) + 4 + 28
     no_entry = "an operation that makes no entry"
@@ -471,9 +501,9 @@ def broken_operations():
         yield f"a READDIR that ends behind {len(cut)} bytes", words, "it ends too early"
     lock, lockt = wire.Lock(2, 0, 0, 9, NewLocker(8, OPENED, 1, LOCKER)), wire.Lockt(2, 0, 9, LOCKER)
     for number in (0, 5):
-        for opnum, arguments in ((Opnum.LOCK, lock), (Opnum.LOCKT, lockt)):
-            other = asked(opnum, arguments._replace(locktype=number))
-            yield f"{opnum.name} of type {number}", other, "a number that isn't 1 to 4"
+        wrong_types = (Opnum.LOCK, lock._replace(locktype=number)), (Opnum.LOCKT, lockt._replace(locktype=number))
+        for opnum, arguments in wrong_types:
+            yield f"{opnum.name} of type {number}", asked(opnum, arguments), "a number that isn't 1 to 4"
     yield "reclaim 2", asked(Opnum.LOCK, lock._replace(reclaim=2)), "a number that isn't 0 to 1"
     for how, wrong in ((Openhow(2, 0, ((), b"")), "0 to 1"), (Openhow(1, 3, ((), b"")), "0 to 2")):
         yield f"OPEN with {how}", asked(*opening(1, how)[:2]), "a number that isn't " + wrong
@@ -491,7 +521,7 @@ def broken_operations():
     yield "a bitmap without its last words", words, "it ends too early"
 
 
-def broken_answers():
+def broken_answers() -> Iterator[Broken]:
     none = "an operation without a rule has another answer than NOTSUPP"
     for number in (0, 2, 40, 10043):
         yield f"an answer to {number}", answered(Answer(number, Status.OK, b"")), "an answer to no operation"
@@ -533,61 +563,61 @@ def broken_answers():
             yield f"word {place // 4} of a delegation of type {kind}", answered(other), OTHER_WORDS
 
 
-def delegation(kind):
+def delegation(kind: int) -> bytes:
     """A delegation of this type in an OPEN's answer."""
     limit = u32(1) + u64(65536) if kind == 2 else b""
     return u32(kind) + (u32(*OPENED, 0) + limit + u32(0, 0, 0, 0) if kind else b"")
 
 
-def open_answer(given, atomic=1):
+def open_answer(given: bytes, atomic: int = 1) -> Answer:
     """An OPEN's answer with this delegation."""
     return Answer(Opnum.OPEN, Status.OK, u32(*OPENED, atomic) + u64(0) + u64(0) + u32(6, 0) + given)
 
 
-def report(opnum, locktype):
+def report(opnum: int, locktype: int) -> Answer:
     return Answer(opnum, Status.DENIED, u64(0) + u64(9) + u32(locktype, 1, 1) + opaque(b"x"))
 
 
-def journal_of(entries, nodes=Tree().nodes[1:], policy=Tree().policy):
+def journal_of(entries: list[Any], nodes: Iterable[Node] = Tree().nodes[1:], policy: Policy = Tree().policy) -> Journal:
     """A journal of these entries, lawful or not, over these nodes."""
     tree = Tree("")
     tree.nodes, tree.policy = [ROOT, *nodes], policy
     return Journal(1, 90, tree, entries, HEAD_OF[policy.profile])
 
 
-def file_of(*given):
+def file_of(*given: Any) -> bytes:
     """The file of such a journal."""
     return journal_bytes(journal_of(*given))
 
 
-def asked(opnum, arguments):
+def asked(opnum: Opnum, arguments: Any) -> bytes:
     return file_of([Call(0, NOBODY, None, opnum, arguments, Answer(opnum, Status.NOFILEHANDLE, b""))])
 
 
-def answered(answer):
+def answered(answer: Answer) -> bytes:
     return file_of([Call(0, NOBODY, FILE, Opnum.LOCKT, wire.Lockt(1, 0, 1, LOCKER), answer)])
 
 
 # Lists of nodes.
 
-def file(parent, name=b"a", text=b""):
+def file(parent: int, name: bytes = b"a", text: bytes = b"") -> Node:
     return Node(parent, name, True, text)
 
 
-def directory(parent, name=b"d"):
+def directory(parent: int, name: bytes = b"d") -> Node:
     return Node(parent, name, False, b"")
 
 
-def chain(count):
+def chain(count: int) -> list[Node]:
     """A directory in the one before, so many deep."""
     return [directory(parent) for parent in range(count)]
 
 
-def many(count, make):
+def many(count: int, make: Callable[[int, bytes], Node]) -> list[Node]:
     return [make(0, b"%d" % number) for number in range(count)]
 
 
-def broken_nodes():
+def broken_nodes() -> Iterator[Broken]:
     lists = {
         "a name twice": [file(0), file(0)],
         "a file by the name of a directory": [directory(0, b"a"), file(0)],
@@ -607,17 +637,17 @@ def broken_nodes():
     # above the last.
     texts = (b"\xff", b"\xe2\x82", b"\xc0\xaf", b"\xed\xa0\x80", b"\xf4\x90\x80\x80")
     for text in texts:
-        lists[f"the text {text}"] = [file(0, text=text)]
+        lists[f"the text {text!r}"] = [file(0, text=text)]
     for name in (b"", b".", b"..", b"a/b", b"/", b"a\0", *texts):
-        lists[f"the name {name}"] = [file(0, name)]
-        lists[f"the name {name} of a directory"] = [directory(0, name)]
-    for name, nodes in lists.items():
-        yield name, file_of([], nodes), "nodes that no document gives"
+        lists[f"the name {name!r}"] = [file(0, name)]
+        lists[f"the name {name!r} of a directory"] = [directory(0, name)]
+    for which, nodes in lists.items():
+        yield which, file_of([], nodes), "nodes that no document gives"
     yield "a name of 256 bytes", file_of([], [file(0, b"n" * 256)]), "more than 255 bytes"
     yield "a text of 65,537 bytes", file_of([], [file(0, text=bytes(65537))]), "more than 65536 bytes"
 
 
-def whole_files():
+def whole_files() -> Iterator[Named]:
     """Files that are journals, at the edges of what isn't."""
     journal = sample()
     yield "all operations", journal_bytes(journal)
@@ -634,9 +664,9 @@ def whole_files():
             yield f"lease {lease}", with_words(journal_bytes(which), 12, lease)
     for words in itertools.product(DELEGATIONS, CALLBACKS, CLOSE_LOCKS, PROFILES):
         yield f"the policy {words}", file_of([], [file(0)], Policy(*words))
-    for words in itertools.product(DELEGATIONS, CALLBACKS, ["free"]):
-        journal = earlier(journal_of([], [file(0)], Policy(*words)))
-        yield f"the policy {words} of the earlier version", journal_bytes(journal)
+    for delegations, callbacks in itertools.product(DELEGATIONS, CALLBACKS):
+        journal = earlier(journal_of([], [file(0)], Policy(delegations, callbacks, "free")))
+        yield f"the policy {delegations}, {callbacks} of the earlier version", journal_bytes(journal)
     lists = {
         "no nodes": [], "eight names": chain(7) + [file(7)], "64 files": many(64, file),
         "64 directories": many(64, directory), "64 directories, the last after a file": [
@@ -665,14 +695,19 @@ def whole_files():
     answers += [Answer(number, status, b"") for number in (6, 11, 28, 29) for status in (Status.NOTSUPP, Status.ROFS)]
     answers += [Answer(Opnum.LOCKT, status, b"") for status in (Status.ROFS, Status.BAD_COOKIE, Status.TOOSMALL,
                                                                 Status.NOT_SAME, Status.ATTRNOTSUPP)]
-    answers += [Answer(Opnum.LOCKT, status, b"") for status in (Status.FBIG, Status.DELAY, Status.LOCKED, Status.CLID_INUSE)]
+    answers += [Answer(Opnum.LOCKT, status, b"") for status in (Status.FBIG, Status.DELAY, Status.LOCKED,
+                                                                Status.CLID_INUSE)]
     for answer in answers:
         yield f"the answer {answer}", answered(answer)
 
 
-def all_answers():
+def all_answers() -> Iterator[Named]:
     """A name and a file for each number of an operation and each status, and for some that aren't there. Nothing comes
     after the status."""
     for number in (*range(42), 10043, Opnum.ILLEGAL, 10045, LAST):
         for status in sorted(STATUSES | {1, 5, 28, 62, 10000, 10002, 10006, 10009, 10045, LAST}):
             yield f"an answer to {number} of status {status}", answered(Answer(number, status, b""))
+
+
+# All of them.
+BROKEN = (broken_padding, broken_lengths, broken_heads, broken_entries, broken_operations, broken_answers, broken_nodes)

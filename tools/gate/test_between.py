@@ -1,17 +1,11 @@
-#!/usr/bin/env python3
-"""try_between [--only WORDS] [--between PATH] [PROGRAM]: runs `tools/between` before the model's server and the built
-program, and is the clients on its other side.
+"""`tools/between` before the model's server and the built program; the tests are the clients on its other side.
 
 Without a plan the rows pass through it by names. A client that sends its calls again gets its exact replies with each
 call or reply of its own lost, cut, split, held or sent twice, one after the other; so do four at once with all these
 mixed. What a client or a server does that RFC 7530 doesn't let it is told as WRONG, each by its own words, and nothing
 else is. DELAY, GRACE and RESOURCE are answered in the server's place; recalls are lost and sent twice; a client that is
 kept away longer than its lease is STALE_CLIENTID. The same plan, seed and client give the same lines. Then the plans
-and words that are refused, the statuses, the bounds, and the ways to end. The servers' journals are lawful.
-
-With --only those scenarios are run that have these words in their names. This takes about a minute. Each wait has an
-end, and whatever happens, no process is left."""
-import argparse
+and words that are refused, the statuses, the bounds, and the ways to end. The servers' journals are lawful."""
 import os
 import random
 import re
@@ -19,20 +13,21 @@ import signal
 import socket
 import subprocess
 import sys
-import tempfile
 import time
 from concurrent.futures import ThreadPoolExecutor
 from contextlib import contextmanager
 from functools import partial
 from itertools import count
+from tempfile import TemporaryDirectory, TemporaryFile
 
-sys.dont_write_bytecode = True
+import pytest
+
 from gate.callback_client import Borrower
 from gate.callback_peers import callback_at
 from model.journal import verdict
 from model.program import Program, bytes_of
 from nfs4.callback_listener import Listener, accept
-from nfs4.client import Client, done, expect, numbers_of, Wrong
+from nfs4.client import Client, Wrong, done, expect, numbers_of
 from nfs4.messages import (CLOSE, COMPOUND, LOCK, NFS4_OK, NULL, OPEN, PUTFH, PUTROOTFH, RENEW, call, compound, reply,
                            results, setclientid, words, xid)
 from nfs4.served import NO_CALLBACKS, PATIENCE, PROGRAM, Peer, REPLY_PATIENCE, Served, TOP
@@ -41,28 +36,12 @@ from relay.departures import CASES, KEPT
 from relay.forms import ARGUMENTS, OPENED, RESULTS
 from relay.peers import DELAY, GRACE, GaveUp, GivingUp, Patient, RESOURCE, Relay, Resender, in_one_fragment
 
+BETWEEN = os.path.join(TOP, "tools/between")
+SERVERS = {"model": [sys.executable, os.path.join(TOP, "tools/model/serve.py")], "program": [PROGRAM, "serve"]}
 # The calls of a client that is introduced and does one round.
 ROUND = 15
-
-
-def read_options():
-    parser = argparse.ArgumentParser(description=__doc__, formatter_class=argparse.RawDescriptionHelpFormatter)
-    parser.add_argument("--only", metavar="WORDS", default="", help="scenarios with these words in their names")
-    parser.add_argument("--between", metavar="PATH", type=os.path.abspath, default=os.path.join(TOP, "tools/between"),
-                        help="the tool (%(default)s)")
-    parser.add_argument("program", metavar="PROGRAM", nargs="?", type=os.path.abspath,
-                        default=PROGRAM, help="a built nfs4state")
-    return parser.parse_args()
-
-
-OPTIONS = read_options()
-ROOM = tempfile.TemporaryDirectory()
-SERVERS = {"model": [sys.executable, os.path.join(TOP, "tools/model/serve.py")], "program": [OPTIONS.program, "serve"]}
-numbers, uids = count(), count(1)
-
-
-def new_path(ending):
-    return os.path.join(ROOM.name, f"{next(numbers)}.{ending}")
+# Of the clients of a process, each of which is another one to its servers.
+uids = count(1)
 
 
 # What runs.
@@ -70,16 +49,41 @@ def new_path(ending):
 @contextmanager
 def serving(kind, *options, tree=NO_CALLBACKS):
     """The address of a server that runs meanwhile. It ends in order, and its journal is lawful."""
-    path = new_path("journal")
-    words = ["--listen", "127.0.0.1:0", "--journal", path, "--until-input-ends", *options]
-    with Served([*SERVERS[kind], *words, *(["--tree", tree] if tree else [])], stdin=subprocess.PIPE) as served:
-        expect(f"the {kind} listens", served.port is not None, True)
-        yield "127.0.0.1", served.port
-        served.end_input()
-        expect(f"the end of the {kind}", served.end()[0], 0)
-    data = bytes_of(path)
+    with TemporaryDirectory() as room:
+        path = os.path.join(room, "journal")
+        words = ["--listen", "127.0.0.1:0", "--journal", path, "--until-input-ends", *options]
+        with Served([*SERVERS[kind], *words, *(["--tree", tree] if tree else [])], stdin=subprocess.PIPE) as served:
+            expect(f"the {kind} listens", served.port is not None, True)
+            yield "127.0.0.1", served.port
+            served.end_input()
+            expect(f"the end of the {kind}", served.end()[0], 0)
+        data = bytes_of(path)
     expect(f"the model's audit of the {kind}'s journal", verdict(data)[0], True)
-    expect(f"the program's audit of the {kind}'s journal", Program(OPTIONS.program).audit(data)[0], 0)
+    expect(f"the program's audit of the {kind}'s journal", Program(PROGRAM).audit(data)[0], 0)
+
+
+# One of each for all tests of a process that need nothing else.
+@pytest.fixture(scope="session")
+def model_server():
+    with serving("model") as address:
+        yield address
+
+
+@pytest.fixture(scope="session")
+def program_server():
+    with serving("program") as address:
+        yield address
+
+
+@pytest.fixture(params=SERVERS)
+def kind(request):
+    return request.param
+
+
+@pytest.fixture
+def server(kind, request):
+    """The address of either."""
+    return request.getfixturevalue(f"{kind}_server")
 
 
 class Between:
@@ -87,9 +91,9 @@ class Between:
     status, once its input has ended."""
 
     def __init__(self, server, *rules, options=()):
-        self.output = open(new_path("told"), "w+b")
+        self.output = TemporaryFile()
         words = [word for rule in rules for word in ("--rule", rule)]
-        command = [sys.executable, OPTIONS.between, "--listen", "127.0.0.1:0", "--to", "%s:%d" % server]
+        command = [sys.executable, BETWEEN, "--listen", "127.0.0.1:0", "--to", "%s:%d" % server]
         self.served = Served([*command, *words, *options], stdin=subprocess.PIPE, stdout=self.output)
         self.lines, self.status, self.errors = [], None, b""
 
@@ -141,7 +145,7 @@ def in_turn(tasks):
 
 # Rows.
 
-def rows_by_names(kind):
+def test_rows(kind):
     """All rows but those that need a server that has just been started pass, of which some lock whole files."""
     with serving(kind, tree=None) as server, Between(server) as between:
         ran = subprocess.run([sys.executable, os.path.join(TOP, "tools/send_rows"), "--names", *between_words(between),
@@ -171,7 +175,8 @@ FAULTS = {"lose-call": True, "lose-reply": True, "cut-call": True, "cut-reply": 
           "hold 0.01": False, "twice": False}
 
 
-def each_in_turn(fault, server):
+@pytest.mark.parametrize("fault", FAULTS)
+def test_each_in_turn(fault, server):
     """The first call of one client meets a fault, the second of another, and so on, up to the last."""
     with Between(server, f"{fault} any each {ROUND + 1}") as between:
         again = [one_round(between.address) for _ in range(ROUND + 1)]
@@ -179,7 +184,7 @@ def each_in_turn(fault, server):
     between.expect_told(told=[rf"\b{ROUND} faults, 0 wrong"])
 
 
-def four_at_once(server):
+def test_four_at_once(server):
     """Faults of all kinds, by chance, to four clients."""
     rules = [f"{fault} any 1 in {chance}" for fault, chance in zip(FAULTS, (9, 8, 9, 8, 5, 7, 5))]
     with Between(server, *rules, options=["--seed", "7"]) as between:
@@ -187,7 +192,7 @@ def four_at_once(server):
     between.expect_told(told=[r"\b[0-9]{2,} faults, 0 wrong"])
 
 
-def four_put_off(server):
+def test_four_put_off(server):
     """The same, with answers in the server's place, and all connections ended at times, to clients that ask again."""
     rules = [f"{fault} any 1 in {chance}" for fault, chance in zip(FAULTS, (15, 14, 15, 14, 9, 9, 9))]
     rules += ["answer DELAY LOCK 1 in 3", "answer GRACE WRITE 1 in 2", "answer RESOURCE READ 1 in 2",
@@ -209,7 +214,8 @@ def rules_of(text):
     return [rule.strip() for rule in text.split("|") if rule.strip()]
 
 
-def run_case(case, server):
+@pytest.mark.parametrize("case", CASES, ids=lambda case: case.name)
+def test_case(case, server):
     with Relay(server, case.change) as relay, \
             Between(relay.address, *rules_of(case.rules), options=case.options) as between:
         with case.peer(between.address) as peer:
@@ -240,7 +246,7 @@ def status_of(client, *operations):
     return found[6], found[8]
 
 
-def answered_again(server):
+def test_answer_again(server):
     """The answer in the server's place is kept: the same request gets it again, behind the operations before it, which
     are run again; and another request with its sequence id is BAD_SEQID."""
     with relayed(server, "answer DELAY LOCK 2", status=1, wrong=[r"doesn't move on: LOCK"],
@@ -261,7 +267,7 @@ def answered_again(server):
         client.close()
 
 
-def released(server):
+def test_release(server):
     """RELEASE_LOCKOWNER ends that ids are rewritten."""
     told = ["its owner goes on", r"\b1 faults, 0 wrong"]
     with relayed(server, "answer DELAY LOCK 2", told=told) as (client, relay, _):
@@ -281,7 +287,7 @@ def released(server):
         client.close()
 
 
-def known_lock_owner(server):
+def test_known_lock_owner(server):
     """A LOCK that brings a known lock owner isn't answered in the server's place; the next one is."""
     with relayed(server, "answer RESOURCE LOCK 2", told=["^1: answer RESOURCE LOCK 2: .*LOCK.*RESOURCE: answered in the"
                                                          " server's place$"]) as (client, _, _):
@@ -297,7 +303,7 @@ def known_lock_owner(server):
         client.take_next_lock()
 
 
-def fault_before(server):
+def test_fault_before(server):
     """Where an operation before it isn't OK, that reply is given, and the fault waits. Results have the form that RFC
     7531 gives them."""
     with relayed(server, "answer DELAY READ 1", "answer GRACE SETATTR 1",
@@ -313,7 +319,7 @@ def fault_before(server):
 
 # What counts.
 
-def rules_meet(server):
+def test_rules_that_meet(server):
     """Where two rules meet a call the first is done, and the other at the next one."""
     with relayed(server, "split 2 READ 1", "split 3 READ 1",
                  told=["^1: split 2 READ 1: ", "^2: split 3 READ 1: .* in 3 fragments$"]) as (client, _, _):
@@ -322,13 +328,13 @@ def rules_meet(server):
             client.read()
 
 
-def under_way(server):
+def test_calls_under_way(server):
     """A call that was under way on a connection which ended comes again, and doesn't count."""
     with Relay(server) as relay, Between(relay.address, "lose-reply READ 1", "split 2 READ 3") as between, \
             Resender(between.address) as peer:
         client = Patient(peer, next(uids))
         client.begin()
-        relay.seconds = 0.5
+        relay.seconds = 2
         first, second = (compound(number, *client.at_file(client.read_words()), uid=client.uid) for number in (91, 92))
         peer.send(first + second)
         expect("the end of the connection", peer.peer.receive(), b"")
@@ -341,7 +347,7 @@ def under_way(server):
                               r"\b2 faults, 0 wrong"])
 
 
-def several_requests(server):
+def test_several_requests(server):
     """Of a COMPOUND with two requests of an owner the server keeps one answer: another one isn't wrong when it comes
     again."""
     with relayed(server, "lose-reply LOCKU 1", told=["another answer$", r"\b1 faults, 0 wrong"]) as (client, _, _):
@@ -351,7 +357,7 @@ def several_requests(server):
         expect("LOCK again", status_of(client, *client.at_file(lock), client.locku_words(3))[0], Status.BAD_SEQID)
 
 
-def one_in_four():
+def test_chance():
     """Which calls a rule by chance meets depends on the seed and their count alone, whatever else is called."""
     def split_of(odd, *rules):
         with Echo() as server, Between(server.address, "split 2 NULL 1 in 4", *rules) as between, \
@@ -369,7 +375,7 @@ def one_in_four():
     expect("how many", 5 <= sum(found[0]) <= 25, True)
 
 
-def all_operations(server):
+def test_arguments(server):
     """The arguments of all operations of RFC 7531 are read: one behind them is found."""
     with relayed(server, "split 2 RENEW each 1", status=0,
                  told=[rf"\b{sum(map(len, ARGUMENTS.values()))} faults, 0 wrong"]) as (client, _, _):
@@ -400,7 +406,8 @@ class Answering(Listener):
 SETATTR = 34
 
 
-def all_results(is_wrong):
+@pytest.mark.parametrize("is_wrong", [False, True], ids=["alike", "that differ"])
+def test_results(is_wrong):
     """The results of all operations are read: that of an owner's request behind them is compared, and nothing else."""
     closed = done(CLOSE, words(1, 2, 3, 4))
     found = [([done(opnum, rest)], closed) for opnum, rest in RESULTS] + [([], done(OPEN, rest)) for rest in OPENED]
@@ -421,7 +428,7 @@ def all_results(is_wrong):
     between.expect_told(int(is_wrong), wrong, told)
 
 
-def held_at_the_end(server):
+def test_hold_at_the_end(server):
     """What is held is given also to a client that sends nothing more, whose server has ended the connection."""
     with Between(server, "hold 1 NULL 1") as between, Peer(between.address) as peer:
         peer.send(call(1, NULL))
@@ -431,15 +438,15 @@ def held_at_the_end(server):
     between.expect_told(told=["the reply is held for 1 s$"])
 
 
-def overtaken(server):
+def test_overtaking(server):
     """What comes behind a reply that is held overtakes it."""
-    with Between(server, "hold 1 NULL 1") as between, Peer(between.address) as peer:
+    with Between(server, "hold 4 NULL 1") as between, Peer(between.address) as peer:
         peer.send(call(1, NULL) + call(2, NULL))
         expect("the replies", [peer.receive(), peer.receive()], [reply(2), reply(1)])
-    between.expect_told(told=["the reply is held for 1 s$"])
+    between.expect_told(told=["the reply is held for 4 s$"])
 
 
-def parts(server):
+def test_parts(server):
     """What reaches the client of a reply, and the server of a call."""
     whole, asked = reply(1), call(1, NULL)
     for fault, given in (("lose-reply", b""), ("cut-reply", whole[:len(whole) // 2]), ("lose-call", b""),
@@ -461,7 +468,7 @@ def parts(server):
 
 # Callbacks.
 
-def addresses(server):
+def test_addresses(server):
     """The address for callbacks passes as it is, but where a rule names a callback; so does one that isn't of TCP."""
     for rules, passed in ((), 1), (["twice CB_RECALL 1"], 0):
         with relayed(server, *rules, status=len(rules)) as (client, relay, _):
@@ -472,7 +479,16 @@ def addresses(server):
             expect("no address", relay.count(other), 1)
 
 
-def recalled(fault, calls, told):
+RECALLS = [
+    ("lose-call", 0, ["^1: lose-call CB_RECALL 1: callback connection .*CB_RECALL.*: the call is lost",
+                      "^1: never comes again: .*CB_RECALL"]),
+    ("lose-reply", 1, ["^1: lose-reply CB_RECALL 1: callback connection .*the reply is lost"]),
+    ("twice", 2, ["^1: twice CB_RECALL 1: .*the call is sent again$"]),
+    ("answer DELAY", 0, ["^1: answer DELAY CB_RECALL 1: .*answered in the server's place$"])]
+
+
+@pytest.mark.parametrize("fault, calls, told", RECALLS, ids=[fault for fault, *_ in RECALLS])
+def test_recall(fault, calls, told):
     """A CB_RECALL that meets a fault: so many calls come to the client's listener. The file is given back."""
     with serving("program", tree=None) as server, Between(server, f"{fault} CB_RECALL 1") as between, \
             Listener(accept) as home, Listener(accept) as other_home, Resender(between.address) as peer, \
@@ -493,19 +509,11 @@ def recalled(fault, calls, told):
     between.expect_told(told=told)
 
 
-RECALLS = [
-    ("lose-call", 0, ["^1: lose-call CB_RECALL 1: callback connection .*CB_RECALL.*: the call is lost",
-                      "^1: never comes again: .*CB_RECALL"]),
-    ("lose-reply", 1, ["^1: lose-reply CB_RECALL 1: callback connection .*the reply is lost"]),
-    ("twice", 2, ["^1: twice CB_RECALL 1: .*the call is sent again$"]),
-    ("answer DELAY", 0, ["^1: answer DELAY CB_RECALL 1: .*answered in the server's place$"])]
-
-
 # Leases, and what is told.
 
-def away_beyond_a_lease(kind):
+def test_away_beyond_a_lease(kind):
     """A client that is kept away for longer than its lease has lost what it had."""
-    with serving(kind, "--lease", "2") as server, Between(server, "away 6 RENEW 1") as between, \
+    with serving(kind, "--lease", "5") as server, Between(server, "away 12 RENEW 1") as between, \
             Resender(between.address) as peer, Resender(between.address) as other:
         client = Patient(peer, next(uids))
         other.send(call(1, NULL))
@@ -513,7 +521,7 @@ def away_beyond_a_lease(kind):
         client.begin()
         expect("RENEW", status_of(client, client.renew_words()), (Status.STALE_CLIENTID, 1))
         expect("the connection of another client", other.peer.receive(), b"")
-    between.expect_told(told=["all connections are ended, for 6 s", r"comes again ([6-9]|[1-9]\d)\.",
+    between.expect_told(told=["all connections are ended, for 12 s", r"comes again (1[2-9]|[2-9]\d)\.",
                               r"\b1 faults, 0 wrong"])
 
 
@@ -530,7 +538,7 @@ def told_of(kind, seed):
     return [re.sub(r"[0-9.]+ s later", "T s later", line) for line in between.lines]
 
 
-def same_lines(kind):
+def test_same_lines(kind):
     """The same plan, seed and client have the same told, but times; by another seed it is something else."""
     first, second, other = (told_of(kind, seed) for seed in (3, 3, 4))
     if first != second:
@@ -560,7 +568,7 @@ FREELY = ("ACCESS CLOSE COMMIT CREATE DELEGPURGE DELEGRETURN GETATTR GETFH LINK 
 
 def between_ends(*words, given=b""):
     """How the tool ends by itself: its status, and what it prints."""
-    ran = subprocess.run([sys.executable, OPTIONS.between, *words], input=given, capture_output=True, timeout=PATIENCE)
+    ran = subprocess.run([sys.executable, BETWEEN, *words], input=given, capture_output=True, timeout=PATIENCE)
     return ran.returncode, ran.stdout.decode(), ran.stderr.decode()
 
 
@@ -571,35 +579,33 @@ def refuse(*words):
            ("", True, False))
 
 
-def refused_words(server):
+def test_refused_words(model_server, tmp_path):
     """What is no rule, plan, option or address has status 2."""
-    to = ["--to", "%s:%d" % server]
-    plan = new_path("plan")
-    with open(plan, "w", encoding="utf-8") as file:
-        file.write("# A plan.\n\nlose-reply READ 1 # The first.\ndrop READ 1\n")
+    to, plan = ["--to", "%s:%d" % model_server], str(tmp_path / "plan")
+    (tmp_path / "plan").write_text("# A plan.\n\nlose-reply READ 1 # The first.\ndrop READ 1\n")
     tasks = [partial(refuse, *to, "--rule", rule) for rule in NO_RULES]
     tasks += [partial(refuse, *words) for words in (
         [], ["--to", "nowhere"], ["--to", "127.0.0.1:x"], ["--to", "127.0.0.1:99999"], [*to, "--plan", plan],
-        [*to, "--plan", plan + ".none"], [*to, "--seed", "x"], [*to, "--listen", "%s:%d" % server],
+        [*to, "--plan", plan + ".none"], [*to, "--seed", "x"], [*to, "--listen", "%s:%d" % model_server],
         [*to, "--listen", "nowhere"], [*to, "--no-such-option"])]
     in_turn(tasks)
 
 
-def read_rules(server):
+def test_rules(model_server, tmp_path):
     """All that may be answered is a rule, and each such rule is told as never met."""
-    plan, lines = new_path("plan"), []
+    lines = []
     for status, operations in (("GRACE", CHANGES), ("DELAY", CHANGES + DELAYED), ("RESOURCE", CHANGES + FREELY)):
         lines += [f"answer {status} {operation} 1" for operation in operations]
     lines += [f"{fault} {operation} each 2" for fault in (*FAULTS, "away 0.5") for operation in
               ("any", "NULL", "CB_NULL", "CB_RECALL", "OPEN")]
-    with open(plan, "w", encoding="utf-8") as file:
-        file.write("# A plan.\n\n" + "".join(f"  {line}  # So.\n" for line in lines))
-    status, output, errors = between_ends("--listen", "127.0.0.1:0", "--to", "%s:%d" % server, "--plan", plan)
+    (tmp_path / "plan").write_text("# A plan.\n\n" + "".join(f"  {line}  # So.\n" for line in lines))
+    words = ["--listen", "127.0.0.1:0", "--to", "%s:%d" % model_server, "--plan", tmp_path / "plan"]
+    status, output, errors = between_ends(*words)
     wanted = [f"never met: {line} (0 such calls)" for line in lines]
     expect(f"what is told of rules that are never met\n{errors}", (status, output.splitlines()[:-1]), (1, wanted))
 
 
-def commands(server):
+def test_commands(server):
     """It ends with its command, whose words have its address, and fails where that does."""
     to = ["--listen", "127.0.0.1:0", "--to", "%s:%d" % server]
     code = "import socket, sys; socket.create_connection((sys.argv[1], int(sys.argv[2]))); sys.exit(int(sys.argv[3]))"
@@ -610,7 +616,7 @@ def commands(server):
         expect("the counts", "\nbetween: 1 connections, 0 calls, 0 faults, 0 wrong\n" in output, True)
 
 
-def ends(server):
+def test_ends(server):
     """Signals end it in order, as the end of its input does, also with connections open."""
     for number in signal.SIGTERM, signal.SIGINT, None:
         with Between(server, "lose-reply NULL 2") as between, Peer(between.address) as peer:
@@ -647,7 +653,7 @@ class Echo(Listener):
         stream.close()
 
 
-def long_records():
+def test_long_records():
     """A record of 16 MiB passes; one that is longer ends its connection, from either side and in fragments, too."""
     with Echo() as server, Between(server.address) as between:
         with Peer(between.address) as peer:
@@ -667,7 +673,7 @@ def long_records():
     between.expect_told(told=[f"^connection 1: closed, as its server sends a record of more than {LIMIT} bytes$"])
 
 
-def many_connections():
+def test_many_connections():
     """256 connections are served at once; one more is closed, and another one taken when one has ended."""
     with Echo() as server, Between(server.address) as between:
         peers = [Peer(between.address) for _ in range(MOST)]
@@ -690,7 +696,7 @@ def many_connections():
     between.expect_told(told=["^a connection is closed, as there are 256$", rf"\b{MOST + 1} connections, "])
 
 
-def as_it_is():
+def test_as_it_is():
     """What can't be read passes byte for byte, in both directions, and isn't counted by `any`."""
     draw = random.Random(5)
     odd = [record(b""), record(b"abc"), record(draw.randbytes(1000)), words(3) + b"abc" + record(b"defg"),
@@ -705,63 +711,10 @@ def as_it_is():
     between.expect_told(told=[r"\b0 faults, 0 wrong"])
 
 
-def nobody_there():
+def test_nobody_there():
     """Where the server isn't reached a connection is closed, by a line."""
     with socket.socket() as bound:
         bound.bind(("127.0.0.1", 0))
         with Between(bound.getsockname()) as between, Peer(between.address) as peer:
             expect("the end of a connection", peer.receive(), b"")
     between.expect_told(told=[r"^a connection is closed, as 127\.0\.0\.1:\d+ isn't reached$"])
-
-
-# All.
-
-BY_SERVER = {
-    "an answer again": answered_again, "an owner released": released, "a known lock owner": known_lock_owner,
-    "an operation before it": fault_before, "rules that meet": rules_meet, "calls under way": under_way,
-    "several requests": several_requests, "held at the end": held_at_the_end, "overtaken": overtaken, "parts": parts,
-    "addresses": addresses,
-    "arguments": all_operations, "ends": ends, "commands": commands}
-BY_KIND = {"rows": rows_by_names, "away beyond a lease": away_beyond_a_lease, "the same lines": same_lines}
-ONCE = {
-    "by chance": one_in_four, "long records": long_records, "many connections": many_connections, "as it is": as_it_is,
-    "nobody there": nobody_there, "results": partial(all_results, False),
-    "results that differ": partial(all_results, True)}
-
-
-def main():
-    begun = time.monotonic()
-    with serving("model") as model, serving("program") as program:
-        servers = {"model": model, "program": program}
-        tasks = {f"{kind}: {name}": partial(run, kind) for name, run in BY_KIND.items() for kind in servers}
-        tasks |= {name: run for name, run in ONCE.items()}
-        tasks |= {f"{fault} of a recall": partial(recalled, fault, *rest) for fault, *rest in RECALLS}
-        tasks |= {"refused words": partial(refused_words, model), "rules": partial(read_rules, model)}
-        for kind, server in servers.items():
-            tasks |= {f"{kind}: four at once": partial(four_at_once, server),
-                      f"{kind}: four put off": partial(four_put_off, server)}
-            tasks |= {f"{kind}: {fault} in turn": partial(each_in_turn, fault, server) for fault in FAULTS}
-            tasks |= {f"{kind}: {name}": partial(run, server) for name, run in BY_SERVER.items()}
-            tasks |= {f"{kind}: {case.name}": partial(run_case, case, server) for case in CASES}
-        ran = run_all(tasks)
-    print(f"try_between: ok; {ran} scenarios in {time.monotonic() - begun:.0f} seconds")
-
-
-def run_all(tasks):
-    """Runs those tasks that are asked for, and says what is wrong with each; how many there were."""
-    chosen = {name: task for name, task in tasks.items() if OPTIONS.only in name}
-    failed = []
-
-    def run(name):
-        try:
-            chosen[name]()
-        except (Wrong, OSError, subprocess.TimeoutExpired) as wrong:
-            failed.append(f"{name}: {wrong}")
-    in_turn([partial(run, name) for name in chosen])
-    if failed:
-        sys.exit("try_between: " + "\ntry_between: ".join(failed))
-    return len(chosen)
-
-
-if __name__ == "__main__":
-    main()

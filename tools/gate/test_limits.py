@@ -1,26 +1,23 @@
-#!/usr/bin/env python3
-"""limits.py PROGRAM: a built nfs4state at its limits of 16,384 owners, of 65,536 opens, of as many opens and
-delegations together, of 65,536 bytes of a file, and of a journal of 1,000,000 entries, each met and passed by one. The
-bytes are written and read at once, and one by one. The journal is that of a client which begins anew again and again,
-and so gets 500,000 numbers.
+"""The built program at its limits of 16,384 owners, also of both kinds together, of 65,536 opens, of as many opens and
+delegations or opens and lock states together, of 1,024 runs of a lock state, of 65,536 bytes of a file, and of a
+journal of 1,000,000 entries, each met and passed by one. The bytes are written and read at once, and one by one. The
+journal is that of a client which begins anew again and again, and so gets 500,000 numbers. The calls up to 1,024 runs
+have to be answered within ten seconds.
 
-What is wanted is written beside each call, since the model would take minutes for so many. lock_limits.py does the same
-with lock owners and lock states."""
+What is wanted is written beside each call, since the model would take minutes for so many."""
 import subprocess
-import sys
-import tempfile
 import time
 
-sys.dont_write_bytecode = True
-from packages import make_known
-make_known()
+import pytest
 
 from model.pages import PAGE
+from model.ranges import ALL_ONES, RUNS_LIMIT
 from model.state import JOURNAL_LIMIT, OWNERS_LIMIT, STATES_LIMIT
 from model.states import SLOTS, handle_of
 from model.tree import TEXT_LIMIT
 from nfs4 import messages, wire
-from nfs4.wire import FILE_SYNC4, Opnum, Status, opaque, u32, u64
+from nfs4.served import PROGRAM
+from nfs4.wire import BOTH, FILE_SYNC4, Opnum, READ_LT, Status, WRITE_LT, opaque, u32, u64
 
 # A file more than each owner opens; many files keep the opens of each few.
 FILES = 33
@@ -202,6 +199,174 @@ def journal_at_its_limit(limit=JOURNAL_LIMIT):
     yield [coming(0, Status.RESOURCE)]
 
 
+# With byte-range locks.
+
+OPENED = FILES - 1
+
+
+def under(file, opnum, words, status=Status.OK, rest=b""):
+    """A step: an operation on a file, and its result."""
+    put = u32(Opnum.PUTFH) + opaque(handle_of(file + 1))
+    return [(put, result(Opnum.PUTFH)), (u32(opnum) + words, result(opnum, status, rest))]
+
+
+def stateid(seqid, number, client=1):
+    return u32(seqid, 1, client, number)
+
+
+def spelled(owner, client=1):
+    return u32(1, client) + opaque(b"lock owner %d" % owner)
+
+
+class Locker:
+    """The open owner of a client, whose first open is on file 0 and confirmed, with the numbers that come next."""
+
+    def __init__(self, seqid, number, client=1):
+        self.seqid, self.number, self.client = seqid, number, client
+
+    def first_lock(self, owner, file, lock_seqid=1, offset=None, status=Status.OK, open_number=None, open_seqid=None):
+        """A LOCK of a byte by a new lock owner, each at a byte of its own. The open on the file has the number of the
+        file plus 1."""
+        opened = stateid(open_seqid or (2 if file == 0 else 1), open_number or file + 1, self.client)
+        byte = owner if offset is None else offset
+        words = u32(READ_LT, 0) + u64(byte) + u64(1) + u32(1, self.seqid) + opened + u32(lock_seqid)
+        rest = b""
+        if status == Status.OK:
+            rest = stateid(1, self.number, self.client)
+            self.number, self.seqid = self.number + 1, self.seqid + 1
+        return under(file, Opnum.LOCK, words + spelled(owner, self.client), status, rest)
+
+    def open(self, file, status=Status.OK):
+        """An OPEN of a file that isn't open yet, by the open owner."""
+        step = opening(0, self.seqid, file, number=self.number, status=status)
+        if status == Status.OK:
+            self.number, self.seqid = self.number + 1, self.seqid + 1
+        return step
+
+
+def next_lock(seqid, number, file, offset, state_seqid, status=Status.OK, locktype=READ_LT):
+    """A LOCK of a byte by the lock state."""
+    words = u32(locktype, 0) + u64(offset) + u64(1) + u32(0) + stateid(state_seqid, number) + u32(seqid)
+    rest = stateid(state_seqid + 1, number) if status == Status.OK else b""
+    return under(file, Opnum.LOCK, words, status, rest)
+
+
+def unlock(seqid, number, file, offset=0, length=ALL_ONES, state_seqid=1, status=Status.OK):
+    """A LOCKU, of all bytes if nothing else is said."""
+    words = u32(WRITE_LT, seqid) + stateid(state_seqid, number) + u64(offset) + u64(length)
+    rest = stateid(state_seqid + 1, number) if status == Status.OK else b""
+    return under(file, Opnum.LOCKU, words, status, rest)
+
+
+def release(owner, status=Status.OK):
+    return [(u32(Opnum.RELEASE_LOCKOWNER) + spelled(owner), result(Opnum.RELEASE_LOCKOWNER, status))]
+
+
+def open_files(locker, count, access=READ):
+    """The client, and the open owner with its first files opened, file 0 for this access."""
+    yield introduce(1, 1)
+    yield opening(0, 1, 0, number=1, flags=6, access=access) + confirming(2, 1)
+    for file in range(1, count):
+        yield locker.open(file)
+
+
+def owners_of_both_kinds(limit=OWNERS_LIMIT):
+    locker = Locker(3, 2)
+    yield from open_files(locker, OPENED)
+    # One open owner, and lock owners from 1 on: the first one's state has the number after those of the opens.
+    first = locker.number
+    for owner in range(1, limit):
+        yield locker.first_lock(owner, owner % OPENED)
+    yield locker.first_lock(limit, 0, status=Status.RESOURCE)
+    yield opening(1, 1, 0, status=Status.RESOURCE)
+    # A known lock owner needs no place for itself on another file, and the open owner none for another open.
+    yield locker.first_lock(1, 2, lock_seqid=2)
+    yield locker.open(OPENED)
+    yield locker.first_lock(limit, 0, status=Status.RESOURCE)
+    # An owner that holds nothing is still known, until it is released.
+    yield unlock(2, first + 1, 2)
+    yield locker.first_lock(limit, 0, status=Status.RESOURCE)
+    yield release(2)
+    yield locker.first_lock(limit, 0)
+    yield locker.first_lock(2, 2, status=Status.RESOURCE)
+    yield release(3, Status.LOCKS_HELD)
+    # CLOSE frees lock states, and their owners stay known; released ones leave places for open owners, too.
+    yield closing(locker.seqid, 1, 4, 3)
+    locker.seqid += 1
+    yield opening(1, 1, 0, status=Status.RESOURCE)
+    yield release(3)
+    yield opening(1, 1, 0, number=locker.number, flags=6)
+    locker.number += 1
+    yield locker.first_lock(3, 0, status=Status.RESOURCE)
+    # When a client has started again, its old owners are gone and their places are free.
+    yield introduce(2, 2)
+    yield opening(0, 1, 0, client=2, number=locker.number, flags=6)
+
+
+def states_at_their_limit(limit=STATES_LIMIT):
+    locker = Locker(3, 2)
+    yield from open_files(locker, OPENED)
+    # Each lock owner has a lock state on each open file.
+    owners = limit // OPENED - 1
+    first = locker.number
+    for owner in range(1, owners + 1):
+        for file in range(OPENED):
+            yield locker.first_lock(owner, file, lock_seqid=1 + file)
+    yield locker.first_lock(owners + 1, 0, status=Status.RESOURCE)
+    yield locker.open(OPENED, status=Status.RESOURCE)
+    # A LOCK by a lock state, and an OPEN of an open file, need no place.
+    yield next_lock(OPENED + 1, first, 0, 70000, 1)
+    yield opening(0, locker.seqid, 1, number=2, state_seqid=2)
+    locker.seqid += 1
+    # LOCKU leaves the lock states, RELEASE_LOCKOWNER makes places for all of them.
+    for file in range(OPENED):
+        yield unlock(OPENED + 1 + file, first + OPENED + file, file)
+    yield locker.open(OPENED, status=Status.RESOURCE)
+    yield release(2)
+    yield locker.open(OPENED)
+    opened = locker.number - 1
+    for owner in range(1, OPENED):
+        yield locker.first_lock(owners + owner, OPENED, open_number=opened)
+    yield locker.first_lock(2, 2, status=Status.RESOURCE)
+    # CLOSE makes places for the open and all lock states that were made by it.
+    yield closing(locker.seqid, 1, opened, OPENED)
+    locker.seqid += 1
+    for owner in range(1, OPENED + 1):
+        yield locker.first_lock(owners + owner, 3, lock_seqid=2 if owner < OPENED else 1)
+    yield locker.first_lock(2, 2, status=Status.RESOURCE)
+
+
+def runs_at_their_limit(limit=RUNS_LIMIT):
+    """Only up to the limit: this part is timed."""
+    locker = Locker(3, 2)
+    yield from open_files(locker, 1, BOTH)
+    yield locker.first_lock(1, 0, offset=0)
+    for run in range(1, limit):
+        yield next_lock(1 + run, 2, 0, 2 * run, run)
+
+
+def runs_past_their_limit(limit=RUNS_LIMIT):
+    yield from runs_at_their_limit(limit)
+    yield next_lock(limit + 1, 2, 0, 2 * limit, limit, Status.RESOURCE)
+    # A byte that joins two runs makes a place. A byte in the middle of a run, in another mode, would take two.
+    yield next_lock(limit + 1, 2, 0, 1, limit)
+    yield next_lock(limit + 2, 2, 0, 1, limit + 1, Status.RESOURCE, WRITE_LT)
+    # One more run takes the place. Then no run may be divided, neither by LOCKU nor by another mode.
+    yield next_lock(limit + 2, 2, 0, 2 * limit, limit + 1)
+    yield unlock(limit + 3, 2, 0, 1, 1, limit + 2, Status.RESOURCE)
+    yield next_lock(limit + 3, 2, 0, 1, limit + 2, Status.RESOURCE, WRITE_LT)
+    yield next_lock(limit + 3, 2, 0, 2 * limit + 2, limit + 2, Status.RESOURCE)
+    # A run that gets shorter or longer needs no place.
+    yield unlock(limit + 3, 2, 0, 0, 1, limit + 2)
+    yield next_lock(limit + 4, 2, 0, 0, limit + 3)
+    # Another lock owner has runs of its own.
+    yield Locker(4, 3).first_lock(2, 0, offset=2 * limit + 2)
+    yield unlock(limit + 5, 2, 0, state_seqid=limit + 4)
+    yield next_lock(limit + 6, 2, 0, 2 * limit + 2, limit + 5)
+
+
+# All.
+
 def compounds(steps):
     """Steps together, as many as there may be in a COMPOUND; one that is refused ends it."""
     pairs = []
@@ -227,32 +392,28 @@ def reply(xid, pairs):
     return wire.record(wire.accepted(xid, wire.SUCCESS, head + b"".join(wanted for _, wanted in pairs)))
 
 
-def compare(program, name, steps, document=TREE):
-    """Whether the program answers these steps as wanted, and in how many seconds."""
-    found = list(enumerate(compounds(steps), 1))
+SIDES = {
+    "owners": (owners_at_their_limit, TREE), "opens": (opens_at_their_limit, TREE),
+    "opens and delegations": (delegations_at_their_limit, LENDING), "bytes of a file": (bytes_at_their_limit, TREE),
+    "journal": (journal_at_its_limit, TREE), "owners of both kinds": (owners_of_both_kinds, TREE),
+    "opens and lock states": (states_at_their_limit, TREE), "runs, and one more": (runs_past_their_limit, TREE),
+    "runs": (runs_at_their_limit, TREE)}
+# The seconds in which all calls have to be answered.
+PATIENCE = {"runs": 10}
+
+
+@pytest.mark.parametrize("name", SIDES)
+def test_limit(name, tmp_path, tell):
+    """The program answers these steps as wanted."""
+    steps, document = SIDES[name]
+    (tmp_path / "tree.toml").write_text(document)
+    found = list(enumerate(compounds(steps()), 1))
     sent, wanted = (b"".join(one(*pair) for pair in found) for one in (call, reply))
-    with tempfile.NamedTemporaryFile("w", suffix=".toml") as tree:
-        tree.write(document)
-        tree.flush()
-        begun = time.monotonic()
-        ran = subprocess.run([program, "once", "--tree", tree.name], input=sent, stdout=subprocess.PIPE, check=False)
-        seconds = time.monotonic() - begun
-    if ran.stdout != wanted:
-        same = next((at for at, (a, b) in enumerate(zip(ran.stdout, wanted)) if a != b), len(ran.stdout))
-        print(f"limits: {name}: other bytes from {same} on: {ran.stdout[same - 40:same + 40].hex()}")
-    print(f"limits: {name}: {len(found)} calls in {seconds:.1f} seconds")
-    return ran.stdout == wanted, seconds
-
-
-def main(program):
-    sides = (("owners", owners_at_their_limit(), TREE), ("opens", opens_at_their_limit(), TREE),
-             ("opens and delegations", delegations_at_their_limit(), LENDING),
-             ("the bytes of a file", bytes_at_their_limit(), TREE), ("the journal", journal_at_its_limit(), TREE))
-    agree = [compare(program, *side)[0] for side in sides]
-    return 0 if all(agree) else 1
-
-
-if __name__ == "__main__":
-    if len(sys.argv) != 2:
-        sys.exit(__doc__)
-    sys.exit(main(sys.argv[1]))
+    begun = time.monotonic()
+    got = subprocess.run([PROGRAM, "once", "--tree", tmp_path / "tree.toml"], input=sent, stdout=subprocess.PIPE).stdout
+    seconds = time.monotonic() - begun
+    if got != wanted:
+        same = next((at for at, (a, b) in enumerate(zip(got, wanted)) if a != b), min(len(got), len(wanted)))
+        pytest.fail(f"other bytes from {same} on: {got[same - 40:same + 40].hex()}")
+    assert seconds <= PATIENCE.get(name, seconds)
+    tell(f"{len(found)} calls in {seconds:.1f} seconds")

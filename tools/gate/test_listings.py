@@ -1,16 +1,10 @@
-#!/usr/bin/env python3
-"""check_listings.py [COUNT]: so many random directories, each listed by the model from cookie 0, and then each time
-from the last entry's cookie, with maxcounts of which each lets a child in. Each child comes once, by rising numbers,
-with what GETATTR says of it; no answer is longer than it may be, or has left out a child that would have fitted; and
-the end is told where no child is left, and nowhere before. With one byte less than the first entry needs it is
-TOOSMALL."""
+"""Random directories, each listed by the model from cookie 0, and then each time from the last entry's cookie, with
+maxcounts of which each lets a child in. Each child comes once, by rising numbers, with what GETATTR says of it; no
+answer is longer than it may be, or has left out a child that would have fitted; and the end is told where no child is
+left, and nowhere before. With one byte less than the first entry needs it is TOOSMALL."""
 import random
-import sys
-from typing import Any
 
-sys.dont_write_bytecode = True
-from packages import make_known
-make_known()
+import pytest
 
 from model.attributes import FIRST_COOKIE
 from model.operations.readdir import LISTING_LIMIT, NO_VERIFIER
@@ -18,19 +12,19 @@ from model.server import Server
 from model.states import Result
 from model.tree import DIRECTORIES, FILES, Tree
 from nfs4 import wire
+from nfs4.client import expect
 from nfs4.wire import Getattr, Opnum, Readdir, Status, bitmap, opaque
 
-COUNT = 200
 NOBODY = (0, 0)
 # The bytes of an answer without its entries, and those of an entry beside its name, its mask and its values.
 ENDS, ENTRY = 16, 12
 
 
-def directory_of(chance: Any) -> str:
+def directory_of(chance):
     """A document with children of the root, and of a directory in it."""
     longest = chance.choice([3, 20, 250])
 
-    def paths(count: int, kind: str, parent: str) -> list[str]:
+    def paths(count, kind, parent):
         return [f"{parent}{kind}{number}{'n' * chance.randint(0, longest)}" for number in range(count)]
 
     directories = paths(chance.randint(0, DIRECTORIES - 1), "d", "") + ["top"]
@@ -41,22 +35,16 @@ def directory_of(chance: Any) -> str:
     return 'policy.profile = "clients"\n' + "".join(tables)
 
 
-def ask(server: Server, directory: int, cookie: int, maxcount: int, mask: tuple[int, ...]) -> Result:
+def ask(server, directory, cookie, maxcount, mask):
     return server.apply(Opnum.READDIR, Readdir(cookie, NO_VERIFIER, 0, maxcount, mask), directory, NOBODY)
 
 
-def attributes_of(server: Server, child: int, mask: tuple[int, ...]) -> bytes:
+def attributes_of(server, child, mask):
     """As GETATTR answers them."""
     return server.apply(Opnum.GETATTR, Getattr(mask), child, NOBODY).rest
 
 
-def expect(what: str, got: Any, wanted: Any) -> None:
-    if got != wanted:
-        sys.exit(f"check_listings: {what}: {got}, not {wanted}")
-
-
-def check_answer(server: Server, directory: int, cookie: int, maxcount: int, mask: tuple[int, ...],
-                 left: list[int]) -> int:
+def check_answer(server, directory, cookie, maxcount, mask, left):
     """Whether the answer has the first of these children, as many as fit; and how many they are."""
     lengths = [ENTRY + len(opaque(server.tree.nodes[child].name)) + len(attributes_of(server, child, mask))
                for child in left]
@@ -80,7 +68,7 @@ def check_answer(server: Server, directory: int, cookie: int, maxcount: int, mas
     return count
 
 
-def check_directory(server: Server, directory: Any, chance: random.Random) -> int:
+def check_directory(server, directory, chance):
     """How many answers the listing takes."""
     mask = tuple([chance.getrandbits(32), chance.getrandbits(32) & ~(1 << 16 | 1 << 22)][:chance.randint(0, 2)])
     left = [number for number, node in enumerate(server.tree.nodes) if node.parent == directory]
@@ -95,16 +83,11 @@ def check_directory(server: Server, directory: Any, chance: random.Random) -> in
     return answers
 
 
-def main(count: int) -> int:
-    answers = 0
-    for seed in range(count):
+@pytest.mark.parametrize("part", range(4))
+def test_directories(part, add_up):
+    for seed in range(part, 200, 4):
         chance = random.Random(seed)
         server = Server(Tree(directory_of(chance)))
         for directory in 0, server.tree.child(0, b"top"):
-            answers += check_directory(server, directory, chance)
-    print(f"check_listings: {2 * count} directories listed by {answers} answers: each child comes once")
-    return 0
-
-
-if __name__ == "__main__":
-    sys.exit(main(int(sys.argv[1]) if len(sys.argv) > 1 else COUNT))
+            add_up(1, "directories")
+            add_up(check_directory(server, directory, chance), "answers")

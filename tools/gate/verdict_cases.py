@@ -1,22 +1,27 @@
-"""Journals with what is said of each, for check_journals.py: entries that may come next, and entries that can't follow
+"""Journals with what is said of each, for test_journals.py: entries that may come next, and entries that can't follow
 those before them; of this version of the file, and of the one before."""
-from model.entries import Answer, Call, Expire, Forget, MOMENT_LIMIT, Path, Revoke
-from model.journal import EARLIER, Recorder, journal_bytes
-from model.journal_cases import (CALLBACK, FILE, NOBODY, NOTHING, NOT_JOURNAL, OPENED, SOMEBODY, ask_for_number,
+from collections.abc import Iterable, Iterator
+from typing import Any
+
+from gate.journal_cases import (CALLBACK, FILE, NOBODY, NOTHING, NOT_JOURNAL, OPENED, SOMEBODY, ask_for_number,
                                  close_by_a, confirm, earlier, file_of, give_back, holding, idle, introduce, journal_of,
                                  lent, listed_and_set, small)
+from model.entries import Answer, Call, Expire, Forget, MOMENT_LIMIT, Path, Revoke
+from model.journal import EARLIER, Recorder, journal_bytes
 from model.tree import Tree
 from nfs4 import wire
 from nfs4.wire import OpenOwner, Opnum, Status, opaque, u32, u64
 
 LAST = 2**32 - 1
+# A name, a file, and what is said of it.
+Judged = tuple[str, bytes, str]
 
 
-def wrong(number):
+def wrong(number: int) -> str:
     return f"fault: wrong answer at entry {number}"
 
 
-def verdicts():
+def verdicts() -> Iterator[Judged]:
     """A name, a file, and what is said of it."""
     entries, data = small().entries, journal_bytes(small())
     yield "three entries", data, "lawful: 3 entries"
@@ -61,7 +66,7 @@ def verdicts():
     yield "a wrong answer, and a node that isn't there later", file_of(outside), NOT_JOURNAL
 
 
-def verdicts_on_bytes():
+def verdicts_on_bytes() -> Iterator[Judged]:
     """Of `hello`, which is read, gets a byte more, and is read again; and of more than a file has."""
     server = Recorder(Tree())
     for opnum, arguments in ((Opnum.READ, wire.Read(NOTHING, 0, LAST)), (Opnum.WRITE, wire.Write(NOTHING, 5, 0, b"!")),
@@ -84,7 +89,7 @@ def verdicts_on_bytes():
         yield f"a WRITE with {name}", file_of([with_rest(written, rest)]), wrong(0)
 
 
-def verdicts_on_paths(entries):
+def verdicts_on_paths(entries: list[Any]) -> Iterator[Judged]:
     """After those of a client that is confirmed; and with the grant of a delegation."""
     yield "a path", file_of([*entries, Path(1, 1), Path(1, 1), Path(1, 0)]), "lawful: 6 entries"
     yield "a path of nobody", file_of([*entries, Path(2, 1)]), wrong(3)
@@ -94,12 +99,13 @@ def verdicts_on_paths(entries):
     yield "a path after a wrong answer", file_of([entries[1], Path(1, 1)]), wrong(0)
     journal = lent().journal()
     before, after = journal.entries[:4], journal.entries[4:]
-    for marks, said in (([], "lawful: 10 entries"), ([0], wrong(5)), ([0, 1], "lawful: 12 entries")):
+    cases: list[tuple[list[int], str]] = [([], "lawful: 10 entries"), ([0], wrong(5)), ([0, 1], "lawful: 12 entries")]
+    for marks, said in cases:
         marked = journal._replace(entries=[*before, *[Path(1, is_up) for is_up in marks], *after])
         yield f"paths {marks} before a delegation is given", journal_bytes(marked), said
 
 
-def verdicts_on_revocations():
+def verdicts_on_revocations() -> Iterator[Judged]:
     """After the delegations 2 and 4 were called back, the second at 200 and the first at 210."""
     journal = lent().journal()
     again = [call for call in journal.entries if isinstance(call, Call)][-2]
@@ -122,7 +128,7 @@ def verdicts_on_revocations():
         yield f"a revocation: {name}", journal_bytes(journal._replace(entries=journal.entries + entries)), said
 
 
-def verdicts_on_forgets():
+def verdicts_on_forgets() -> Iterator[Judged]:
     """After A was closed at 100 and B at 101, with a lease of 90."""
     server = idle()
     entries, (a, b) = server.recorded, (OpenOwner(1, 1, b"A"), OpenOwner(1, 1, b"B"))
@@ -155,7 +161,7 @@ def verdicts_on_forgets():
     yield "a forgetting of one that isn't confirmed", file_of([*entries[:3], Forget(a, 400)]), wrong(3)
 
 
-def verdicts_on_locks_held():
+def verdicts_on_locks_held() -> Iterator[Judged]:
     """A CLOSE beside bytes that are locked, under both policies; and what is its owner's next request then."""
     server = holding()
     close_by_a(server, 4)
@@ -176,7 +182,7 @@ def verdicts_on_locks_held():
         yield f"a CLOSE beside locks, {name}", file_of(*given), said
 
 
-def verdicts_on_the_earlier_version():
+def verdicts_on_the_earlier_version() -> Iterator[Judged]:
     """The same entries in a file of the version before, and a CLOSE that frees."""
     yield "three entries of the earlier version", journal_bytes(earlier(small())), "lawful: 3 entries"
     none = earlier(small()._replace(entries=[]))
@@ -193,7 +199,7 @@ def verdicts_on_the_earlier_version():
         yield f"a CLOSE beside locks that {name} in the earlier version", data, said
 
 
-def verdicts_for_clients():
+def verdicts_for_clients() -> Iterator[Judged]:
     """Listings and sizes that are set, under the profile "clients"; and what the profile is in entries of both."""
     journal = listed_and_set()
     yield "a listing, and what is set", journal_bytes(journal), "lawful: 4 entries"
@@ -201,7 +207,7 @@ def verdicts_for_clients():
         yield f"the same behind {head.decode()}", head + journal_bytes(journal)[8:], NOT_JOURNAL
     listing, attributes, cut, mode = journal.entries
 
-    def said_of(*entries):
+    def said_of(*entries: Any) -> bytes:
         return journal_bytes(journal._replace(entries=list(entries)))
 
     read = Call(0, NOBODY, FILE, Opnum.READ, wire.Read(NOTHING, 0, 9), Answer(Opnum.READ, Status.OK, u32(1, 0)))
@@ -247,7 +253,7 @@ def verdicts_for_clients():
         yield f"an answer to {number}", said_of(other), wrong(0)
 
 
-def verdicts_on_numbers():
+def verdicts_on_numbers() -> Iterator[Judged]:
     """Of what a further id gets where a client has ended, and where 255 ids have a number each."""
     ended = Recorder(Tree())
     introduce(ended)
@@ -264,7 +270,7 @@ def verdicts_on_numbers():
         yield f"{status.name} for a client that gave way", file_of([*waiting.recorded, call]), said
 
 
-def with_ids(confirmed):
+def with_ids(confirmed: int) -> Recorder:
     """A server with 255 ids, of which the first ones are confirmed."""
     server = Recorder(Tree())
     for number in range(1, 256):
@@ -274,7 +280,7 @@ def with_ids(confirmed):
     return server
 
 
-def verdicts_on_number(where, server, right, numbers):
+def verdicts_on_number(where: str, server: Recorder, right: int | None, numbers: Iterable[int]) -> Iterator[Judged]:
     """Each of these numbers as the next one that the server gives."""
     asked = wire.Setclientid(bytes(8), b"late", CALLBACK)
     for number in numbers:
@@ -284,9 +290,9 @@ def verdicts_on_number(where, server, right, numbers):
         yield f"number {number} {where}", file_of(entries), said
 
 
-def with_rest(call, rest):
+def with_rest(call: Call, rest: bytes) -> Call:
     return call._replace(answer=call.answer._replace(rest=rest))
 
 
-def with_number(call, number):
+def with_number(call: Call, number: int) -> Call:
     return call._replace(answer=call.answer._replace(number=number))

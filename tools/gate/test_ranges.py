@@ -1,16 +1,10 @@
-#!/usr/bin/env python3
-"""check_ranges.py [--seed N] [--changes N]: the model's ranges beside plain lists, one place a byte.
+"""The model's ranges beside plain lists, one place a byte.
 
 The lists have the first and the last few bytes, and one place for all bytes between, which no range divides. After each
 random change every question is asked of both. It judges ranges.py alone, no program."""
-import argparse
 import random
-import sys
-from typing import Any
 
-sys.dont_write_bytecode = True
-from packages import make_known
-make_known()
+import pytest
 
 from model.ranges import ALL_ONES, LAST_BYTE, READ_MODE, Ranges, WRITE_MODE, denial, length_of, meets, range_of
 
@@ -19,16 +13,19 @@ SIDE = 12
 BYTES = [*range(SIDE), SIDE, *range(LAST_BYTE - SIDE + 1, LAST_BYTE + 1)]
 ENDS = [*range(SIDE), LAST_BYTE - SIDE, *range(LAST_BYTE - SIDE + 1, LAST_BYTE + 1)]
 PLACES = range(len(BYTES))
+# How many changes a case makes.
+CHANGES = 5000
 
 
-def bytes_of(offset: int, length: int) -> Any:
+def bytes_of(offset, length):
     """The places of a range's bytes, or None where there is no such range: each byte asked alone."""
     if length == 0 or (length != ALL_ONES and offset + length > 2**64 - 1):
         return None
-    return [place for place in PLACES if offset <= BYTES[place] and (length == ALL_ONES or ENDS[place] < offset + length)]
+    end = 2**64 if length == ALL_ONES else offset + length
+    return [place for place in PLACES if offset <= BYTES[place] and ENDS[place] < end]
 
 
-def run_round(modes: Any, place: Any) -> Any:
+def run_round(modes, place):
     """The longest stretch of one mode round this place."""
     first = last = place
     while first > 0 and modes[first - 1] == modes[place]:
@@ -38,12 +35,12 @@ def run_round(modes: Any, place: Any) -> Any:
     return BYTES[first], ENDS[last], modes[place]
 
 
-def runs(modes: Any) -> Any:
+def runs(modes):
     """Places that are held and begin a stretch."""
     return sum(modes[place] is not None and (place == 0 or modes[place - 1] != modes[place]) for place in PLACES)
 
 
-def report(lists: Any, places: Any, mode: Any) -> Any:
+def report(lists, places, mode):
     """The least byte with a conflict, the least owner in conflict there, and its stretch."""
     for place in places:
         owners = [owner for owner in sorted(lists) if meets(lists[owner][place], mode)]
@@ -52,7 +49,7 @@ def report(lists: Any, places: Any, mode: Any) -> Any:
     return None
 
 
-def random_range(chance: random.Random) -> Any:
+def random_range(chance):
     """An offset and a length whose ends are no byte of the middle."""
     first, last = sorted((chance.choice(PLACES), chance.choice(PLACES)))
     length = length_of(BYTES[first], ENDS[last])
@@ -61,12 +58,12 @@ def random_range(chance: random.Random) -> Any:
     return BYTES[first], chance.choice([length] * 12 + [0, ALL_ONES, ALL_ONES - 1])
 
 
-def compare(held: dict[str, Ranges], lists: Any, owner: str, asked: tuple[int, int], mode: Any) -> bool:
+def expect_alike(held, lists, owner, asked, mode):
     """Each question about the owner's ranges and the range asked has one answer in both forms."""
     first, last = asked[0], asked[1]
     places = bytes_of(first, length_of(first, last))
     ranges, modes = held[owner], lists[owner]
-    pairs: list[Any] = [(ranges.runs(), runs(modes)), (ranges.is_empty(), not any(modes))]
+    pairs = [(ranges.runs(), runs(modes)), (ranges.is_empty(), not any(modes))]
     pairs += [(ranges.mode(BYTES[place]), modes[place]) for place in PLACES]
     pairs += [(tuple(ranges.run_at(BYTES[place])), run_round(modes, place)) for place in PLACES]
     conflict = [BYTES[place] for place in places if meets(modes[place], mode)]
@@ -75,34 +72,25 @@ def compare(held: dict[str, Ranges], lists: Any, owner: str, asked: tuple[int, i
     found = denial(list(others.items()), first, last, mode)
     reported = None if found is None else (found.owner, tuple(found.run))
     pairs.append((reported, report({other: lists[other] for other in others}, places, mode)))
-    return all(one == other for one, other in pairs)
+    assert all(one == other for one, other in pairs), f"{owner} {asked} {mode}: {ranges.__dict__}, {modes}"
 
 
-def main() -> None:
-    parser = argparse.ArgumentParser()
-    parser.add_argument("--seed", type=int, default=0)
-    parser.add_argument("--changes", type=int, default=20000)
-    words = parser.parse_args()
-    chance = random.Random(words.seed)
+@pytest.mark.parametrize("seed", range(4))
+def test_changes(seed, add_up):
+    chance = random.Random(seed)
     held = {owner: Ranges() for owner in "xyz"}
-    lists: dict[str, list[int | None]] = {owner: [None] * len(BYTES) for owner in held}
-    for change in range(words.changes):
+    lists = {owner: [None] * len(BYTES) for owner in held}
+    for change in range(CHANGES):
         offset, length = random_range(chance)
         asked, places = range_of(offset, length), bytes_of(offset, length)
         # Where the end of a range is inside the middle, the lists can't say which of its bytes are meant.
         is_inside = asked is not None and SIDE <= asked[1] < LAST_BYTE - SIDE
-        if (asked is None) != (places is None):
-            sys.exit(f"check_ranges: change {change}: a range of {offset} and {length}: {asked}, {places}")
+        assert (asked is None) == (places is None), f"change {change}: a range of {offset} and {length}: {asked}"
         if asked is None or is_inside:
             continue
         owner, mode = chance.choice("xyz"), chance.choice([READ_MODE, WRITE_MODE, None, None])
         held[owner] = held[owner].changed(*asked, mode)
         for place in places:
             lists[owner][place] = mode
-        if not compare(held, lists, owner, asked, chance.choice([READ_MODE, WRITE_MODE])):
-            sys.exit(f"check_ranges: change {change}: {owner} {asked} {mode}: {held[owner].__dict__}, {lists[owner]}")
-    print(f"check_ranges: {words.changes} changes agree with lists of bytes")
-
-
-if __name__ == "__main__":
-    main()
+        expect_alike(held, lists, owner, asked, chance.choice([READ_MODE, WRITE_MODE]))
+        add_up(1, "changes")

@@ -1,5 +1,9 @@
 """Histories on which the judge of `timed` is tried. The model serves a few calls and sweeps; in the wrong histories
 something else is done or answered than it says."""
+from contextlib import nullcontext
+
+import pytest
+
 from gate.timed import Exchange, SECOND, TimedJudge, numbers_of
 from model.journal import Journal, Recorder
 from nfs4.client import Wrong
@@ -324,14 +328,8 @@ CASES = {
     stays: "is live behind the sweep", has_another_clock: "no clock", is_swept_ahead: "no clock"}
 
 
-def try_cases():
-    """What is said of the first history that is misjudged; or None."""
-    for case, wanted in CASES.items():
-        try:
-            case().judge()
-            got = None
-        except Wrong as wrong:
-            got = str(wrong)
-        if wanted is None and got is not None or wanted is not None and wanted not in (got or ""):
-            return f"of the history `{case.__name__}` is said: {got}"
-    return None
+@pytest.mark.parametrize("case", CASES, ids=lambda it: it.__name__)
+def test_judge(case):
+    """What is said of the history."""
+    with pytest.raises(Wrong, match=CASES[case]) if CASES[case] else nullcontext():
+        case().judge()

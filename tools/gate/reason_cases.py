@@ -1,12 +1,19 @@
-"""Refusals, each with the reason that has to be given for it, for check_reasons.py. The reasons were worked out from
+"""Refusals, each with the reason that has to be given for it, for test_reasons.py. The reasons were worked out from
 docs/RULES.md: what stands in the way, since which entry, and under which heading that is."""
+from collections.abc import Callable, Sequence
+from typing import Any
+
+from gate.journal_cases import CALLBACK, FOR_CLIENTS, LAST, NO_CREATE, NOBODY, SOMEBODY
 from model.journal import Recorder
-from model.journal_cases import CALLBACK, FOR_CLIENTS, LAST, NO_CREATE, NOBODY, SOMEBODY
 from model.tree import DEFAULT, Tree
 from nfs4.wire import (Claim, Close, Delegreturn, Getattr, KnownLocker, Lock, LockOwner, Lockt, Locku, NewLocker, Open,
                        OpenConfirm, OpenDowngrade, OpenOwner, Openhow, Opnum, Read, Readdir, ReleaseLockowner, Setattr,
                        Setclientid, SetclientidConfirm, Stateid, Write)
 
+# A reason in words, and the heading of the rules that has it, or None; the current filehandle; and who sends a call.
+Because = tuple[str, str] | None
+Handle = int | None
+Sender = tuple[int, int]
 ROOT, FILE, OTHER_FILE, DIRECTORY = 0, 1, 2, 3
 ALL = 2**64 - 1
 ZEROS, ONES = Stateid(0, 0, 0, 0), Stateid(LAST, LAST, LAST, LAST)
@@ -15,91 +22,100 @@ OWNERS, STATEIDS, CLIENT_IDS, RANGES, DELEGATIONS = (
 OPEN_A = 'open of file "/a" by open owner "A" of client 1'
 LOCK_X = 'lock state of file "/a" by lock owner "x" of client 1'
 OPEN_BY_A = 'OPEN by open owner "A" of client 1'
+NO_HANDLE = "no filehandle is current: no operation before it in its COMPOUND made one so", "COMPOUND"
+NO_FILE = 'directory "/" has no "e"', "OPEN"
+OLD = "state 1 has seqid 2 since entry 3 (OPEN_CONFIRM), and the stateid has the earlier 1", STATEIDS
 
 
 class Story:
     """Calls to a server, one after the other, and the reasons that are wanted of those that are refused."""
 
-    def __init__(self, name, document=DEFAULT):
-        self.name, self.server, self.wanted = name, Recorder(Tree(document)), {}
-        # By the numbers of entries: the texts of what they do about delegations.
-        self.events = {}
-        # By the numbers of entries that have a kept answer: the texts that say whose it is.
-        self.again = {}
+    def __init__(self, document: str = DEFAULT) -> None:
+        self.server = Recorder(Tree(document))
+        self.wanted: dict[int, tuple[str, str]] = {}
+        # By the numbers of entries: what they do about delegations; and whose kept answer they have.
+        self.events: dict[int, list[str]] = {}
+        self.again: dict[int, str] = {}
 
-    def tell(self, *texts):
+    def tell(self, *texts: str) -> None:
         """What the next entry is to do about delegations."""
         self.events[self.server.entries] = list(texts)
 
-    def call(self, opnum, arguments, because=None, filehandle=FILE, principal=NOBODY):
+    def call(self, opnum: Opnum, arguments: Any, because: Because = None, filehandle: Handle = FILE,
+             principal: Sender = NOBODY) -> None:
         if because is not None:
             self.wanted[self.server.entries] = because
         self.server.apply(opnum, arguments, filehandle, principal)
 
-    def repeat(self, number, whose=None, because=None):
+    def repeat(self, number: int, whose: str | None = None, because: Because = None) -> None:
         """The call of this entry once more; where it is said whose, it has to have the answer that was kept of it."""
         if whose is not None:
             self.again[self.server.entries] = f"{whose} is the request of entry {number} again"
         call = self.server.recorded[number]
         self.call(call.opnum, call.arguments, because, call.filehandle, call.principal)
 
-    def introduce(self, name=b"c1", verifier=1, because=None, principal=NOBODY):
+    def introduce(self, name: bytes = b"c1", verifier: int = 1, because: Because = None,
+                  principal: Sender = NOBODY) -> None:
         arguments = Setclientid(verifier.to_bytes(8, "big"), name, CALLBACK)
         self.call(Opnum.SETCLIENTID, arguments, because, None, principal)
 
-    def confirm_client(self, client, confirm, because=None, principal=NOBODY, epoch=1):
+    def confirm_client(self, client: int, confirm: int, because: Because = None, principal: Sender = NOBODY,
+                       epoch: int = 1) -> None:
         self.call(Opnum.SETCLIENTID_CONFIRM, SetclientidConfirm(epoch, client, confirm), because, None, principal)
 
-    def open(self, seqid, because=None, owner=b"A", access=3, deny=0, client=1, epoch=1, **more):
+    def open(self, seqid: int, because: Because = None, owner: bytes = b"A", access: int = 3, deny: int = 0,
+             client: int = 1, epoch: int = 1, **more: Any) -> None:
         """By the name `a`, in the root, if nothing else is said."""
         claim, how = more.get("claim", Claim(0, more.get("name", b"a"), None)), more.get("how", NO_CREATE)
         arguments = Open(seqid, access, deny, OpenOwner(epoch, client, owner), how, claim)
         self.call(Opnum.OPEN, arguments, because, more.get("directory", ROOT))
 
-    def confirm(self, seqid, stateid, because=None, filehandle=FILE):
+    def confirm(self, seqid: int, stateid: Stateid, because: Because = None, filehandle: Handle = FILE) -> None:
         self.call(Opnum.OPEN_CONFIRM, OpenConfirm(stateid, seqid), because, filehandle)
 
-    def close(self, seqid, stateid, because=None, filehandle=FILE):
+    def close(self, seqid: int, stateid: Stateid, because: Because = None, filehandle: Handle = FILE) -> None:
         self.call(Opnum.CLOSE, Close(seqid, stateid), because, filehandle)
 
-    def lock_first(self, seqid, stateid, lock_seqid, because=None, owner=LockOwner(1, 1, b"x"), locktype=2, **more):
+    def lock_first(self, seqid: int, stateid: Stateid, lock_seqid: int, because: Because = None,
+                   owner: LockOwner = LockOwner(1, 1, b"x"), locktype: int = 2, **more: Any) -> None:
         locker = NewLocker(seqid, stateid, lock_seqid, owner)
         asked = more.get("reclaim", 0), more.get("offset", 0), more.get("length", 10)
         self.call(Opnum.LOCK, Lock(locktype, *asked, locker), because, more.get("filehandle", FILE))
 
-    def lock_next(self, seqid, stateid, because=None):
+    def lock_next(self, seqid: int, stateid: Stateid, because: Because = None) -> None:
         self.call(Opnum.LOCK, Lock(2, 0, 0, 10, KnownLocker(stateid, seqid)), because)
 
-    def unlock(self, seqid, stateid, because=None, length=10):
+    def unlock(self, seqid: int, stateid: Stateid, because: Because = None, length: int = 10) -> None:
         self.call(Opnum.LOCKU, Locku(2, seqid, stateid, 0, length), because)
 
-    def give_back(self, stateid, because=None, filehandle=FILE):
+    def give_back(self, stateid: Stateid, because: Because = None, filehandle: Handle = FILE) -> None:
         self.call(Opnum.DELEGRETURN, Delegreturn(stateid), because, filehandle)
 
-    def read(self, stateid, because=None, filehandle=FILE):
+    def read(self, stateid: Stateid, because: Because = None, filehandle: Handle = FILE) -> None:
         self.call(Opnum.READ, Read(stateid, 0, 5), because, filehandle)
 
-    def write(self, stateid, because=None, filehandle=FILE, offset=0):
+    def write(self, stateid: Stateid, because: Because = None, filehandle: Handle = FILE, offset: int = 0) -> None:
         self.call(Opnum.WRITE, Write(stateid, offset, 2, b"bytes"), because, filehandle)
 
-    def list(self, because=None, filehandle=ROOT, **more):
+    def list(self, because: Because = None, filehandle: Handle = ROOT, **more: Any) -> None:
         """The names and numbers of a directory's children."""
         arguments = Readdir(0, bytes(8), 0, 4096, (1 << 20,))._replace(**more)
         self.call(Opnum.READDIR, arguments, because, filehandle)
 
-    def ask_for(self, mask, because=None, filehandle=FILE):
+    def ask_for(self, mask: Sequence[int], because: Because = None, filehandle: Handle = FILE) -> None:
         self.call(Opnum.GETATTR, Getattr(mask), because, filehandle)
 
-    def set(self, mask, values, because=None, filehandle=FILE, stateid=ZEROS):
+    def set(self, mask: Sequence[int], values: bytes, because: Because = None, filehandle: Handle = FILE,
+            stateid: Stateid = ZEROS) -> None:
         self.call(Opnum.SETATTR, Setattr(stateid, (mask, values)), because, filehandle)
 
-    def expire(self, client, now=91):
+    def expire(self, client: int, now: int = 91) -> None:
         self.server.expire(client, 0, now)
 
 
-def begun(name):
+def begun() -> Story:
     """Client 1, live; and state 1, its open of `a` by A for both, confirmed: entries 0 to 3. The next is 3."""
-    story = Story(name)
+    story = Story()
     story.introduce()
     story.confirm_client(1, 1)
     story.open(1)
@@ -107,13 +123,13 @@ def begun(name):
     return story
 
 
-def state(number, seqid=1, client=1, epoch=1):
+def state(number: int, seqid: int = 1, client: int = 1, epoch: int = 1) -> Stateid:
     return Stateid(seqid, epoch, client, number)
 
 
-def stateids():
+def stateids() -> Story:
     """Each cause of BAD_STATEID, and the other verdicts."""
-    story = begun("stateids")
+    story = begun()
     story.lock_first(3, state(1, 2), 1)
     story.close(4, Stateid(0, 0, 0, 0), ("all bits of the stateid are zero, and it names no state", STATEIDS))
     story.close(4, Stateid(*[LAST] * 4), ("all bits of the stateid are one, and it names no state", STATEIDS))
@@ -128,15 +144,14 @@ def stateids():
     story.close(4, state(1, 2), (place, STATEIDS), OTHER_FILE)
     later = "state 1 has seqid 2 since entry 3 (OPEN_CONFIRM), and the stateid has the later 3"
     story.close(4, state(1, 3), (later, STATEIDS))
-    old = "state 1 has seqid 2 since entry 3 (OPEN_CONFIRM), and the stateid has the earlier 1"
-    story.close(4, state(1), (old, STATEIDS))
+    story.close(4, state(1), OLD)
     story.confirm(5, state(1, 2), ('open owner "A" of client 1 is confirmed since entry 3', "OPEN_CONFIRM"))
     return story
 
 
-def ends():
+def ends() -> Story:
     """States that have ended, each in its way, and one of another client."""
-    story = begun("states that ended")
+    story = begun()
     story.lock_first(3, state(1, 2), 1)
     story.close(4, state(1, 2))
     story.close(5, state(1, 2), (f"state 1, an {OPEN_A}, was ended by entry 5 (CLOSE)", STATEIDS))
@@ -155,16 +170,16 @@ def ends():
     return story
 
 
-def clients():
-    story = begun("clients")
+def clients() -> Story:
+    story = begun()
     story.introduce(b"c2")
     never = ("client 2, which entry 4 (SETCLIENTID) gave, was never confirmed", CLIENT_IDS)
     story.open(1, never, client=2)
     story.introduce(b"c2")
-    never = ("client 2, which entry 4 (SETCLIENTID) gave, was never confirmed, and entry 6 (SETCLIENTID) gave its id "
+    again = ("client 2, which entry 4 (SETCLIENTID) gave, was never confirmed, and entry 6 (SETCLIENTID) gave its id "
              "client 258 (slot 2, second)")
-    story.open(1, (never, CLIENT_IDS), client=2)
-    story.close(1, state(1, client=2), (never, STATEIDS))
+    story.open(1, (again, CLIENT_IDS), client=2)
+    story.close(1, state(1, client=2), (again, STATEIDS))
     story.open(1, ("client 4 was never given", CLIENT_IDS), client=4)
     story.open(1, ("client 514 (slot 2, third) was never given", CLIENT_IDS), client=514)
     story.close(1, state(1, client=512), ("the stateid is one of client 512, which was never given", STATEIDS))
@@ -197,10 +212,10 @@ def clients():
     return story
 
 
-def records_that_give_way():
+def records_that_give_way() -> Story:
     """Client 1, which asks for another callback, and 254 ids whose records wait: entries 3 to 256. Where another id
     comes the first of these gives way, and not the record of client 1, though that came before."""
-    story = Story("records that give way")
+    story = Story()
     story.introduce()
     story.confirm_client(1, 1)
     story.introduce()
@@ -227,19 +242,18 @@ def records_that_give_way():
     return story
 
 
-def sequence_ids():
+def sequence_ids() -> Story:
     """Also requests that come again, whose answers are given again."""
-    story = begun("sequence ids")
+    story = begun()
     due = '3 is the next sequence id of open owner "A" of client 1, after entry 3 (OPEN_CONFIRM), and '
     story.close(4, state(1, 2), (due + "4 came", OWNERS))
     story.close(2, state(1), (due + "2 came: that of the entry itself, with another operation", OWNERS))
     itself = due + "2 came: that of the entry itself, with "
     story.confirm(2, state(1, 2), (itself + "other arguments", OWNERS))
     story.confirm(2, state(1), (itself + "another current filehandle", OWNERS), OTHER_FILE)
-    story.open(3, ('directory "/" has no "e"', "OPEN"), name=b"e")
-    again = ('it is the request of entry 8 (OPEN) again, and gets the same answer; what stood in its way then: '
-             'directory "/" has no "e"')
-    story.repeat(8, OPEN_BY_A, (again, OWNERS))
+    story.open(3, NO_FILE, name=b"e")
+    again = "it is the request of entry 8 (OPEN) again, and gets the same answer; what stood in its way then: "
+    story.repeat(8, OPEN_BY_A, (again + NO_FILE[0], OWNERS))
     story.lock_first(4, state(1, 2), 7)
     due = '8 is the next sequence id of lock owner "x" of client 1, after entry 10 (LOCK), and '
     story.unlock(7, state(2), (due + "7 came: that of the entry itself, with another operation", OWNERS))
@@ -253,9 +267,9 @@ def sequence_ids():
     return story
 
 
-def kept_answers():
+def kept_answers() -> Story:
     """A request of each operation that an owner has, which comes again; also a refusal, and one that comes twice."""
-    story = Story("kept answers")
+    story = Story()
     story.introduce()
     story.confirm_client(1, 1)
     # Entries 2 to 5: state 1 is the open of `a` by A.
@@ -276,18 +290,17 @@ def kept_answers():
     story.unlock(3, state(2, 2))
     story.repeat(14, 'LOCKU by lock owner "x" of client 1')
     # Entries 16 to 19: a refusal is kept as well, and a CLOSE though the open is gone.
-    story.open(6, ('directory "/" has no "e"', "OPEN"), name=b"e")
-    again = ('it is the request of entry 16 (OPEN) again, and gets the same answer; what stood in its way then: '
-             'directory "/" has no "e"')
-    story.repeat(16, OPEN_BY_A, (again, OWNERS))
+    story.open(6, NO_FILE, name=b"e")
+    again = "it is the request of entry 16 (OPEN) again, and gets the same answer; what stood in its way then: "
+    story.repeat(16, OPEN_BY_A, (again + NO_FILE[0], OWNERS))
     story.close(7, state(1, 4))
     story.repeat(18, 'CLOSE by open owner "A" of client 1')
     return story
 
 
-def no_kept_answers():
+def no_kept_answers() -> Story:
     """Calls that come again, and mostly get the same answer, but no kept one, except the last."""
-    story = begun("no kept answers")
+    story = begun()
     # Of no owner, and of one that has gone on since: entries 4 to 8.
     story.repeat(1)
     story.read(state(1, 2))
@@ -299,9 +312,8 @@ def no_kept_answers():
     story.repeat(8, None, (due, OWNERS))
     story.repeat(8, None, (due, OWNERS))
     # A refusal behind which the owner is still unknown: 11 and 12.
-    missing = ('directory "/" has no "e"', "OPEN")
-    story.open(1, missing, owner=b"C", name=b"e")
-    story.repeat(11, None, missing)
+    story.open(1, NO_FILE, owner=b"C", name=b"e")
+    story.repeat(11, None, NO_FILE)
     # A lock state that has ended: 13 to 16.
     story.lock_first(4, state(1, 3), 1)
     story.unlock(2, state(2))
@@ -315,11 +327,11 @@ def no_kept_answers():
     return story
 
 
-def opens():
+def opens() -> Story:
     """What an OPEN is refused for."""
-    story = begun("opens")
-    refused = (
-        ("no filehandle is current: no operation before it in its COMPOUND made one so", {"directory": None}),
+    story = begun()
+    refused: tuple[tuple[str, dict[str, Any]], ...] = (
+        (NO_HANDLE[0], {"directory": None}),
         ("it reclaims (CLAIM_PREVIOUS), and no run keeps anything of the one before", {"claim": Claim(1, None, 0)}),
         ("CLAIM_DELEGATE_PREV isn't supported", {"claim": Claim(3, b"a", None)}),
         ("the access is 0, and has to be 1 to 3", {"access": 0}),
@@ -334,8 +346,8 @@ def opens():
         ('file "/a" is there, and EXCLUSIVE4 creates a new one', {"how": Openhow(1, 2, bytes(8))}))
     seqid = 3
     for text, asked in refused:
-        story.open(seqid, (text, "COMPOUND" if text.startswith("no filehandle") else "OPEN"), **asked)
-        seqid += not text.startswith("no filehandle")
+        story.open(seqid, NO_HANDLE if text in NO_HANDLE else (text, "OPEN"), **asked)
+        seqid += text not in NO_HANDLE
     other = "of the delegation's stateid: the stateid is of epoch 3, and this server's is 1"
     story.open(seqid, (other, STATEIDS), claim=Claim(2, b"a", state(1, epoch=3)))
     other = f"of the delegation's stateid: the stateid is that of state 1, an {OPEN_A}; a delegation is wanted here"
@@ -344,8 +356,8 @@ def opens():
     return story
 
 
-def shares():
-    story = begun("shares")
+def shares() -> Story:
+    story = begun()
     share = "Share reservations"
     held = 'open owner "A" of client 1 has file "/a" open for WRITE, which this OPEN denies, since entry 2'
     story.open(1, (held, share), b"B", 1, 2)
@@ -365,9 +377,9 @@ def shares():
     return story
 
 
-def many_shares():
+def many_shares() -> Story:
     """Of many that are in the way some are named."""
-    story = begun("many shares")
+    story = begun()
     named = ['open owner "A" of client 1 has file "/a" open for READ, which this OPEN denies, since entry 2']
     for number, name in enumerate((b"B", b"C", b"D", b"E"), 4):
         story.open(1, None, name, 1)
@@ -377,8 +389,8 @@ def many_shares():
     return story
 
 
-def locks():
-    story = begun("locks")
+def locks() -> Story:
+    story = begun()
     reclaims = "it reclaims, and no lock outlives a run"
     story.lock_first(3, state(1, 2), 1, (reclaims, "LOCK"), reclaim=1)
     story.lock_first(4, state(1, 2), 1, ("a length of 0 names no bytes", RANGES), length=0)
@@ -409,14 +421,14 @@ def locks():
     return story
 
 
-def bytes_of_files():
+def bytes_of_files() -> Story:
     """READ and WRITE by special stateids, and by those of opens and lock states."""
-    story, second = begun("bytes of files"), state(1, 2)
-    missing = ("no filehandle is current: no operation before it in its COMPOUND made one so", "COMPOUND")
+    story, second = begun(), state(1, 2)
     directory = 'the current filehandle is that of directory "/d", and no file\'s'
-    for ask, heading in ((story.read, "READ"), (story.write, "WRITE")):
+    asks: list[tuple[Callable[..., None], str]] = [(story.read, "READ"), (story.write, "WRITE")]
+    for ask, heading in asks:
         for stateid in (ZEROS, second):
-            ask(stateid, missing, None)
+            ask(stateid, NO_HANDLE, None)
             ask(stateid, (directory, heading), DIRECTORY)
         ask(ZEROS)
         ask(second)
@@ -454,9 +466,9 @@ def bytes_of_files():
     return story
 
 
-def bytes_of_lent_files():
+def bytes_of_lent_files() -> Story:
     """READ and WRITE by delegations, and by special stateids beside them."""
-    story = lent("bytes of lent files")
+    story = lent()
     story.write(state(2))
     story.read(state(2))
     bars = (f"state 2, {A_DELEGATION} to client 1 since entry 4 (OPEN), keeps out READs and WRITEs by a special "
@@ -487,10 +499,10 @@ def bytes_of_lent_files():
 A_DELEGATION, TO_READ = 'a delegation of file "/a" for writing', 'a delegation of file "/b" for reading'
 
 
-def lent(name):
+def lent() -> Story:
     """Client 1 has state 1, its open of `a` by A, and state 2, a delegation for writing: entries 0 to 4. A's next
     sequence id is 4. Client 2 is live: entries 5 and 6."""
-    story = Story(name, 'policy.callbacks = "assume"\n' + DEFAULT)
+    story = Story('policy.callbacks = "assume"\n' + DEFAULT)
     story.introduce()
     story.confirm_client(1, 1)
     story.open(1)
@@ -502,9 +514,9 @@ def lent(name):
     return story
 
 
-def delays():
+def delays() -> Story:
     """OPENs that meet delegations of others, called back by them or before."""
-    story = lent("delays")
+    story = lent()
     bars = f"state 2, {A_DELEGATION} to client 1 since entry 4 (OPEN), keeps out any open of another client, and "
     story.open(1, (bars + "is called back now", DELEGATIONS), b"B", 1, client=2)
     story.open(1, (bars + "was called back by entry 7 (OPEN)", DELEGATIONS), b"B", 2, client=2)
@@ -523,9 +535,9 @@ def delays():
     return story
 
 
-def many_delays():
+def many_delays() -> Story:
     """Of many that are in the way some are named, in the order of their numbers."""
-    story, named = Story("many delays", 'policy.callbacks = "assume"\n' + DEFAULT), []
+    story, named = Story('policy.callbacks = "assume"\n' + DEFAULT), []
     for client in range(1, 6):
         story.introduce(b"c%d" % client)
         story.confirm_client(client, client)
@@ -542,9 +554,9 @@ def many_delays():
     return story
 
 
-def delegation_stateids():
+def delegation_stateids() -> Story:
     """Of delegations, in the operations that work on them and in those that don't."""
-    story, other = lent("stateids of delegations"), "the stateid is that of state 2, "
+    story, other = lent(), "the stateid is that of state 2, "
     story.close(4, state(2), (f"{other}{A_DELEGATION} to client 1, and a delegation has no owner", OWNERS))
     wanted = f"the stateid is that of state 1, an {OPEN_A}; a delegation is wanted here"
     story.give_back(state(1, 3), (wanted, STATEIDS))
@@ -553,8 +565,7 @@ def delegation_stateids():
     stands = "state 2 has seqid 1 since entry 4 (OPEN), and the stateid has the "
     story.give_back(state(2, 0), (stands + "earlier 0", STATEIDS))
     story.give_back(state(2, 2), (stands + "later 2", STATEIDS))
-    missing = "no filehandle is current: no operation before it in its COMPOUND made one so"
-    story.give_back(state(2), (missing, "COMPOUND"), None)
+    story.give_back(state(2), NO_HANDLE, None)
     strange = "the stateid is of epoch 2, and this server's is 1"
     story.give_back(state(2, epoch=2), (strange, STATEIDS))
     whose = "state 2 was given to client 1, and the stateid is one of client 2"
@@ -575,9 +586,9 @@ def delegation_stateids():
     return story
 
 
-def ends_of_delegations():
+def ends_of_delegations() -> Story:
     """Returned after a recall, revoked, and gone with their clients."""
-    story = lent("ends of delegations")
+    story = lent()
     bars = f"state 2, {A_DELEGATION} to client 1 since entry 4 (OPEN), keeps out any open of another client, and "
     called = (bars + "is called back now", DELEGATIONS)
     story.open(1, called, b"B", 1, client=2)
@@ -610,9 +621,9 @@ def ends_of_delegations():
     return story
 
 
-def clients_with_delegations():
+def clients_with_delegations() -> Story:
     """A delegation is state of its client, and goes where another one takes its place."""
-    story = lent("clients with delegations")
+    story = lent()
     story.close(4, state(1, 3))
     used = (f'the id "c1" is that of client 1, by AUTH_NONE, which has state: state 2, {A_DELEGATION} to client 1, '
             "since entry 4 (OPEN)")
@@ -625,9 +636,9 @@ def clients_with_delegations():
     return story
 
 
-def clients_of_slots():
+def clients_of_slots() -> Story:
     """Clients 257 and 258, live, each the second in its slot: entries 3 to 7. The first has a delegation."""
-    story = Story("clients of slots", 'policy.callbacks = "assume"\n' + DEFAULT)
+    story = Story('policy.callbacks = "assume"\n' + DEFAULT)
     one, other = "client 257 (slot 1, second)", "client 258 (slot 2, second)"
     story.introduce()
     story.confirm_client(1, 1)
@@ -658,9 +669,9 @@ def clients_of_slots():
     return story
 
 
-def owners_that_are_forgotten():
+def owners_that_are_forgotten() -> Story:
     """The number of a closed open leads nowhere then; nor did it where the CLOSE wasn't the kept request any longer."""
-    story = begun("owners that are forgotten")
+    story = begun()
     story.close(3, state(1, 2))
     story.server.forget(91)
     closed = f"state 1, an {OPEN_A}, was ended by entry 4 (CLOSE)"
@@ -680,17 +691,16 @@ def owners_that_are_forgotten():
     story.close(3, state(1, 2), ended)
     story.confirm(8, state(2))
     story.close(9, state(2, 2))
-    story.open(10, ('directory "/" has no "e"', "OPEN"), name=b"e")
+    story.open(10, NO_FILE, name=b"e")
     story.server.forget(91)
     story.close(9, state(2, 2), (f"state 2, an {OPEN_A}, was ended by entry 16 (CLOSE)", OWNERS))
     return story
 
 
-def listings():
+def listings() -> Story:
     """READDIR, and GETATTR of what can only be set, under the profile "clients"."""
-    story = Story("listings", FOR_CLIENTS)
-    missing = ("no filehandle is current: no operation before it in its COMPOUND made one so", "COMPOUND")
-    story.list(missing, filehandle=None)
+    story = Story(FOR_CLIENTS)
+    story.list(NO_HANDLE, filehandle=None)
     story.list(('the current filehandle is that of file "/a", and no directory\'s', "READDIR"), filehandle=FILE)
     story.list()
     story.list(("attribute 54 (time_modify_set) can only be set", "READDIR"), mask=(0, 1 << 22), cookie=1)
@@ -706,7 +716,7 @@ def listings():
     story.list(("a listing without an entry has 16 bytes, and 15 are the most here", "READDIR"), cookie=5, maxcount=15)
     story.list(maxcount=56)
     story.list(cookie=5, maxcount=16)
-    story.ask_for((0, 1 << 16), missing, None)
+    story.ask_for((0, 1 << 16), NO_HANDLE, None)
     story.ask_for((0, 1 << 16), ("attribute 48 (time_access_set) can only be set", "GETATTR"))
     story.ask_for((2**32 - 1, 2**32 - 1), ("attribute 48 (time_access_set); 54 (time_modify_set) can only be set",
                                            "GETATTR"))
@@ -714,20 +724,20 @@ def listings():
     return story
 
 
-def sizes():
+def sizes() -> Story:
     """SETATTR under the profile "clients"."""
-    story = Story("sizes", FOR_CLIENTS)
+    story = Story(FOR_CLIENTS)
     story.introduce()
     story.confirm_client(1, 1)
     story.open(1, access=1, deny=2)
     story.confirm(2, state(1))
     size, server_time = (2).to_bytes(8, "big"), bytes(4)
 
-    def refuse(mask, values, text, heading="SETATTR", filehandle=OTHER_FILE, stateid=ZEROS):
+    def refuse(mask: Sequence[int], values: bytes, text: str, heading: str = "SETATTR",
+               filehandle: Handle = OTHER_FILE, stateid: Stateid = ZEROS) -> None:
         story.set(mask, values, (text, heading), filehandle, stateid)
 
-    missing = "no filehandle is current: no operation before it in its COMPOUND made one so"
-    refuse((16,), size, missing, "COMPOUND", None)
+    refuse((16,), size, *NO_HANDLE, None)
     refuse((24, 1 << 16), b"", "attribute 48 (time_access_set) isn't supported")
     refuse((0, 0, 1), b"", "attribute 64 isn't supported")
     refuse((2**32 - 1,), b"", "attribute 12; 13; 14; and 8 more isn't supported")
@@ -743,8 +753,7 @@ def sizes():
     story.set((), b"", filehandle=DIRECTORY, stateid=state(9))
     refuse((16,), size, 'the current filehandle is that of directory "/d", and no file\'s', filehandle=DIRECTORY)
     refuse((16,), size, 'open owner "A" of client 1 denies WRITE of file "/a" since entry 2', filehandle=FILE)
-    refuse((16,), size, "state 1 has seqid 2 since entry 3 (OPEN_CONFIRM), and the stateid has the earlier 1", STATEIDS,
-           FILE, state(1))
+    refuse((16,), size, *OLD, FILE, state(1))
     access = f"SETATTR takes access to WRITE, and state 1, an {OPEN_A}, has access to READ alone"
     refuse((16,), size, access, filehandle=FILE, stateid=state(1, 2))
     refuse((0, 1 << 22), server_time, "the stateid is of epoch 2, and this server's is 1", STATEIDS, FILE,
@@ -754,9 +763,9 @@ def sizes():
     return story
 
 
-def closes_beside_locks():
+def closes_beside_locks() -> Story:
     """Refused as long as a byte is held; and what comes before that."""
-    story = Story("CLOSEs beside locks", 'policy.close_locks = "refuse"\n' + DEFAULT)
+    story = Story('policy.close_locks = "refuse"\n' + DEFAULT)
     story.introduce()
     story.confirm_client(1, 1)
     story.open(1)
@@ -775,8 +784,7 @@ def closes_beside_locks():
             "changed last by entry 7 (LOCK)")
     both = by_x.format(3, ", the first of 2 ranges") + f"entry 8 (LOCKU); {by_y}"
     story.close(6, state(1, 2), (both, "CLOSE"))
-    old = "state 1 has seqid 2 since entry 3 (OPEN_CONFIRM), and the stateid has the earlier 1"
-    story.close(7, state(1), (old, STATEIDS))
+    story.close(7, state(1), OLD)
     story.unlock(3, state(2, 2), length=ALL)
     story.close(8, state(1, 2), (by_y, "CLOSE"))
     story.unlock(2, state(3), length=ALL)
@@ -784,8 +792,7 @@ def closes_beside_locks():
     return story
 
 
-def stories():
-    return [stateids(), ends(), clients(), records_that_give_way(), sequence_ids(), kept_answers(), no_kept_answers(),
-            opens(), shares(), many_shares(), locks(), bytes_of_files(), bytes_of_lent_files(), delays(), many_delays(),
-            delegation_stateids(), ends_of_delegations(), clients_with_delegations(), clients_of_slots(),
-            owners_that_are_forgotten(), closes_beside_locks(), listings(), sizes()]
+STORIES = (stateids, ends, clients, records_that_give_way, sequence_ids, kept_answers, no_kept_answers, opens, shares,
+           many_shares, locks, bytes_of_files, bytes_of_lent_files, delays, many_delays, delegation_stateids,
+           ends_of_delegations, clients_with_delegations, clients_of_slots, owners_that_are_forgotten,
+           closes_beside_locks, listings, sizes)
