@@ -1,8 +1,8 @@
 """The bytes that a lock owner holds of a file, and what the server reports of them (RFC 7530, sections 9.2 and 16.10).
 
 Bytes are numbered from 0 to 2^64 - 1. What is held is kept as steps: the bytes at which the mode changes, each with the
-mode from there on, and no two neighbours of one mode. `check_ranges.py` compares this with plain lists of bytes.
-"""
+mode from there on, and no two neighbours of one mode. `tools/gate/test_ranges.py` compares this with plain lists of
+bytes."""
 from bisect import bisect_right
 from typing import Any, NamedTuple
 

@@ -2,8 +2,8 @@
 heading of docs/RULES.md that says so.
 
 `Causes` goes through the rules of an operation in their order, as the model does, and says of each that refuses the
-call what it found. The first one is the reason. `check_reasons.py` sees that each refusal has one, of the status that
-was answered, and that no other call has any."""
+call what it found. The first one is the reason. `tools/gate/test_reasons.py` sees that each refusal has one, of the
+status that was answered, and that no other call has any."""
 from collections.abc import Callable, Iterable, Iterator, Sequence
 from typing import Any, NamedTuple, TypeVar
 

@@ -2,7 +2,7 @@ use crate::peer::Peer;
 use std::io;
 
 /// A recall for which memory is refused stays in hand, and goes out before those that came behind it.
-/// `tools/refuse_growths` runs this with each of its growths refused in turn.
+/// `tools/gate/test_growths.py` runs this with each of its growths refused in turn.
 #[test]
 fn recall_in_hand(rt: HostRuntime) -> io::Result<()> {
     let mut peer = match with_recalls(&rt) {
