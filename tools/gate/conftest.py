@@ -27,6 +27,7 @@ def pytest_addoption(parser: pytest.Parser) -> None:
 def pytest_configure(config: pytest.Config) -> None:
     config.addinivalue_line("markers", "alone: judged by a clock, by memory or by processor time")
     config.addinivalue_line("markers", "by_hand: too long for the gate, and run with --by-hand alone")
+    config.addinivalue_line("markers", "long: begins before the others, which go on beside it")
     # Where the tests are ended, so are the servers.
     signal.signal(signal.SIGTERM, lambda *_: sys.exit(1))
 
@@ -36,6 +37,7 @@ def pytest_collection_modifyitems(config: pytest.Config, items: list[pytest.Item
         left_out = [item for item in items if item.get_closest_marker("by_hand")]
         config.hook.pytest_deselected(items=left_out)
         items[:] = [item for item in items if item not in left_out]
+    items.sort(key=lambda item: item.get_closest_marker("long") is None)
 
 
 def pytest_terminal_summary(terminalreporter: Any) -> None:

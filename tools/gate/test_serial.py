@@ -2,9 +2,12 @@
 import os
 import subprocess
 
+import pytest
+
 from nfs4.served import TOP
 
 
+@pytest.mark.long
 def test_serial():
     ran = subprocess.run([os.path.join(TOP, "tools/try_serial")], stdout=subprocess.PIPE, stderr=subprocess.STDOUT,
                          text=True)

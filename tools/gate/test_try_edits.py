@@ -212,6 +212,7 @@ def expect_below(top):
     assert status == 1 and "the control `after_next` isn't proved" in said and "\n0 passed, " in said, said
 
 
+@pytest.mark.long
 def test_try_edits(top, tell):
     refused = expect_all(top)
     expect_kept(top, refused)
