@@ -10,6 +10,7 @@ from nfs4.served import NO_CALLBACKS, TOP
 SAMPLE = os.path.join(TOP, "samples/ci_job.sh")
 # The words of its client, in whose place others are put.
 CLIENT = 'tools/send_rows --names "${address%:*}" "${address##*:}" samples/two_owners.rows'
+NO_CALL = "no call on the state came\n"
 # What a client does that closes its open by an id that isn't its owner's next, and is content with the answer.
 WRONG_ID = """row a CLOSE by a wrong id
   rule The next id is 3.
@@ -33,11 +34,11 @@ WRONG_ID = """row a CLOSE by a wrong id
 @pytest.fixture(params=["crates/nfs4state/out/nfs4state serve", "tools/model/serve.py"], ids=["program", "model"])
 def run_job(request, path_of):
     """Runs the job with this client over the server: its status, and what it prints."""
-    def run(client):
+    def run(client, patience="timeout -k 5 60"):
         with open(SAMPLE, encoding="utf-8") as sample:
             text = sample.read()
-        assert text.count(CLIENT) == 1
-        command = ["sh", "-c", text.replace(CLIENT, client), "job", path_of("run.journal"), *request.param.split()]
+        assert text.count(f"timeout -k 5 60 {CLIENT}") == 1
+        command = ["sh", "-c", text.replace(f"timeout -k 5 60 {CLIENT}", f"{patience} {client}"), "job", path_of("run.journal"), *request.param.split()]
         ran = subprocess.run([*command, "--tree", NO_CALLBACKS], cwd=TOP, stdout=subprocess.PIPE, text=True, timeout=300)
         return ran.returncode, ran.stdout
     return run
@@ -50,11 +51,18 @@ def test_right_client(run_job):
 def test_client_that_fails(run_job):
     status, lines = run_job(f"{CLIENT} && (exit 3)")
     assert status == 1
-    assert lines == "".join(f"1 rows: 0 failed\nclient {number}: status 3\n" for number in (1, 2, 3))
+    assert lines == "".join(f"1 rows: 0 failed\nclient {number}: it ended badly\n" for number in (1, 2, 3))
+
+
+def test_client_that_goes_on(run_job):
+    """It doesn't end when it is asked to, either."""
+    status, lines = run_job("sh -c 'trap : TERM; while :; do sleep 1; done'", "timeout -k 1 1")
+    assert status == 1
+    assert lines == "".join(f"client {number}: it took more than a minute\n" for number in (1, 2, 3)) + NO_CALL
 
 
 def test_client_that_calls_nothing(run_job):
-    assert run_job("true") == (1, "no call on the state came\n")
+    assert run_job("true") == (1, NO_CALL)
 
 
 def test_client_that_is_wrong(run_job, path_of):
