@@ -21,6 +21,9 @@ import multiprocessing
 import random
 import sys
 from collections import Counter
+from collections.abc import Callable, Iterator, Sequence
+from dataclasses import replace
+from typing import Any, TypeVar
 
 sys.dont_write_bytecode = True
 from packages import make_known
@@ -33,13 +36,19 @@ from model.operations.readdir import LISTING_ENDS
 from model.pages import CASES, CUTS, LENGTHS, PAGE, Pages
 from model.ranges import ALL_ONES, LAST_BYTE
 from model.server import CLIENTS_LIMIT
-from model.states import Delegation, LockState, Refusal, SLOTS, handle_of, next_sequence_id
+from model.states import (ClientRecord, Delegation, KeptState, LockState, Owner, OwnerName, Refusal, Request, Result,
+                          SLOTS, handle_of, next_sequence_id)
 from model.tree import CLIENTS, CLOSE_LOCKS, DEFAULT, PROFILES, TEXT_LIMIT, Tree
 from nfs4 import rows, wire
-from nfs4.rows import Forget, Mark, Part, Pending, Probe, Revoke, Row, Sweep, Take
-from nfs4.wire import Opnum, Status, opaque, u32, u64
+from nfs4.rows import Forget, Mark, Order, Part, Pending, Probe, Revoke, Row, Step, Sweep, Take
+from nfs4.wire import OpenOwner, Opnum, Principal, Status, opaque, u32, u64
 from sending.driver import ALONE, PROGRAM, SHARED
 from sending.running import WHOLE, run as run_row
+
+T = TypeVar("T")
+# Operations of a call: each as its bytes, or as what makes them when the model comes to it.
+Operations = list[bytes | Callable[[], bytes]]
+Maker = Callable[[], Operations]
 
 NAMES = [b"a", b"b", b"d", b"c", b"e", b"", b"x" * 256]
 FILES = [1, 1, 1, 2]
@@ -74,13 +83,15 @@ LISTED = "".join(f'[[file]]\npath = "{"n" * length}{length}"\n' for length in (1
 class Counting(Recorder):
     """The model, which counts what it answers."""
 
-    def __init__(self, *given):
+    def __init__(self, *given: Any) -> None:
         super().__init__(*given)
+        self.counts: Counter[Any] = Counter()
         # All records of clients, also those that are gone; and the owners that were forgotten, by their names.
-        self.counts, self.introduced, self.forgotten = Counter(), [], {}
+        self.introduced: list[ClientRecord] = []
+        self.forgotten: dict[OwnerName, Owner] = {}
         self.pages = Pages(self.counts)
 
-    def effect(self, opnum, arguments, subject):
+    def effect(self, opnum: Opnum, arguments: Any, subject: Any) -> bytes:
         size = len(self.text_of(subject)) if opnum == Opnum.WRITE and subject is not None else 0
         rest = super().effect(opnum, arguments, subject)
         if opnum == Opnum.SETCLIENTID:
@@ -93,7 +104,7 @@ class Counting(Recorder):
             self.pages.write(subject, size, begin, begin + len(arguments.data))
         return rest
 
-    def new_number(self, replaced):
+    def new_number(self, replaced: ClientRecord | None) -> int:
         try:
             number = super().new_number(replaced)
         except Refusal:
@@ -102,51 +113,54 @@ class Counting(Recorder):
         self.counts[AGAIN] += number >= SLOTS
         return number
 
-    def give_way(self, record):
+    def give_way(self, record: ClientRecord) -> None:
         super().give_way(record)
         self.counts[YIELDED] += 1
 
-    def forget_owner(self, owner, now):
+    def forget_owner(self, owner: Owner, now: int) -> int:
         self.forgotten[owner.name] = owner
         return super().forget_owner(owner, now)
 
-    def begin_owner(self, request, owner):
+    def begin_owner(self, request: Request, owner: Owner | None) -> Result:
         result = super().begin_owner(request, owner)
         self.counts[BACK] += request.arguments.owner in self.forgotten and result.status == Status.OK
         return result
 
-    def delegate(self, client, file, kind):
+    def delegate(self, client: int, file: int, kind: int) -> bytes:
         self.counts.update([LENT[kind]] if kind in LENT else [])
         return super().delegate(client, file, kind)
 
-    def resize(self, file, size):
+    def resize(self, file: int, size: int) -> None:
         before = len(self.text_of(file))
         super().resize(file, size)
         self.pages.resize(file, before, size)
 
-    def apply(self, opnum, arguments, filehandle, principal, is_refused=False):
+    def apply(self, opnum: Opnum, arguments: Any, filehandle: int | None, principal: Principal,
+              is_refused: bool = False) -> Result:
         result = super().apply(opnum, arguments, filehandle, principal, is_refused)
         self.counts[opnum, result.status] += 1
         return result
 
 
 class Drawn(wire.Reader):
-    """The operations of a call, each of which is made when the model comes to it: as bytes, or by what makes them."""
+    """The operations of a call, each of which is made when the model comes to it."""
 
-    def __init__(self, maker):
+    def __init__(self, maker: Maker) -> None:
         super().__init__(b"")
-        self.maker, self.operations, self.waiting = maker, [], []
+        self.maker = maker
+        self.operations: list[bytes] = []
+        self.waiting: Operations = []
 
-    def u32(self):
+    def u32(self) -> int:
         if self.at == len(self.data):
             self.waiting = self.waiting or self.maker()
             operation = self.waiting.pop(0)
-            self.operations.append(operation() if callable(operation) else operation)
+            self.operations.append(operation if isinstance(operation, bytes) else operation())
             self.data += self.operations[-1]
         return super().u32()
 
 
-def document_of(chance, profile):
+def document_of(chance: random.Random, profile: str) -> str:
     """Mostly delegations of both kinds, to clients that can be called at once; and under "clients" more to list."""
     delegations, callbacks = chance.choice(["all"] * 6 + ["read", "none"]), chance.choice(["assume"] * 3 + ["probe"])
     words = f'delegations = "{delegations}", callbacks = "{callbacks}", close_locks = "{chance.choice(CLOSE_LOCKS)}"'
@@ -158,16 +172,18 @@ def document_of(chance, profile):
 class Caller:
     """Makes calls and orders from what the server beside it has."""
 
-    def __init__(self, seed, ids=IDS, profile=None):
+    def __init__(self, seed: int, ids: int = IDS, profile: str | None = None) -> None:
         self.chance, self.kind = random.Random(seed), seed % 3
         self.profile = profile or PROFILES[seed // 3 % 2]
         self.document = document_of(self.chance, self.profile)
         self.lease = self.chance.choice([90, 90, 90, 20, 2])
         # A state that threads share isn't told all orders.
         self.way = SHARED if seed % 8 > 5 else ALONE
-        self.server, self.steps, self.again, self.moment = self.new_server(), [], [], 0
+        self.server, self.moment = self.new_server(), 0
+        self.steps: list[Step] = []
+        self.again: list[Operations] = []
         # The call that is made.
-        self.drawn = None
+        self.drawn = Drawn(self.next_operations)
         self.is_crowded = ids > IDS
         self.clients = [b"c%d" % number for number in range(1, ids + 1)]
         if self.kind == LOCKING and not self.is_crowded:
@@ -176,51 +192,57 @@ class Caller:
         # So many are to be live, and so many seconds may lie between a call and the next.
         self.wanted = min(len(self.clients), self.chance.choice([CLIENTS_LIMIT, CLIENTS_LIMIT, 200, 100]))
         self.pauses = [0] * (80 if self.is_crowded else 6) + [1, 2, self.lease // 2, self.lease // 4]
-        locks = {self.lock: 36, self.locku: 18, self.lockt: 24, self.repeat: 6, self.open: 5, self.release_lockowner: 3,
-                 self.close: 2, self.open_downgrade: 2, self.open_confirm: 1, self.delegreturn: 1, self.read: 1,
-                 self.write: 1}
-        lends = {self.open: 40, self.close: 24, self.delegreturn: 8, self.open_downgrade: 4, self.repeat: 4,
-                 self.open_confirm: 1, self.lock: 2, self.locku: 1, self.lockt: 2, self.release_lockowner: 1,
-                 self.read: 3, self.write: 3}
-        writes = {self.read: 30, self.write: 30, self.open: 14, self.close: 8, self.delegreturn: 6, self.lock: 4,
-                  self.open_downgrade: 3, self.locku: 2, self.release_lockowner: 1, self.open_confirm: 1,
-                  self.lockt: 1, self.repeat: 1, self.getattr: 4}
-        self.makers = {LOCKING: locks, LENDING: lends, WRITING: writes}[self.kind]
+        locks: dict[Maker, float] = {
+            self.lock: 36, self.locku: 18, self.lockt: 24, self.repeat: 6, self.open: 5, self.release_lockowner: 3,
+            self.close: 2, self.open_downgrade: 2, self.open_confirm: 1, self.delegreturn: 1, self.read: 1,
+            self.write: 1}
+        lends: dict[Maker, float] = {
+            self.open: 40, self.close: 24, self.delegreturn: 8, self.open_downgrade: 4, self.repeat: 4,
+            self.open_confirm: 1, self.lock: 2, self.locku: 1, self.lockt: 2, self.release_lockowner: 1,
+            self.read: 3, self.write: 3}
+        writes: dict[Maker, float] = {
+            self.read: 30, self.write: 30, self.open: 14, self.close: 8, self.delegreturn: 6, self.lock: 4,
+            self.open_downgrade: 3, self.locku: 2, self.release_lockowner: 1, self.open_confirm: 1, self.lockt: 1,
+            self.repeat: 1, self.getattr: 4}
         seldom = 6 if self.is_crowded else 0.3
-        often = {self.on_tree: 1, self.getattr: 1, self.setclientid: seldom, self.setclientid_confirm: seldom,
-                 self.renew: 0.3}
+        often: dict[Maker, float] = {
+            self.on_tree: 1, self.getattr: 1, self.setclientid: seldom, self.setclientid_confirm: seldom,
+            self.renew: 0.3}
         if self.profile == CLIENTS:
             share = {LOCKING: 0.5, LENDING: 2, WRITING: 8}[self.kind]
             often |= {self.setattr: 3 * share, self.readdir: share, self.getattr: 1 + share, self.commit: 0.3}
-        self.makers = self.makers | often
+        self.makers = {LOCKING: locks, LENDING: lends, WRITING: writes}[self.kind] | often
 
-    def new_server(self):
+    def new_server(self) -> Counting:
         return Counting(Tree(self.document), self.lease)
 
-    def is_rare(self, share):
+    def is_rare(self, share: float) -> bool:
         return self.chance.random() < share
 
-    def next_step(self):
+    def next_step(self) -> None:
         """Another call, or an order."""
         share = 0.02 if self.kind == LOCKING else 0.15
         self.steps.append(self.next_order() if self.is_rare(share) else self.next_call())
 
-    def next_order(self):
+    def next_order(self) -> Order:
         client, late = self.a_client(), self.moment + self.chance.choice([0, 1, self.lease, self.lease + 1])
-        orders = [Take(bytes(4) + u32(self.chance.getrandbits(32)))] * 4 + [Mark(client, not self.is_rare(0.3))] * 2
-        orders += [Probe(self.chance.choice([0, client]))] + [Sweep(self.moment, 0, 0)] * 3
+        orders: list[Order] = [*[Take(bytes(4) + u32(self.chance.getrandbits(32)))] * 4]
+        orders += [Mark(client, not self.is_rare(0.3))] * 2
+        orders += [Probe(self.chance.choice([0, client])), *[Sweep(self.moment, 0, 0)] * 3]
         orders += [Sweep(late, 0, 0)] * self.is_rare(0.3)
-        orders += [Revoke(late), Revoke(late), Pending(0), Forget(late), Forget(late)] * (self.way == ALONE)
-        return outcome_of(self.server, self.chance.choice(orders))
+        if self.way == ALONE:
+            orders += [Revoke(late), Revoke(late), Pending(0), Forget(late), Forget(late)]
+        order: Order = outcome_of(self.server, self.chance.choice(orders))
+        return order
 
-    def next_call(self):
+    def next_call(self) -> Part:
         """A call, at a moment that mostly is that of the one before; seldom it is an earlier one again."""
         self.moment += self.chance.choice(self.pauses)
         self.server.moment = max(0, self.moment - self.is_rare(0.05) * self.chance.randint(1, 9))
         calls = [step.sent for step in self.steps if isinstance(step, Part)]
         if calls and self.is_rare(0.04):
             sent = self.chance.choice(calls[-4:])
-            return self.part(sent, self.server.reply(sent[4:]))
+            return part_of(self.server, sent, self.server.reply(sent[4:]), self.steps)
         is_short = self.kind == LENDING and not self.is_crowded
         xid, count = len(calls) + 1, self.chance.choice([1, 2, 4, 8] if is_short else [1, 2, 4, 8, 24, 64])
         uid = self.chance.choice([None] * 20 + [0, 5])
@@ -231,82 +253,76 @@ class Caller:
         results = self.server.run_compound(wire.CompoundCall(xid, principal, b"", 0, count, drawn), frozenset())
         rest = [u32(Opnum.PUTROOTFH)] * (count - len(drawn.operations))
         call = head + b"".join(drawn.operations + rest)
-        return self.part(wire.record(call), wire.accepted(xid, wire.SUCCESS, results))
+        return part_of(self.server, wire.record(call), wire.accepted(xid, wire.SUCCESS, results), self.steps)
 
-    def part(self, sent, reply):
-        return Part(self.server.moment, sent, wire.record(reply), goes_on=bool(self.steps))
-
-    def row(self):
-        return row_of(self.steps, self.document, self.lease)
-
-    def next_operations(self):
+    def next_operations(self) -> Operations:
         """An operation, mostly after one that gives it a filehandle."""
         if len(self.live()) < self.wanted and self.is_rare(0.3 if self.is_crowded else 0.6):
             return self.newcomers() if self.is_crowded else self.setclientid() + [self.confirm_of_client]
         if len(self.server.opens) < (4 if self.kind == LOCKING else 2) and self.is_rare(0.5):
             return self.open()
         makers = list(self.makers)
-        return self.chance.choices(makers, self.makers.values())[0]()
+        return self.chance.choices(makers, list(self.makers.values()))[0]()
 
-    def repeat(self):
+    def repeat(self) -> Operations:
         """One of the last operations of an owner again."""
         return list(self.chance.choice(self.again[-6:])) if self.again else self.getattr()
 
-    def repeatable(self, operations):
+    def repeatable(self, operations: Operations) -> Operations:
         self.again.append(operations)
         return list(operations)
 
-    def near(self, number):
+    def near(self, number: int) -> int:
         """The number, or seldom one beside it."""
         return (number + self.chance.choice([1, -1, 7]) * self.is_rare(0.04)) % 2**32
 
-    def pick(self, found, default=None):
+    def pick(self, found: Sequence[T], default: T) -> T:
         return self.chance.choice(found) if found and not self.is_rare(0.01) else default
 
     # Clients and files.
 
-    def live(self):
+    def live(self) -> list[int]:
         return list(self.server.renewals)
 
-    def a_client(self):
+    def a_client(self) -> int:
         return self.in_slot(self.pick(self.live(), self.chance.randint(0, 4)))
 
-    def in_slot(self, number):
+    def in_slot(self, number: int) -> int:
         """The number, or seldom that of the client before it or behind it in its slot."""
         return (number + self.chance.choice([SLOTS, -SLOTS]) * self.is_rare(0.02)) % 2**32
 
-    def newcomers(self):
+    def newcomers(self) -> Operations:
         """Many ids that aren't live, of which most are confirmed."""
         live = {record.id for record in self.server.records if record.is_confirmed}
         found = [name for name in self.clients if name not in live]
-        operations = []
+        operations: Operations = []
         for name in self.chance.sample(found, min(len(found), NEWCOMERS)):
             operations += [self.introduction(name, b"verifier", self.addresses[0])]
             operations += [self.confirm_of_client] * (not self.is_rare(0.3))
         return operations
 
-    def confirm_of_client(self):
+    def confirm_of_client(self) -> bytes:
         """Of the SETCLIENTID before it."""
         record = self.server.records[-1]
         return u32(Opnum.SETCLIENTID_CONFIRM, 1, record.number) + u64(record.confirm)
 
-    def setclientid(self):
+    def setclientid(self) -> Operations:
         verifier = self.chance.choice([b"verifier", b"verified"])
         return [self.introduction(self.chance.choice(self.clients), verifier, self.chance.choice(self.addresses))]
 
-    def introduction(self, name, verifier, address):
+    def introduction(self, name: bytes, verifier: bytes, address: bytes) -> bytes:
         callback = u32(self.chance.choice([7, 8])) + opaque(b"tcp") + opaque(address) + u32(self.chance.choice([1, 2]))
         return u32(Opnum.SETCLIENTID) + verifier + opaque(name) + callback
 
-    def setclientid_confirm(self):
-        record = self.pick(self.server.introduced[-self.chance.choice([2, 2, CLIENTS_LIMIT]):])
+    def setclientid_confirm(self) -> Operations:
+        record = self.pick(self.server.introduced[-self.chance.choice([2, 2, CLIENTS_LIMIT]):], None)
         number, confirm = (record.number, record.confirm) if record else (1, 1)
         return [u32(Opnum.SETCLIENTID_CONFIRM, 1, self.near(number)) + u64(self.near(confirm))]
 
-    def renew(self):
+    def renew(self) -> Operations:
         return [u32(Opnum.RENEW, self.near(1), self.near(self.a_client()))]
 
-    def on_tree(self):
+    def on_tree(self) -> Operations:
         name, node = self.chance.choice(NAMES), self.chance.randint(0, 5)
         # Operations whose arguments aren't read.
         unread = [2, 6, 11, 28, 29, 40, 10044] + [5, 26, 34] * (self.profile != CLIENTS)
@@ -315,21 +331,21 @@ class Caller:
             [u32(Opnum.PUTFH) + opaque(handle_of(node)), u32(Opnum.SAVEFH)],
             [u32(Opnum.RESTOREFH), u32(Opnum.ACCESS, 63)], [u32(self.chance.choice(unread))]])
 
-    def getattr(self):
+    def getattr(self) -> Operations:
         return self.handle(self.chance.randint(0, 4)) + [u32(Opnum.GETATTR) + self.mask()]
 
-    def mask(self):
+    def mask(self) -> bytes:
         """Of attributes that are asked for: seldom of those that can only be set, and of a third word."""
         words = [self.chance.getrandbits(32), self.chance.getrandbits(32) & ~(1 << 16 | 1 << 22)]
         if self.is_rare(0.03):
             words[1] |= self.chance.choice([1 << 16, 1 << 22])
         return wire.bitmap((words + [self.chance.getrandbits(32)])[:self.chance.choice([0, 1, 1, 1, 2, 2, 2, 3])])
 
-    def commit(self):
+    def commit(self) -> Operations:
         place = u64(self.chance.getrandbits(64)) + u32(self.chance.getrandbits(32))
         return self.handle(self.chance.randint(0, 4)) + [u32(Opnum.COMMIT) + place]
 
-    def readdir(self):
+    def readdir(self) -> Operations:
         """Mostly from the beginning or a child on, and often with just the room that some entries need."""
         directory = self.chance.choice([0, 0, 0, 3, 1] if self.is_rare(0.1) else [0, 0, 0, 3])
         children, mask = self.server.tree.children(directory), self.mask()
@@ -343,7 +359,7 @@ class Caller:
         counts = u32(self.chance.choice([0, 1, LAST]), max(0, self.chance.choice(rooms)))
         return self.handle(directory) + [u32(Opnum.READDIR) + u64(cookie) + verifier + counts + mask]
 
-    def handle(self, node):
+    def handle(self, node: int) -> Operations:
         """Seldom another filehandle, and seldom none."""
         if self.is_rare(0.01):
             return []
@@ -351,11 +367,11 @@ class Caller:
 
     # States.
 
-    def state(self, found):
+    def state(self, found: Sequence[KeptState]) -> tuple[int, bytes, int]:
         """A state, mostly one of these: its file, its stateid, and the sequence id that is the next of its owner."""
         if self.is_rare(0.02):
             found = self.server.states()
-        state = self.pick(found)
+        state = self.pick(found, None)
         if state is None:
             client, number = self.a_client(), self.chance.randint(0, self.server.last_state + 1)
             return 1, u32(self.chance.choice([1, 2, 0]), self.chance.choice([1, 1, 0]), client, number), 3
@@ -365,9 +381,9 @@ class Caller:
         owners = self.server.lock_owners if isinstance(state, LockState) else self.server.open_owners
         return state.file, stateid, self.near(next_sequence_id(owners[state.owner].kept.seqid))
 
-    def open(self):
+    def open(self) -> Operations:
         name = self.chance.choice(OPEN_OWNERS)
-        owner = (1, self.a_client(), name)
+        owner = OpenOwner(1, self.a_client(), name)
         known = self.server.open_owners.get(owner)
         seqid = next_sequence_id(known.kept.seqid) if known else self.chance.choice([0, 5, LAST])
         access = self.chance.choice([3] * 10 + [1] * (4 if self.kind == LOCKING else 12) + [2] * 4 + [0, 4])
@@ -378,29 +394,28 @@ class Caller:
         claim += opaque(self.chance.choice(NAMES[:2] * 20 + NAMES))
         if self.is_rare(0.02):
             claim = u32(1, self.chance.randint(0, 3))
-        words = u32(Opnum.OPEN, self.near(seqid), access, deny, owner[0], owner[1]) + opaque(name) + how + claim
+        words = u32(Opnum.OPEN, self.near(seqid), access, deny, owner.epoch, owner.client) + opaque(name) + how + claim
         operations = self.repeatable(self.handle(0) + [words])
-        is_to_confirm = known is None and not self.is_rare(0.1)
-        return operations + [self.confirm_of(owner, seqid)] * is_to_confirm
+        if known is None and not self.is_rare(0.1):
+            # Of the state that the OPEN gives, if it does.
+            stateid = u32(1, 1, owner.client, self.server.last_state + 1)
+            operations.append(u32(Opnum.OPEN_CONFIRM) + stateid + u32(next_sequence_id(seqid)))
+        return operations
 
-    def confirm_of(self, owner, seqid):
-        """An OPEN_CONFIRM of the state that the OPEN before it gives, if it does."""
-        return u32(Opnum.OPEN_CONFIRM, 1, 1, owner[1], self.server.last_state + 1, next_sequence_id(seqid))
-
-    def open_confirm(self):
+    def open_confirm(self) -> Operations:
         file, stateid, seqid = self.state(self.server.opens)
         return self.repeatable(self.handle(file) + [u32(Opnum.OPEN_CONFIRM) + stateid + u32(seqid)])
 
-    def open_downgrade(self):
+    def open_downgrade(self) -> Operations:
         file, stateid, seqid = self.state(self.server.opens)
         share = u32(self.chance.randint(1, 3), self.chance.choice([0, 0, 0, 1, 2, 3, 4]))
         return self.repeatable(self.handle(file) + [u32(Opnum.OPEN_DOWNGRADE) + stateid + u32(seqid) + share])
 
-    def close(self):
+    def close(self) -> Operations:
         file, stateid, seqid = self.state(self.server.opens)
         return self.repeatable(self.handle(file) + [u32(Opnum.CLOSE, seqid) + stateid])
 
-    def delegreturn(self):
+    def delegreturn(self) -> Operations:
         """Mostly of one that is called back, so that others stay for a while."""
         called = [it for it in self.server.delegations if it.recalled is not None]
         file, stateid, _ = self.state(self.server.delegations if self.is_rare(0.3) else called)
@@ -408,16 +423,16 @@ class Caller:
 
     # The bytes of files.
 
-    def io_state(self):
+    def io_state(self) -> tuple[int, bytes]:
         """A file, and a stateid by which it is read or written: a special one, or one of what there is."""
         if self.is_rare(0.35):
             special = self.chance.choice([[0] * 4] * 6 + [[LAST] * 4] * 3 + [[1, 0, 0, 0], [0, LAST, LAST, LAST]])
             return self.chance.choice(FILES), u32(*special)
-        kinds = [self.server.opens, self.server.lock_states, self.server.delegations]
+        kinds: list[Sequence[KeptState]] = [self.server.opens, self.server.lock_states, self.server.delegations]
         file, stateid, _ = self.state(self.chance.choice([found for found in kinds if found] or [[]]))
         return file, stateid
 
-    def offset(self, file, pages):
+    def offset(self, file: int, pages: int) -> int:
         """Mostly within the file or near its ends, near the beginning of a page that it has, or of one of so many
         behind these, or near the most that it may have; seldom far."""
         size = len(self.server.text_of(file))
@@ -427,23 +442,24 @@ class Caller:
         base = self.chance.choice(near + [TEXT_LIMIT, 2**64 - 1])
         return min(max(0, base + self.chance.choice([0, 0, 0, 1, -1, 2, -2, 9])), 2**64 - 1)
 
-    def read(self):
+    def read(self) -> Operations:
         file, stateid = self.io_state()
         few = [0, 1, 5, 64, self.chance.randint(0, 400)] * 6
         count = self.chance.choice(few + LENGTHS * 2 + [65535, 65536, 65537, LAST])
         return self.handle(file) + [u32(Opnum.READ) + stateid + u64(self.offset(file, 0)) + u32(count)]
 
-    def write(self):
+    def write(self) -> Operations:
         file, stateid = self.io_state()
         head = u32(Opnum.WRITE) + stateid + u64(self.offset(file, self.chance.choice([0, 0, 0, 1, 2, 5])))
         return self.handle(file) + [head + u32(self.chance.choice([0, 1, 2] * 30 + [3])) + opaque(self.file_bytes())]
 
-    def setattr(self):
+    def setattr(self) -> Operations:
         """Mostly the size, and often the server's time with it; seldom what can't be set, or other values."""
         file, stateid = self.io_state()
         size = u64(self.offset(file, self.chance.choice([0, 0, 1, 3])))
         time = u32(self.chance.choice([0] * 20 + [1, 2]))
-        chosen = [((16,), size)] * 12 + [((16, 1 << 22), size + time)] * 6 + [((0, 1 << 22), time), ((), b"")]
+        chosen: list[tuple[Sequence[int], bytes]] = [
+            *[((16,), size)] * 12, *[((16, 1 << 22), size + time)] * 6, ((0, 1 << 22), time), ((), b"")]
         mask, values = self.chance.choice(chosen)
         if self.is_rare(0.05):
             mask = self.chance.choice([(16, 2), (24,), (16, 1 << 16), (16, 0, 1), (16, 0), (0, 0x30), (0, 1 << 22)])
@@ -451,7 +467,7 @@ class Caller:
             values = self.chance.choice([values + u32(0), values[:-1], u32(1) + bytes(12), size + u32(1) + bytes(12)])
         return self.handle(file) + [u32(Opnum.SETATTR) + stateid + wire.bitmap(mask) + opaque(values)]
 
-    def file_bytes(self):
+    def file_bytes(self) -> bytes:
         """Mostly a few, or by pages; seldom as many as a file may have, or one more."""
         count = self.chance.choice([0, 1, 2, 3, 4, 5, 9, self.chance.randint(0, 300)])
         if len(self.drawn.data) < DATA_ROOM:
@@ -464,10 +480,10 @@ class Caller:
 
     # Byte-range locks.
 
-    def lock_type(self):
+    def lock_type(self) -> int:
         return self.chance.choice([1, 2] * 10 + [3, 4] * 3 + [0, 5] * self.is_rare(0.02))
 
-    def range(self):
+    def range(self) -> bytes:
         """Offset and length, mostly of a few bytes, seldom of none or past the last byte."""
         first = self.chance.choice(BYTES)
         near = [byte for byte in BYTES if first <= byte < first + 6]
@@ -477,22 +493,22 @@ class Caller:
             length = self.chance.choice([0, 1, ALL_ONES, ALL_ONES - 1, LAST_BYTE - first])
         return u64(first) + u64(length)
 
-    def a_lock_owner(self):
+    def a_lock_owner(self) -> wire.LockOwner:
         return wire.LockOwner(1, self.a_client(), self.chance.choice(LOCK_OWNERS))
 
-    def spelled(self, owner):
+    def spelled(self, owner: OwnerName) -> bytes:
         return u32(owner.epoch, owner.client) + opaque(owner.name)
 
-    def lock(self):
+    def lock(self) -> Operations:
         head = u32(Opnum.LOCK, self.lock_type(), self.is_rare(0.01) + self.is_rare(0.002)) + self.range()
         if len(self.server.lock_states) < 3 or self.is_rare(0.2):
             return self.first_lock(head)
         file, stateid, seqid = self.state(self.server.lock_states)
         return self.repeatable(self.handle(file) + [head + u32(0) + stateid + u32(seqid)])
 
-    def first_lock(self, head):
+    def first_lock(self, head: bytes) -> Operations:
         """Of an owner that mostly has no lock state on the file."""
-        opened = self.pick(self.server.opens)
+        opened = self.pick(self.server.opens, None)
         file, stateid, seqid = self.state([opened] if opened else [])
         owner = self.a_lock_owner()
         if opened and not self.is_rare(0.03):
@@ -504,15 +520,15 @@ class Caller:
         locker = u32(1, seqid) + stateid + u32(self.near(lock_seqid)) + self.spelled(owner)
         return self.repeatable(self.handle(file) + [head + locker])
 
-    def locku(self):
+    def locku(self) -> Operations:
         file, stateid, seqid = self.state(self.server.lock_states)
         return self.repeatable(self.handle(file) + [u32(Opnum.LOCKU, self.lock_type(), seqid) + stateid + self.range()])
 
-    def lockt(self):
+    def lockt(self) -> Operations:
         words = u32(Opnum.LOCKT, self.lock_type()) + self.range() + self.spelled(self.a_lock_owner())
         return self.handle(self.chance.choice(FILES)) + [words]
 
-    def release_lockowner(self):
+    def release_lockowner(self) -> Operations:
         """Mostly of one that holds nothing, so that it is often OK."""
         holding = {it.owner for it in self.server.lock_states if not it.ranges.is_empty()}
         free = [owner for owner in self.server.lock_owners if owner not in holding]
@@ -520,24 +536,26 @@ class Caller:
         return [u32(Opnum.RELEASE_LOCKOWNER) + self.spelled(owner)]
 
 
-def row_of(steps, document, lease):
-    return Row("fuzz.py", 0, "", document=document, lease=lease, is_whole=True, steps=steps)
+def part_of(server: Recorder, sent: bytes, reply: bytes | None, steps: list[Step]) -> Part:
+    """A call behind these steps, with the reply of the model, which has one to each."""
+    assert reply is not None
+    return Part(server.moment, sent, wire.record(reply), goes_on=bool(steps))
 
 
-def judged(row):
+def judged(row: Row) -> tuple[Row, bytes]:
     """The row with what the model says in the place of what is wanted; and the model's journal."""
-    server, steps = Recorder(Tree(row.document), row.lease), []
+    server = Recorder(Tree(DEFAULT if row.document is None else row.document), row.lease)
+    steps: list[Step] = []
     for step in row.steps:
         if isinstance(step, Part):
             server.moment = step.moment
-            reply = server.reply(step.sent[4:])
-            steps.append(Part(step.moment, step.sent, wire.record(reply), goes_on=bool(steps)))
+            steps.append(part_of(server, step.sent, server.reply(step.sent[4:]), steps))
         else:
             steps.append(outcome_of(server, step))
-    return row_of(steps, row.document, row.lease), journal_bytes(server.journal())
+    return replace(row, steps=steps), journal_bytes(server.journal())
 
 
-def first_difference(program, row, way, journal):
+def first_difference(program: str, row: Row, way: int, journal: bytes) -> int | None:
     """The place of the first step of which something else comes, or behind the last one, where the journal is another
     one; or None."""
     outcome = run_row(row, way, WHOLE, path=program)
@@ -546,35 +564,35 @@ def first_difference(program, row, way, journal):
     return None if outcome.journal == journal else len(row.steps)
 
 
-def run(words):
+def run(words: tuple[str, int, int, int, str | None]) -> tuple[int, tuple[Row, int] | None, Counter[Any]]:
     """A run: the row up to the first difference, or None; and what the model answered how often."""
     program, seed, count, ids, profile = words
     caller = Caller(seed, ids, profile)
     for _ in range(count):
         caller.next_step()
     caller.server.counts.update(WHAT[type(entry)] for entry in caller.server.recorded if type(entry) in WHAT)
-    row, journal = caller.row(), journal_bytes(caller.server.journal())
-    place = first_difference(program, row, caller.way, journal)
-    found = None if place is None else (row_of(row.steps[:place + 1], row.document, row.lease), caller.way)
+    row = Row("fuzz.py", 0, "", document=caller.document, lease=caller.lease, is_whole=True, steps=caller.steps)
+    place = first_difference(program, row, caller.way, journal_bytes(caller.server.journal()))
+    found = None if place is None else (replace(row, steps=row.steps[:place + 1]), caller.way)
     return seed, found, caller.server.counts
 
 
-def needed(program, row, way):
+def needed(program: str, row: Row, way: int) -> Row:
     """The row without the steps that the difference doesn't need."""
     place = 0
     while place < len(row.steps):
-        fewer, journal = judged(row_of(row.steps[:place] + row.steps[place + 1:], row.document, row.lease))
+        fewer, journal = judged(replace(row, steps=row.steps[:place] + row.steps[place + 1:]))
         at = first_difference(program, fewer, way, journal)
         if at is None:
             place += 1
         else:
-            row = row_of(fewer.steps[:at + 1], row.document, row.lease)
+            row = replace(fewer, steps=fewer.steps[:at + 1])
     return row
 
 
-def lines_of(row):
+def lines_of(row: Row) -> Iterator[str]:
     """The row as it stands in a file."""
-    yield from (f"  tree {line}" for line in row.document.splitlines())
+    yield from (f"  tree {line}" for line in (row.document or "").splitlines())
     yield f"  lease {row.lease}"
     for step in row.steps:
         if isinstance(step, Part):
@@ -584,7 +602,7 @@ def lines_of(row):
             yield from (f"  {line}" for line in rows.order_lines(step))
 
 
-def report(program, seed, row, way):
+def report(program: str, seed: int, row: Row, way: int) -> None:
     count, (row, journal) = len(row.steps), judged(needed(program, row, way))
     print(f"row fuzz.py, seed {seed}, step {count}{' by threads' * (way == SHARED)}")
     for line in lines_of(row):
@@ -592,20 +610,21 @@ def report(program, seed, row, way):
     outcome = run_row(row, way, WHOLE, path=program)
     if outcome.wrong is None:
         print("  # The journal of the model (wanted) and of the program, round the first difference")
-        for line in rows.words_beside(journal, outcome.journal, "got"):
+        for line in rows.words_beside(journal, outcome.journal or b"", "got"):
             print(f"  #{line}")
     else:
         got = str(outcome.wrong.got)
         print(f"  # The last step, of the program: {got[:LETTERS]}{' ..' * (len(got) > LETTERS)}")
 
 
-def operations_in(counts):
+def operations_in(counts: Counter[Any]) -> int:
     return sum(number for what, number in counts.items() if isinstance(what, tuple))
 
 
-def missing_cases(counts, ids, profile=None):
+def missing_cases(counts: Counter[Any], ids: int, profile: str | None = None) -> list[str]:
     """The cases of pages that should have come, and those of sizes that are set."""
-    wanted, count = [], operations_in(counts)
+    wanted: list[str] = []
+    count = operations_in(counts)
     if ids <= IDS and count >= ENOUGH:
         wanted += CASES
         is_for_clients = profile == CLIENTS or profile is None and count >= ENOUGH_OF_BOTH
@@ -613,7 +632,7 @@ def missing_cases(counts, ids, profile=None):
     return [case for case in wanted if not counts[case]]
 
 
-def tell(counts, runs, calls):
+def tell(counts: Counter[Any], runs: int, calls: int) -> None:
     total = operations_in(counts)
     changes = counts[Opnum.LOCK, Status.OK] + counts[Opnum.LOCKU, Status.OK]
     asked = counts[Opnum.LOCKT, Status.OK] + counts[Opnum.LOCKT, Status.DENIED] + counts[Opnum.LOCK, Status.DENIED]
@@ -625,7 +644,7 @@ def tell(counts, runs, calls):
         print(f"    {opnum.name} {status.name}: {number}")
 
 
-def main():
+def main() -> int:
     parser = argparse.ArgumentParser()
     parser.add_argument("program", nargs="?", default=PROGRAM, help="a built `rows`")
     parser.add_argument("--seed", type=int, default=0)
@@ -635,7 +654,8 @@ def main():
     parser.add_argument("--ids", type=int, default=IDS, help="ids of clients")
     parser.add_argument("--profile", choices=PROFILES, help="the one of all runs (either)")
     words = parser.parse_args()
-    counts, runs, seed = Counter(), 0, words.seed
+    counts: Counter[Any] = Counter()
+    runs, seed = 0, words.seed
     with multiprocessing.Pool(words.jobs) as pool:
         while counts[Opnum.LOCK, Status.OK] + counts[Opnum.LOCKU, Status.OK] < words.changes:
             seeds = range(seed, seed + 4 * words.jobs)
