@@ -19,6 +19,7 @@ no reply and no receipt, and the others as ever.
 
 Where something is wrong, a folder has the program's input and its output, as far as they came, and the journal, if
 there is one."""
+import argparse
 import os
 from collections import Counter
 from tempfile import TemporaryDirectory, mkdtemp
@@ -34,7 +35,7 @@ from nfs4.client import Wrong
 from nfs4.preload import preloading
 from nfs4.served import TOP
 from nfs4.wire import Opnum, Status, Unreadable
-from sending.driver import Driver, Ended, Failed, PROGRAM as ROWS, SHARED
+from sending.driver import Driver, Ended, Failed, PROGRAM as ROWS, SHARED, build
 
 # How many of the connections have a thread, in the runs in which threads are refused.
 REFUSED_RUNS = (0, 20)
@@ -212,3 +213,18 @@ def run_refused(seed: int, program: Program, served: int, path: str = ROWS) -> N
     with TemporaryDirectory() as folder:
         source = os.path.join(TOP, "tools/refuse_threads.c")
         run(Plan(seed), program, path, served, preloading(source, folder, MOST_THREADS=str(served + 2)))
+
+
+def run_all(given: argparse.Namespace, program: Program) -> Tally:
+    """All runs of tools/stress by its options, and what it prints of them."""
+    build(given.program)
+    tally = Tally()
+    for seed in range(given.seed, given.seed + given.runs):
+        run_both(seed, program, tally, given.program)
+    for served in REFUSED_RUNS:
+        run_refused(given.seed, program, served, given.program)
+    print(f"stress: {2 * given.runs} runs of {LINKS} connections at once (and {len(REFUSED_RUNS)} without most "
+          f"threads): {tally.words()}")
+    for (opnum, status), count in sorted(tally.answers.items()) if given.counts else ():
+        print(f"    {count:7} {opnum.name} {status.name}")
+    return tally
