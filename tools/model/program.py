@@ -2,7 +2,6 @@
 import os
 import subprocess
 import tempfile
-from concurrent.futures import ThreadPoolExecutor
 from itertools import count
 
 from nfs4.rows import Row
@@ -42,18 +41,6 @@ class Program:
         ending = self.run(["audit", path])
         os.remove(path)
         return ending
-
-    def misjudged(self, judged: list[tuple[str, bytes, tuple[bool, str]]]) -> list[str]:
-        """Of files, each with its name and a verdict: what is wrong where an audit ends otherwise."""
-        with ThreadPoolExecutor(os.cpu_count()) as pool:
-            endings = list(pool.map(self.audit, (data for _, data, _ in judged)))
-        return [f"{name}: the program ends with {got}, not {ending_of(verdict)}"
-                for (name, _, verdict), got in zip(judged, endings) if got != ending_of(verdict)]
-
-    def miswritten(self, written: list[tuple[Row, bytes]]) -> list[str]:
-        """Of rows, each with the bytes of its journal, or None: what is wrong where `once` writes another one."""
-        with ThreadPoolExecutor(os.cpu_count()) as pool:
-            return [wrong for wrong in pool.map(self.wrong_once, *zip(*written)) if wrong is not None]
 
     def once(self, row: Row, environment: dict[str, str] | None = None) -> tuple[Ending, bytes | None]:
         """How `once` ends for the row, but for a line that says what is wrong with its tree; and the bytes of the
