@@ -1,9 +1,8 @@
 """What the gate's tests have in common. `pytest tools/gate -n 4` runs them side by side; those that are marked `alone`
-are judged by a clock, by memory or by processor time, and run beside nothing else: `.ci/run` has both commands."""
-import fcntl
+are judged by a clock, by memory or by processor time, and run beside nothing else: `.ci/run` has both commands. With
+`-m quick` those run that need no proof, in some minutes. No test builds a program."""
 import os
 import signal
-import subprocess
 import sys
 from collections import Counter, defaultdict
 from collections.abc import Callable, Iterator
@@ -13,7 +12,9 @@ from typing import Any
 
 import pytest
 
+from gate.needs import expect_programs, require
 from model.program import Program
+from nfs4.built import SERVER
 from nfs4.preload import preloading
 from nfs4.served import PROGRAM, TOP
 
@@ -22,22 +23,37 @@ sys.dont_write_bytecode = True
 
 def pytest_addoption(parser: pytest.Parser) -> None:
     parser.addoption("--by-hand", action="store_true", help="also the tests that are too long for the gate")
+    parser.addoption("--all-built", action="store_true",
+                     help="the programs are those that were proved here; a test whose program isn't there fails")
 
 
 def pytest_configure(config: pytest.Config) -> None:
     config.addinivalue_line("markers", "alone: judged by a clock, by memory or by processor time")
     config.addinivalue_line("markers", "by_hand: too long for the gate, and run with --by-hand alone")
     config.addinivalue_line("markers", "long: begins before the others, which go on beside it")
+    config.addinivalue_line("markers", "needs(*names): skipped if these programs, crates' tests, the toolchain (rt) "
+                                       "or the proved program (proved) aren't there; with --all-built it fails then")
+    config.addinivalue_line("markers", "quick: needs no proof, no root and no toolchain: runs with the model, and with "
+                                       "the program, however it was built, if it is there; those that are marked "
+                                       "`alone` are left out with `-m quick`")
+    expect_programs(config.getoption("--all-built"))
     # Where the tests are ended, so are the servers.
     signal.signal(signal.SIGTERM, lambda *_: sys.exit(1))
 
 
 def pytest_collection_modifyitems(config: pytest.Config, items: list[pytest.Item]) -> None:
-    if not config.getoption("--by-hand"):
-        left_out = [item for item in items if item.get_closest_marker("by_hand")]
-        config.hook.pytest_deselected(items=left_out)
-        items[:] = [item for item in items if item not in left_out]
+    names = [] if config.getoption("--by-hand") else ["by_hand"]
+    names += ["alone"] if config.getoption("markexpr") == "quick" else []
+    left_out = [item for item in items if any(map(item.get_closest_marker, names))]
+    config.hook.pytest_deselected(items=left_out)
+    items[:] = [item for item in items if item not in left_out]
     items.sort(key=lambda item: item.get_closest_marker("long") is None)
+
+
+def pytest_runtest_setup(item: pytest.Item) -> None:
+    for mark in item.iter_markers("needs"):
+        for name in mark.args:
+            require(item.config, name)
 
 
 def pytest_terminal_summary(terminalreporter: Any) -> None:
@@ -72,8 +88,9 @@ def add_up(record_property: Callable[[str, object], None]) -> Callable[[int, str
 
 
 @pytest.fixture(scope="session")
-def program() -> Program:
+def program(pytestconfig: pytest.Config) -> Program:
     """The built program, to be judged by the model."""
+    require(pytestconfig, SERVER)
     return Program(PROGRAM)
 
 
@@ -101,24 +118,3 @@ def file_of(path_of: Callable[[str], str]) -> Callable[[str, str | bytes], str]:
             out.write(content if isinstance(content, bytes) else content.encode())
         return path_of(name)
     return write
-
-
-def build(name: str) -> None:
-    """Proves and builds this program where it isn't there; in one process, and the others wait for it."""
-    folder = os.path.join(TOP, "crates", name)
-    with open(os.path.join(folder, "stdin"), "rb") as sent:
-        fcntl.flock(sent, fcntl.LOCK_EX)
-        if not os.path.exists(os.path.join(folder, "out", name)):
-            subprocess.run(["rt", "run"], cwd=folder, stdin=sent, stdout=subprocess.DEVNULL, check=True)
-
-
-@pytest.fixture(scope="session")
-def built_program() -> None:
-    """The program `nfs4state` is there."""
-    build("nfs4state")
-
-
-@pytest.fixture(scope="session")
-def built_rows() -> None:
-    """The program `rows` is there."""
-    build("rows")

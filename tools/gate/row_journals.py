@@ -1,8 +1,8 @@
 """The rows of `crates/rows/data`, and the journals that the model makes of them."""
 import os
 
-from model.check_rows import converse
 from model.journal import Journal, Recorder
+from model.row_checks import converse
 from model.tree import DEFAULT, Refused, Tree
 from nfs4.rows import File, Row, files_of
 from nfs4.served import TOP

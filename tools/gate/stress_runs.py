@@ -35,7 +35,7 @@ from nfs4.client import Wrong
 from nfs4.preload import preloading
 from nfs4.served import TOP
 from nfs4.wire import Opnum, Status, Unreadable
-from sending.driver import Driver, Ended, Failed, PROGRAM as ROWS, SHARED, build
+from sending.driver import Driver, Ended, Failed, PROGRAM as ROWS, SHARED
 
 # How many of the connections have a thread, in the runs in which threads are refused.
 REFUSED_RUNS = (0, 20)
@@ -217,7 +217,6 @@ def run_refused(seed: int, program: Program, served: int, path: str = ROWS) -> N
 
 def run_all(given: argparse.Namespace, program: Program) -> Tally:
     """All runs of tools/stress by its options, and what it prints of them."""
-    build(given.program)
     tally = Tally()
     for seed in range(given.seed, given.seed + given.runs):
         run_both(seed, program, tally, given.program)

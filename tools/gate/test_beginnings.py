@@ -22,6 +22,8 @@ from nfs4.client import expect
 from nfs4.served import TOP, with_interrupts
 from nfs4.wire import Delegreturn, OpenConfirm, OpenOwner, Opnum, READ, Read, Stateid, Write, u32
 
+pytestmark = pytest.mark.quick
+
 # The seconds that a tool has, on however busy a machine.
 PATIENCE = 120
 HEAD_ENDS = "the file ends before its first entry"

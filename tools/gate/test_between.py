@@ -38,6 +38,7 @@ from relay.peers import DELAY, GRACE, GaveUp, GivingUp, Patient, RESOURCE, Relay
 
 BETWEEN = os.path.join(TOP, "tools/between")
 SERVERS = {"model": [sys.executable, os.path.join(TOP, "tools/model/serve.py")], "program": [PROGRAM, "serve"]}
+KINDS = [pytest.param(kind, marks=[pytest.mark.needs("nfs4state")] if kind == "program" else []) for kind in SERVERS]
 # The calls of a client that is introduced and does one round.
 ROUND = 15
 # Of the clients of a process, each of which is another one to its servers.
@@ -59,7 +60,8 @@ def serving(kind, *options, tree=NO_CALLBACKS):
             expect(f"the end of the {kind}", served.end()[0], 0)
         data = bytes_of(path)
     expect(f"the model's audit of the {kind}'s journal", verdict(data)[0], True)
-    expect(f"the program's audit of the {kind}'s journal", Program(PROGRAM).audit(data)[0], 0)
+    if os.path.isfile(PROGRAM):
+        expect(f"the program's audit of the {kind}'s journal", Program(PROGRAM).audit(data)[0], 0)
 
 
 # One of each for all tests of a process that need nothing else.
@@ -75,7 +77,7 @@ def program_server():
         yield address
 
 
-@pytest.fixture(params=SERVERS)
+@pytest.fixture(params=KINDS)
 def kind(request):
     return request.param
 
@@ -487,6 +489,7 @@ RECALLS = [
     ("answer DELAY", 0, ["^1: answer DELAY CB_RECALL 1: .*answered in the server's place$"])]
 
 
+@pytest.mark.needs("nfs4state")
 @pytest.mark.parametrize("fault, calls, told", RECALLS, ids=[fault for fault, *_ in RECALLS])
 def test_recall(fault, calls, told):
     """A CB_RECALL that meets a fault: so many calls come to the client's listener. The file is given back."""

@@ -1,8 +1,12 @@
 """The records of callbacks, written out; what replies to them are; and where a client can be called. They were worked
 out from RFC 5531 and RFC 7531."""
+import pytest
+
 from model.states import Recall
 from nfs4.callbacks import CallbackReply, address_of, null_call, read_reply, recall_call
 from nfs4.wire import Callback, Stateid, opaque, u32
+
+pytestmark = pytest.mark.quick
 
 ACCEPTED, REFUSED, UNREADABLE = CallbackReply.ACCEPTED, CallbackReply.REFUSED, CallbackReply.UNREADABLE
 LENT = Recall(Stateid(1, 1, 1, 2), 1, (0, 0), Callback(0x40000000, b"tcp", b"127.0.0.1.8.1", 1))

@@ -35,6 +35,8 @@ from nfs4.messages import GETATTR, NFS4_OK, NULL, OPEN, PUTROOTFH, call, compoun
 from nfs4.served import PATIENCE, PROGRAM, REPLY_PATIENCE, Served, TOP
 from nfs4.wire import BOTH, READ, Status, WRITE
 
+pytestmark = [pytest.mark.needs("nfs4state"), pytest.mark.quick]
+
 # The seconds in which others are called and answered whatever one peer does, and in which a run ends behind its last
 # connection. A server that a peer holds back is held back without an end: so where the machine may be busy, and nothing
 # else is judged by the clock, there is patience.

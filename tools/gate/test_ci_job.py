@@ -1,16 +1,18 @@
 """`samples/ci_job.sh`, a job that tests a client: it passes with one that is right, and fails with one that isn't, and
-says why. The server is the program, and the independent model in its place."""
+says why. Beside it `./start` finds the program, or the independent model alone."""
 import os
 import subprocess
 
 import pytest
 
-from nfs4.served import NO_CALLBACKS, TOP
+from gate.rooms import room_for
+from nfs4.served import PROGRAM
 
-SAMPLE = os.path.join(TOP, "samples/ci_job.sh")
-# The words of its client, in whose place others are put.
-CLIENT = 'tools/send_rows --names "${address%:*}" "${address##*:}" samples/two_owners.rows'
-NO_CALL = "no call on the state came\n"
+pytestmark = pytest.mark.quick
+
+CLIENT = ["tools/send_rows", "--names", "{host}", "{port}"]
+RIGHT_ROWS = "samples/two_owners.rows"
+NO_CALL = "ci_job.sh: no call on the state came\n"
 # What a client does that closes its open by an id that isn't its owner's next, and is content with the answer.
 WRONG_ID = """row a CLOSE by a wrong id
   rule The next id is 3.
@@ -31,44 +33,66 @@ WRONG_ID = """row a CLOSE by a wrong id
 """
 
 
-@pytest.fixture(params=["crates/nfs4state/out/nfs4state serve", "tools/model/serve.py"], ids=["program", "model"])
-def run_job(request, path_of):
-    """Runs the job with this client over the server: its status, and what it prints."""
-    def run(client, patience="timeout -k 5 60"):
-        with open(SAMPLE, encoding="utf-8") as sample:
-            text = sample.read()
-        assert text.count(f"timeout -k 5 60 {CLIENT}") == 1
-        command = ["sh", "-c", text.replace(f"timeout -k 5 60 {CLIENT}", f"{patience} {client}"), "job", path_of("run.journal"), *request.param.split()]
-        ran = subprocess.run([*command, "--tree", NO_CALLBACKS], cwd=TOP, stdout=subprocess.PIPE, text=True, timeout=300)
-        return ran.returncode, ran.stdout
+@pytest.fixture(params=[pytest.param(PROGRAM, id="program", marks=pytest.mark.needs("nfs4state")),
+                        pytest.param(None, id="model")])
+def run_job(request, tmp_path):
+    """Runs the job with this client, in a minute or in so many seconds: its status, what it prints, and what it says on
+    standard error."""
+    room = tmp_path / "room"
+    room.mkdir()
+    room_for(str(room), request.param)
+
+    def run(client, seconds=60):
+        sample = room / "samples/ci_job.sh"
+        if seconds != 60:
+            text = sample.read_text()
+            assert text.count("--seconds 60") == 1
+            sample = room / "hurried/ci_job.sh"
+            sample.parent.mkdir()
+            sample.write_text(text.replace("--seconds 60", f"--seconds {seconds}"))
+        ran = subprocess.run(["sh", str(sample), str(tmp_path / "run.journal"), *client], cwd=room, capture_output=True,
+                             text=True, timeout=300)
+        return ran.returncode, ran.stdout, ran.stderr
     return run
 
 
-def test_right_client(run_job):
-    assert run_job(CLIENT) == (0, "1 rows: 0 failed\n" * 3)
+def test_right_client(run_job, tmp_path):
+    status, output, told = run_job([*CLIENT, RIGHT_ROWS])
+    assert (status, output) == (0, "1 rows: 0 failed\n" * 3), told
+    assert "start: lawful: 24 entries\n" in told
+    assert os.path.exists(tmp_path / "run.journal")
 
 
 def test_client_that_fails(run_job):
-    status, lines = run_job(f"{CLIENT} && (exit 3)")
-    assert status == 1
-    assert lines == "".join(f"1 rows: 0 failed\nclient {number}: it ended badly\n" for number in (1, 2, 3))
+    """The first client that fails ends the job, which has the client's status."""
+    status, output, told = run_job(["sh", "-c", f"{' '.join(CLIENT)} {RIGHT_ROWS}; exit 3"])
+    assert (status, output) == (3, "1 rows: 0 failed\n"), told
+    assert "start: the command ended with status 3\n" in told
 
 
 def test_client_that_goes_on(run_job):
-    """It doesn't end when it is asked to, either."""
-    status, lines = run_job("sh -c 'trap : TERM; while :; do sleep 1; done'", "timeout -k 1 1")
-    assert status == 1
-    assert lines == "".join(f"client {number}: it took more than a minute\n" for number in (1, 2, 3)) + NO_CALL
+    status, output, told = run_job(["sleep", "1000"], seconds=1)
+    assert (status, output) == (124, ""), told
+    assert "start: the command took more than 1 seconds\n" in told
+
+
+def test_client_that_ignores_its_end(run_job):
+    """It is killed."""
+    status, output, told = run_job(["sh", "-c", "trap : TERM; while :; do sleep 1; done"], seconds=1)
+    assert status == 124 and output == "", told
+    assert f"start: the command ended with status {status}\n" in told
 
 
 def test_client_that_calls_nothing(run_job):
-    assert run_job("true") == (1, NO_CALL)
+    status, output, told = run_job(["true"])
+    assert (status, output) == (1, "")
+    assert told.endswith("start: lawful: 0 entries\n" + NO_CALL)
 
 
-def test_client_that_is_wrong(run_job, path_of):
-    with open(path_of("wrong.rows"), "w", encoding="utf-8") as rows:
-        rows.write(WRONG_ID)
-    status, lines = run_job(CLIENT.replace("samples/two_owners.rows", path_of("wrong.rows")))
-    assert status == 1
-    assert lines.count("-> CLOSE NFS4ERR_BAD_SEQID\n") == 3
-    assert lines.count("(RULES: Owners and sequenced operations)\n") == 3
+def test_client_that_is_wrong(run_job, tmp_path):
+    (tmp_path / "wrong.rows").write_text(WRONG_ID)
+    status, output, told = run_job([*CLIENT, str(tmp_path / "wrong.rows")])
+    assert (status, output) == (1, "1 rows: 0 failed\n" * 3)
+    assert told.count("-> CLOSE NFS4ERR_BAD_SEQID\n") == 3
+    assert told.count("(RULES: Owners and sequenced operations)\n") == 3
+    assert told.endswith("start: a status of --never was answered: CLOSE NFS4ERR_BAD_SEQID\n")

@@ -1,45 +1,49 @@
-"""The commands of README.md and of docs/CLIENTS.md that have a `$` before them: each section by itself, in their order,
-with what they print compared to the page; by the program, and with the model's server (`tools/model/serve.py`) and its
-audit (`tools/model/journal.py`) in place of the program's.
+"""The commands of README.md and of docs/CLIENTS.md that have a `$` before them: each section by itself, in their
+order, with what they print compared to the page. Each is run in a folder where `./start` finds the program, and in one
+where it finds the model alone.
 
-The section on libnfs is left out where `gcc` or `libnfs-dev` isn't installed. That on tshark is run by hand alone,
-since it needs the right to capture on the loopback interface. By hand it is an error if something for them isn't there.
+The section on libnfs is left out if `gcc` or `libnfs-dev` isn't installed. That on tshark is run by hand alone, since
+it needs the right to capture on the loopback interface. By hand it is an error if something for them isn't there.
 
 A port of the system's choice takes the place of the page's, and a folder of the test that of /tmp. A server or a
-capture goes on while the commands after it run. A server has to end by itself before its journal is read, or another
-one begins, and a capture is ended before it is read.
+capture goes on while the commands after it run. A server's input ends before its journal is read, or another server
+begins, and a capture is ended before it is read.
 
 The sample of records has to be what its row sends."""
 import os
 import re
 import signal
+import socket
 import subprocess
 import time
 
 import pytest
 
+from gate.rooms import room_for
 from gate.trial import Late, tried_again
 from nfs4 import rows
 from nfs4.client import Wrong, expect
-from nfs4.served import TOP
+from nfs4.served import PROGRAM, TOP
+from nfs4.wire import Status
+
+pytestmark = pytest.mark.quick
 
 PAGES = "README.md", "docs/CLIENTS.md"
-# What is run in place of the program's commands where the model is.
-PROGRAM = "crates/nfs4state/out/nfs4state"
-MODEL = {f"{PROGRAM} serve": "tools/model/serve.py", f"{PROGRAM} audit": "tools/model/journal.py"}
 SAMPLE = os.path.join(TOP, "samples/two_owners")
 # Words in the headings of the sections that need what may not be there.
 LIBNFS, CAPTURE = "libnfs", "wire"
 PORT = "20490"
-# How a command begins that starts a server, which goes on.
-SERVER = re.compile(r"\S+(/nfs4state serve|/serve\.py) ")
-# The mark of a client's path in a journal that is shown.
-MARK = re.compile(r"\d+: the path of client \d+ is marked ")
+# How a command begins that starts a server, which goes on as it has no command of its own.
+SERVER = re.compile(r"\./start(?!.* -- )")
+# The line by which `start` says which server it is: pages show it once, and say so.
+NAMED = re.compile(r"start: (?:nfs4state|the independent model)\b.*; files: \S+\n")
+# How a run of a server ends that goes on, behind the lines that the page shows.
+LAWFUL = re.compile(r"start: lawful: [1-9][0-9]* entries\n")
 # The seconds that a command has, on however busy a machine.
 PATIENCE = 120
-# What may differ from run to run, beside marks of paths: moments, uids, the numbers of frames.
-VARYING = [(r"moment \d+", "moment N"), (r"AUTH_SYS \d+", "AUTH_SYS N"), (r"In \d+", "In N"),
-           (r"seen at \d+, now \d+", "seen at N, now N")]
+# What may differ from run to run: moments, uids, the numbers of frames, and a journal's file.
+VARYING = [(NAMED, ""), (r"moment \d+", "moment N"), (r"AUTH_SYS \d+", "AUTH_SYS N"), (r"In \d+", "In N"),
+           (r"seen at \d+, now \d+", "seen at N, now N"), (r"start: journal: [^\s;]+", "start: journal: FILE")]
 
 
 def sections(path):
@@ -65,64 +69,61 @@ BY_PAGE = [sections(path) for path in PAGES]
 SECTIONS = {heading: commands for found in BY_PAGE for heading, commands in found}
 
 
-def without_marks(lines):
-    """The lines with no mark of a path, and with the numbers that entries have without these: a client that is called
-    back brings one, early or late, or none where the run ends first."""
-    kept, marks = [], 0
-    for line in lines:
-        if MARK.match(line):
-            marks += 1
-        else:
-            kept.append(re.sub(r"^\d+(?=: )", lambda number: str(int(number[0]) - marks), line))
-    return kept
-
-
-def plain(lines):
-    """The lines with what may vary taken out, and without empty ones at the end."""
-    text = "\n".join(without_marks(lines)).rstrip("\n")
+def plain(text):
+    """The text with what may vary taken out, and without empty lines at the end."""
     for pattern, name in VARYING:
         text = re.sub(pattern, name, text)
-    return text
+    return text.rstrip("\n")
+
+
+def free_port():
+    """A port that is free now."""
+    with socket.socket() as taken:
+        taken.bind(("127.0.0.1", 0))
+        return str(taken.getsockname()[1])
 
 
 class Session:
-    """A run of the commands: the server and the capture that go on meanwhile, if there are any, and the server's
-    port. `instead` has what is run in place of commands of the page."""
+    """A run of the commands in a room: the server and the capture that go on meanwhile, if there are any, and the port
+    that takes the place of the page's. Files of /tmp are in a folder of the test."""
 
-    def __init__(self, folder, instead):
-        self.folder, self.instead = folder, instead
+    def __init__(self, folder, room):
+        self.folder, self.room = folder, room
         self.server = self.capture = None
-        self.port = PORT
+        self.port = free_port()
 
     def words(self, command):
-        """The command of the page with this run's program, folder and port."""
-        command = re.sub(r"/tmp(?=/)", self.folder, command)
-        command = command.replace(f"127.0.0.1:{PORT}", "127.0.0.1:0").replace(PORT, self.port)
-        for shown, run in self.instead.items():
-            command = command.replace(shown, run)
-        return command
+        """The command of the page with this run's folder and port."""
+        return re.sub(r"/tmp(?=/)", self.folder, command).replace(PORT, self.port)
 
     def start(self, command, **how):
         """Starts a command in a group of its own, so that it can be ended with all that it starts."""
-        return subprocess.Popen(["bash", "-c", self.words(command)], stdin=subprocess.DEVNULL, text=True, cwd=TOP,
-                                start_new_session=True, **how)
+        return subprocess.Popen(["bash", "-c", self.words(command)], text=True, cwd=self.room, start_new_session=True,
+                                **how)
 
     def serve(self, command, shown):
-        self.port = PORT
-        server = self.start(command, stdout=subprocess.PIPE, stderr=subprocess.STDOUT)
-        self.server = (command, server, shown)
-        # What is served stands on the second line.
-        self.first = server.stdout.readline() + server.stdout.readline()
-        match = re.match(r"listening on 127\.0\.0\.1:(\d+)\n", self.first)
-        if match is None:
-            raise Wrong(f"`{command}` prints first:\n{self.first}")
-        self.port = match[1]
+        """Begins a server that goes on, whose port the system chooses."""
+        self.port = "0"
+        if "--listen" not in command:
+            command = command.replace("./start", f"./start --listen 127.0.0.1:{PORT}", 1)
+        server = self.start(command, stdin=subprocess.PIPE, stdout=subprocess.PIPE, stderr=subprocess.STDOUT)
+        self.server = (command, server)
+        printed = line = ""
+        # What is served stands on the last line.
+        while not line.startswith("serving "):
+            line = server.stdout.readline()
+            printed += line
+            if not line:
+                raise Wrong(f"`{command}` prints first:\n{printed}")
+        self.port = re.search(r"^listening on 127\.0\.0\.1:(\d+)$", printed, re.M)[1]
+        compare(command, shown, printed.replace(self.port, PORT))
 
     def begin_capture(self, command):
         """Begins a capture, and waits until it goes on."""
         log = os.path.join(self.folder, "capture")
         with open(log, "w") as errors:
-            self.capture = self.start(command.replace("tshark", "exec tshark", 1), stdout=errors, stderr=errors)
+            self.capture = self.start(command.replace("tshark", "exec tshark", 1), stdin=subprocess.DEVNULL,
+                                      stdout=errors, stderr=errors)
         for _ in range(10 * PATIENCE):
             with open(log, encoding="utf-8") as told:
                 if "Capture started" in told.read():
@@ -135,16 +136,17 @@ class Session:
             raise Wrong("no capture: " + told.read())
 
     def end_server(self):
-        """Waits for the server's end; what it printed is compared."""
+        """Ends the input of the server that goes on, if there is one: its journal has to be lawful."""
         if self.server is not None:
-            command, server, shown = self.server
+            command, server = self.server
             self.server = None
             try:
                 rest, _ = server.communicate(timeout=PATIENCE)
             except subprocess.TimeoutExpired:
                 os.killpg(server.pid, signal.SIGKILL)
                 raise Wrong(f"`{command}` doesn't end") from None
-            compare(command, shown, (self.first.replace(self.port, PORT) + rest).split("\n")[:-1])
+            if server.returncode != 0 or not LAWFUL.fullmatch(rest):
+                raise Wrong(f"`{command}` ends with status {server.returncode}:\n{rest}")
 
     def end_capture(self):
         if self.capture is not None:
@@ -159,17 +161,18 @@ class Session:
             self.end_server()
             return self.serve(command, shown)
         if command.startswith("tshark") and " -i " in command:
-            self.begin_capture(command)
-            return self.run("/tmp/libnfs_client 127.0.0.1 20490 > /tmp/printed", [])
+            return self.begin_capture(command)
         if "journal" in command:
             self.end_server()
         if command.startswith("tshark"):
             self.end_capture()
+        # Of `start` the page shows what a terminal does, of other commands the output.
+        errors = subprocess.STDOUT if command.startswith("./start") else subprocess.PIPE
         ran = subprocess.run(["bash", "-c", self.words(command)], stdin=subprocess.DEVNULL, stdout=subprocess.PIPE,
-                             stderr=subprocess.PIPE, text=True, timeout=PATIENCE, cwd=TOP)
+                             stderr=errors, text=True, timeout=PATIENCE, cwd=self.room)
         if ran.returncode != 0:
             raise Late(f"`{command}` ends with status {ran.returncode}:\n{ran.stdout}{ran.stderr}")
-        compare(command, shown, ran.stdout.split("\n")[:-1])
+        compare(command, shown, ran.stdout)
 
     def end(self):
         """Ends what is still running."""
@@ -179,8 +182,8 @@ class Session:
 
 
 def compare(command, shown, printed):
-    if plain(shown) != plain(printed):
-        raise Late(f"`{command}` prints\n" + "\n".join(printed) + "\nand shown is\n" + "\n".join(shown))
+    if plain("".join(f"{line}\n" for line in shown)) != plain(printed):
+        raise Late(f"`{command}` prints\n{printed}\nand shown is\n" + "\n".join(shown))
 
 
 def has_libnfs():
@@ -192,6 +195,15 @@ def has_libnfs():
     except FileNotFoundError:
         return False
     return ran.returncode == 0
+
+
+@pytest.fixture(params=[pytest.param(PROGRAM, id="program", marks=pytest.mark.needs("nfs4state")),
+                        pytest.param(None, id="model")])
+def room(request, tmp_path):
+    """A folder where `./start` finds the program, or the model alone."""
+    folder = tmp_path / "room"
+    folder.mkdir()
+    return room_for(str(folder), request.param)
 
 
 def test_pages(tell):
@@ -209,20 +221,38 @@ def test_sample():
         expect("what the row sends", sent, [file.read()])
 
 
-@pytest.mark.parametrize("instead", [{}, MODEL], ids=["program", "model"])
+def test_statuses():
+    """Each status that CLIENTS has in a table has its number."""
+    with open(os.path.join(TOP, "docs/CLIENTS.md"), encoding="utf-8") as page:
+        shown = re.findall(r"^\| ([A-Z_]+) \| ([0-9]+) \|", page.read(), re.M)
+    expect("that there are some", len(shown) > 10, True)
+    expect("their numbers", [(name, int(number)) for name, number in shown],
+           [(name, Status[name].value) for name, _ in shown])
+
+
+def test_first_command(room):
+    """The command of README that has a reply of the server runs as it stands."""
+    with open(os.path.join(TOP, "README.md"), encoding="utf-8") as page:
+        commands = re.findall(r"^    (\./start -- .*)$", page.read(), re.M)
+    expect("how many there are", len(commands), 1)
+    ran = subprocess.run(["bash", "-c", commands[0]], stdin=subprocess.DEVNULL, capture_output=True, text=True,
+                         timeout=PATIENCE, cwd=room)
+    expect("its output", (ran.returncode, ran.stdout), (0, "1 rows: 0 failed\n"))
+    expect("the server's name", bool(NAMED.match(ran.stderr)), True)
+    expect("the audit's line", "start: lawful: 5 entries\n" in ran.stderr, True)
+
+
 @pytest.mark.parametrize("heading", [
     pytest.param(heading, marks=[pytest.mark.by_hand] if CAPTURE in heading else []) for heading in SECTIONS])
-# A lease of a second ends too early where the machine has no time.
+# A lease of a second ends too early if the machine has no time.
 @tried_again
-def test_section(tmp_path, pytestconfig, heading, instead):
-    if LIBNFS in heading and not pytestconfig.getoption("--by-hand") and not has_libnfs():
+def test_section(tmp_path, pytestconfig, heading, room):
+    needs_libnfs = any("libnfs" in command for command, _ in SECTIONS[heading])
+    if needs_libnfs and not pytestconfig.getoption("--by-hand") and not has_libnfs():
         pytest.skip("gcc or libnfs-dev isn't installed")
-    session, commands = Session(str(tmp_path), instead), SECTIONS[heading]
-    if CAPTURE in heading:
-        # Its client is that of the other section.
-        commands = [each for name in SECTIONS if LIBNFS in name for each in SECTIONS[name]] + commands
+    session = Session(str(tmp_path), room)
     try:
-        for command, shown in commands:
+        for command, shown in SECTIONS[heading]:
             session.run(command, shown)
         session.end_server()
     finally:

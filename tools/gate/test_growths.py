@@ -44,6 +44,7 @@ from model.journal import NotJournal, Recorder, head_bytes, journal_bytes, read_
 from model.program import bytes_of, ending_of, ending_of_once
 from model.server import Server
 from model.tree import DEFAULT, Tree
+from nfs4.built import proved_path
 from nfs4.callback_listener import Listener, accept
 from nfs4.callbacks import recall_call
 from nfs4.client import Wrong, numbers_of
@@ -54,6 +55,8 @@ from nfs4.served import PROGRAM, Peer, Piped, REPLY_PATIENCE, Served, TOP
 from nfs4.wire import BOTH, Opnum, READ, Status, opaque, record, split_records
 from sending.driver import ALONE, NoMemory, PROGRAM as ROWS, SHARED as BY_THREADS
 from sending.running import PIECE, WHOLE, run
+
+pytestmark = pytest.mark.needs("nfs4state")
 
 # Each a crate with tests, and a module or a test of it.
 TESTS = (("table_tests", "ranges"), ("table_tests", "rows"), ("table_tests", "opens"), ("table_tests", "delegations"),
@@ -399,6 +402,7 @@ def rows_at(file, place):
     return single, several, shared
 
 
+@pytest.mark.needs("rows")
 @pytest.mark.parametrize("file, place", places())
 def test_rows(file, place, memory, starting, add_up):
     single, several, shared = rows_at(file, place)
@@ -777,11 +781,10 @@ def named_tests(path, named):
 
 
 @pytest.mark.parametrize("share", range(SHARES))
-@pytest.mark.parametrize("crate, named", TESTS)
+@pytest.mark.parametrize("crate, named", [pytest.param(*it, marks=pytest.mark.needs(it[0])) for it in TESTS])
 def test_tests(crate, named, share, memory, add_up):
     """They pass with each of their growths refused."""
-    path = os.path.join(TOP, f"crates/{crate}/out/{crate}_tests")
-    assert os.path.exists(path), f"`rt test` in crates/{crate} builds it"
+    path = f"{proved_path(crate)}_tests"
     found = named_tests(path, named)
     assert found
     for test in found:

@@ -23,6 +23,8 @@ from nfs4.messages import CLOSE, LOCK, LOCKU, NFS4_OK, OPEN, OPEN_CONFIRM, compo
 from nfs4.served import NO_CALLBACKS, PROGRAM, Served, TOP
 from nfs4.wire import OpenOwner, Status, opaque
 
+pytestmark = pytest.mark.quick
+
 # The commands of the two servers.
 PROGRAM_SERVES, MODEL_SERVES = [PROGRAM, "serve"], [sys.executable, os.path.join(TOP, "tools/model/serve.py")]
 # The lease, and how long after it an owner may still be known, on however busy a machine.
@@ -33,7 +35,8 @@ MANY, RATE, STEP = 100_000, 4_000, 100
 SPARE = 32 << 10
 
 
-@pytest.fixture(params=[PROGRAM_SERVES, MODEL_SERVES], ids=["program", "model"])
+@pytest.fixture(params=[pytest.param(PROGRAM_SERVES, id="program", marks=pytest.mark.needs("nfs4state")),
+                        pytest.param(MODEL_SERVES, id="model")])
 def command(request):
     """How a server is started: the program, then the model."""
     return request.param

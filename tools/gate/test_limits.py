@@ -19,6 +19,8 @@ from nfs4 import messages, wire
 from nfs4.served import PROGRAM
 from nfs4.wire import BOTH, FILE_SYNC4, Opnum, READ_LT, Status, WRITE_LT, opaque, u32, u64
 
+pytestmark = [pytest.mark.needs("nfs4state"), pytest.mark.quick]
+
 # A file more than each owner opens; many files keep the opens of each few.
 FILES = 33
 TREE = "".join(f'[[file]]\npath = "f{number}"\n' for number in range(FILES))

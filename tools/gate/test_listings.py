@@ -15,6 +15,8 @@ from nfs4 import wire
 from nfs4.client import expect
 from nfs4.wire import Getattr, Opnum, Readdir, Status, bitmap, opaque
 
+pytestmark = pytest.mark.quick
+
 NOBODY = (0, 0)
 # The bytes of an answer without its entries, and those of an entry beside its name, its mask and its values.
 ENDS, ENTRY = 16, 12

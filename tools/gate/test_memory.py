@@ -37,6 +37,8 @@ from nfs4.messages import (CLOSE, GETATTR, GETFH, LOCK, LOCKT, NFS4_OK, NULL, OP
 from nfs4.served import PATIENCE, PROGRAM, REPLY_PATIENCE, Served, tree_for_clients
 from nfs4.wire import GUARDED4, OPEN4_CREATE, OWNER_LIMIT, SYSTEM_ERR, Status, opaque, record, u64
 
+pytestmark = pytest.mark.needs("nfs4state")
+
 MIB = 1 << 20
 # The most bytes that a file has.
 FILE_LIMIT = 65536

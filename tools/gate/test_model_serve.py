@@ -36,6 +36,8 @@ from nfs4.messages import (COMPOUND, GETATTR, GETFH, NFS4ERR_STALE_CLIENTID, NFS
 from nfs4.served import NO_CALLBACKS, PATIENCE, PROGRAM, Served, TOP, is_silent, with_interrupts
 from nfs4.wire import opaque, record, split_records
 
+pytestmark = pytest.mark.quick
+
 SERVE = [sys.executable, os.path.join(TOP, "tools/model/serve.py")]
 ROWS = ["client_ids", "getattr", "limits", "records"]
 # How many connections come in turn, and how many are busy when the input ends, each with so many calls.
@@ -74,28 +76,6 @@ def test_rows(tell, name):
     if status != 0 or not re.match(r"[1-9][0-9]* rows: 0 failed", printed):
         raise Wrong(f"status {status}: {printed}")
     tell(printed.partition(" failed")[0] + " failed")
-
-
-def test_readme(path_of):
-    """The commands that the README has for whoever has no program, with the lines that it tells of them."""
-    with open(os.path.join(TOP, "README.md"), encoding="utf-8") as page:
-        section = page.read().partition("\n## Use it\n")[2].partition("\n## ")[0]
-    first, *others = re.findall(r"(?m)^    (tools/.*)$", section)
-    path = path_of("readme.journal")
-    command = first.replace("127.0.0.1:20490", "127.0.0.1:0").replace("/tmp/run.journal", path).split()
-    expect("the first command", command[:1], ["tools/model/serve.py"])
-    with Served([sys.executable, *command], stdin=subprocess.PIPE, cwd=TOP) as served:
-        for line in others:
-            command = line.replace("20490", str(served.port)).replace("/tmp/run.journal", path).split()
-            if path in command and served.is_running():
-                expect("the end of the run", served.end(), (0, b"", b""))
-            status, printed = run(sys.executable, *command)
-            expect(f"the status of {line}", status, 0)
-            if "show_journal" in line:
-                expect(f"the lines of {line}", printed.count("\n"), len(lawful_journal(PROGRAM, path).entries))
-            elif f"`{printed.strip()}`" not in section:
-                raise Wrong(f"{line} prints {printed}")
-    expect("the commands of the README", len(others), 3)
 
 
 # Arguments that are refused before a server begins, and runs that end by a fault before they listen.

@@ -19,7 +19,7 @@ from nfs4.wire import Opnum, Status, u32, u64
 from sending.driver import (ALONE, Driver, FORGET, FULL, Forgotten, MARK, Marked, NOT_LIVE, PENDING, PROBE, PROGRAM,
                             REVOKE, Revoked, SERVE, SHARED, SWEEP, Swept, TAKE, head, part)
 
-pytestmark = pytest.mark.usefixtures("built_rows")
+pytestmark = pytest.mark.needs("rows")
 ROOT = compound(9, words(PUTROOTFH))
 each_way = pytest.mark.parametrize("way", [ALONE, SHARED], ids=["alone", "shared"])
 # It writes a byte into the file YIELDS for each time that other threads are let go on.

@@ -2,15 +2,16 @@
 words that it doesn't take, with documents of trees, up to its limits, and behind pipes. Expected bytes were worked out
 by hand; of a long journal the model says that it is lawful. The texts of help are in files beside this folder."""
 import os
+import re
 import resource
 import signal
 import socket
-import string
 import subprocess
 from tempfile import TemporaryFile
 
 import pytest
 
+from building.copies import version_here
 from model.journal import verdict
 from model.program import bytes_of
 from nfs4.client import Wrong, done, expect
@@ -21,7 +22,7 @@ from nfs4.messages import (GETATTR, GETFH, LEASE_TIME, LOOKUP, NFS4ERR_BADHANDLE
 from nfs4.served import PROGRAM, Piped, TOP
 from nfs4.wire import opaque
 
-pytestmark = pytest.mark.usefixtures("built_program")
+pytestmark = [pytest.mark.needs("nfs4state"), pytest.mark.quick]
 SAMPLE = os.path.join(TOP, "samples/files.toml")
 # The seconds that a run has, on however busy a machine.
 PATIENCE = 300
@@ -172,11 +173,12 @@ def test_help():
             want([*arguments, word], output=text)
 
 
+@pytest.mark.needs("rt")
 def test_version():
-    """It names the kit by which the gate has proved it, without the kit's letter."""
-    version = subprocess.run(["rt", "version"], stdout=subprocess.PIPE, text=True, check=True).stdout
-    kit = version.split()[0].rstrip(string.ascii_lowercase)
-    want(["--version"], output=f"nfs4state, proved by {kit}\n".encode())
+    """It names its version, and claims no proof if it is of no release."""
+    said = subprocess.run([PROGRAM, "--version"], stdout=subprocess.PIPE, text=True, check=True).stdout
+    assert re.fullmatch(rf"nfs4state {re.escape(version_here())}(, of no release| \([0-9a-f]{{8}}\+?\), NOT proved)\n", said)
+    want(["--version"], output=said.encode())
     decline("unexpected argument '--version' found", "nfs4state once [OPTIONS]", "once", "--version")
 
 

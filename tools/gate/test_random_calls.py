@@ -8,6 +8,8 @@ from gate.random_calls import CALLED_BACK, missing, run
 from model.fuzz import IDS, operations_in
 from nfs4.served import PROGRAM
 
+pytestmark = [pytest.mark.needs("nfs4state"), pytest.mark.quick]
+
 CALLS = 200
 
 

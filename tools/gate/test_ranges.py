@@ -8,6 +8,8 @@ import pytest
 
 from model.ranges import ALL_ONES, LAST_BYTE, READ_MODE, Ranges, WRITE_MODE, denial, length_of, meets, range_of
 
+pytestmark = pytest.mark.quick
+
 SIDE = 12
 # The byte at each place of a list; the place in the middle has all bytes between its neighbours.
 BYTES = [*range(SIDE), SIDE, *range(LAST_BYTE - SIDE + 1, LAST_BYTE + 1)]

@@ -13,6 +13,8 @@ from nfs4.client import expect
 from nfs4.served import TOP
 from nfs4.wire import Status
 
+pytestmark = pytest.mark.quick
+
 
 @pytest.fixture(scope="module")
 def headings():

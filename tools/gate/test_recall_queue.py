@@ -22,10 +22,10 @@ from itertools import count
 
 import pytest
 
-from model.check_rows import is_marked
 from model.entries import Call
 from model.journal import journal_bytes, read_journal
 from model.recall_queue import Queuing, ROOM
+from model.row_checks import is_marked
 from model.tree import Tree
 from nfs4.callbacks import recall_call
 from nfs4.client import Wrong
@@ -34,7 +34,7 @@ from nfs4.messages import (DELEGRETURN, GETATTR, NFS4ERR_RESOURCE, NFS4_OK, OPEN
 from nfs4.wire import Opnum, Status, opaque, record
 from sending.driver import Driver, Failed, MEMORY, Marked, NOT_LIVE, NoMemory, SHARED, Swept, TAKE
 
-pytestmark = pytest.mark.usefixtures("built_rows")
+pytestmark = pytest.mark.needs("rows")
 READ, WRITE, NONE = 1, 2, 0
 LEASE = 90
 HOLDERS = 41

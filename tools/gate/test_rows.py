@@ -11,15 +11,15 @@ import sys
 
 import pytest
 
-from model import check_rows
 from gate.row_journals import journal_of
 from model.journal import journal_bytes
+from model.row_checks import check
 from nfs4.rows import File, files_of
 from nfs4.served import TOP
 from sending import running
 from sending.driver import ALONE, PROGRAM
 
-pytestmark = pytest.mark.usefixtures("built_rows")
+needs_rows = pytest.mark.needs("rows")
 DATA = os.path.join(TOP, "crates/rows/data")
 # The ways to run rows, and in how many parts their files are run.
 WAYS = {"alone": (), "again": ("--again",), "shared": ("--shared",), "shared again": ("--shared", "--again")}
@@ -41,6 +41,7 @@ def files(request):
     return list(files_of(DATA))[request.param::PARTS]
 
 
+@needs_rows
 @each_way
 def test_pass(words, files):
     count = sum(len(File(file).rows) for file in files)
@@ -49,10 +50,11 @@ def test_pass(words, files):
 
 def test_model(capsys, tell):
     """The model's replies are those that the rows want."""
-    assert check_rows.main([DATA]) == 0
+    assert check([DATA]) == 0
     tell(capsys.readouterr().out.strip())
 
 
+@needs_rows
 def test_journals(files):
     """Each row leaves the journal that the model makes of it."""
     for row in (row for file in files for row in File(file).rows):
@@ -138,6 +140,7 @@ def places_of(path, rows):
         line += len(lines)
 
 
+@needs_rows
 @each_way
 def test_changed(words, files, path_of, file_of, tell):
     """Each row that is changed fails, by its name."""
@@ -211,6 +214,7 @@ BROKEN = [
       for word in words]]
 
 
+@needs_rows
 def test_broken_lines(file_of, tell):
     paths = [file_of(f"{number}.rows", "\n".join(lines) + "\n") for number, (lines, _, _) in enumerate(BROKEN)]
     status, report = run(*paths)
@@ -221,6 +225,7 @@ def test_broken_lines(file_of, tell):
     tell(f"{count} broken lines are told")
 
 
+@needs_rows
 def test_folders(path_of, file_of):
     """A folder that isn't there, one without rows, and a file that is no text."""
     status, report = run(path_of("missing"))
@@ -276,6 +281,7 @@ PROGRAMS = {
                        "1 rows in 1 files: 1 failed, 0 files not read\n"), ("--shared",))}
 
 
+@needs_rows
 @pytest.mark.parametrize("text, wanted, words", PROGRAMS.values(), ids=PROGRAMS)
 def test_programs(text, wanted, words, null_row, file_of):
     status, report = wanted

@@ -28,12 +28,15 @@ from nfs4.rows import File, files_of
 from nfs4.served import PROGRAM, Served, TOP
 from nfs4.wire import Opnum
 
-pytestmark = pytest.mark.usefixtures("built_program")
+pytestmark = pytest.mark.quick
+
 DATA = os.path.join(TOP, "crates/rows/data")
 # A server goes on until its input ends.
 GOES_ON = ["--listen", "127.0.0.1:0", "--until-input-ends"]
 MODEL = [sys.executable, os.path.join(TOP, "tools/model/serve.py"), *GOES_ON]
-SERVERS = {"model": MODEL, "program": [PROGRAM, "serve", *GOES_ON]}
+needs_program = pytest.mark.needs("nfs4state")
+SERVERS = [pytest.param(MODEL, id="model"),
+           pytest.param([PROGRAM, "serve", *GOES_ON], id="program", marks=needs_program)]
 # How many ids of clients a run of send_rows may have: each may be that of a live client until its lease is over.
 IDS_LIMIT = 250
 # How often a row is sent of which a reply is waited for a short while.
@@ -111,7 +114,7 @@ def ending(known=0):
 
 # By names.
 
-@pytest.mark.parametrize("command", SERVERS.values(), ids=SERVERS)
+@pytest.mark.parametrize("command", SERVERS)
 def test_all(command, path_of, tell):
     """All rows, one after another. By the journal the ids of their clients are few, though each row has its own
     verifiers, and its clients begin anew by others."""
@@ -328,6 +331,7 @@ def is_refused(row):
     return any((connection.fault or "").startswith("tree refused") for connection in row.connections)
 
 
+@needs_program
 def test_alone(files, tell):
     rows = rows_in(files)
     sent = [row for row in rows if not row.is_ordering]
@@ -364,6 +368,7 @@ WRONG_ALONE = {
 """}
 
 
+@needs_program
 def test_wrong_alone(file_of):
     path = file_of("wrong.rows", "".join(f"row {name}\n{lines}" for name, lines in WRONG_ALONE.items()))
     status, said = send("--serve", f"{PROGRAM} serve", path)

@@ -6,6 +6,8 @@ import pytest
 
 from nfs4.served import TOP
 
+pytestmark = pytest.mark.needs("rt")
+
 
 @pytest.mark.long
 def test_serial():

@@ -35,6 +35,8 @@ from nfs4.messages import (CLOSE, COMPOUND, DELEGRETURN, GETATTR, LOCKT, LOOKUP,
 from nfs4.served import NO_CALLBACKS, PATIENCE, PROGRAM, Served, TOP, with_interrupts
 from nfs4.wire import Status, opaque, split_records
 
+pytestmark = [pytest.mark.needs("nfs4state"), pytest.mark.quick]
+
 # The addresses in bytes that 64 connections within long records are given, which is room for 64 stacks of 8 MB and as
 # many arenas of the C library of 64 MB; and the most of it that may be in use.
 ADDRESSES, IN_USE = 5 << 30, 256 << 20

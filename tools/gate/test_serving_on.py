@@ -29,6 +29,8 @@ from nfs4.messages import (GETATTR, NFS4ERR_RESOURCE, NFS4_OK, NULL, PUTROOTFH, 
 from nfs4.served import NO_CALLBACKS, PATIENCE, PROGRAM, REPLY_PATIENCE, Served, TOP
 from nfs4.wire import opaque
 
+pytestmark = [pytest.mark.needs("nfs4state"), pytest.mark.quick]
+
 # The connections that come in turn, each with a client, and those that are busy when the input ends; and the long calls
 # that come just before it does.
 TURNS, BUSY, LONG = 180, 20, 4

@@ -8,6 +8,8 @@ import pytest
 
 from nfs4.served import TOP
 
+pytestmark = pytest.mark.quick
+
 
 @pytest.mark.parametrize("words", [["rows_index", "--check"], ["floors"], ["check_clauses"]], ids=" ".join)
 def test_sources(words, tell):

@@ -32,6 +32,7 @@ def test_numbers(given, lives, is_right):
             Judge.expect_numbers(judged)
 
 
+@pytest.mark.needs("rows")
 @pytest.mark.parametrize("seed", [1, 2, 3])
 def test_runs(seed, program, tell):
     tally = Tally()
@@ -40,6 +41,7 @@ def test_runs(seed, program, tell):
     tell(tally.words())
 
 
+@pytest.mark.needs("rows")
 @pytest.mark.parametrize("served", REFUSED_RUNS)
 def test_without_threads(served, program):
     run_refused(1, program, served)

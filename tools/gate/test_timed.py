@@ -11,6 +11,8 @@ from nfs4.messages import (GETATTR, NFS4ERR_STALE_CLIENTID, NFS4_OK, PUTFH, PUTR
                            confirmation, handle, results, setclientid, words)
 from nfs4.wire import record, u64
 
+pytestmark = pytest.mark.quick
+
 EPOCH, LEASE = 7, 1
 # The replies of RENEW that are told in place of the model's.
 OK, STALE = NFS4_OK, NFS4ERR_STALE_CLIENTID

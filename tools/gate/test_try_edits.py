@@ -12,7 +12,9 @@ import pytest
 
 from nfs4.served import TOP
 
-SCRIPTS = ("try_edits", "edits.py", "edit_verdicts.py", "edits_kept.py")
+pytestmark = pytest.mark.needs("rt")
+
+SCRIPTS = ("try_edits", "edits.py", "edit_verdicts.py", "edits_kept.py", "nfs4/__init__.py", "nfs4/python_version.py")
 
 FILES = {
     "crates.txt": "low:\nhigh: low\n",
@@ -161,7 +163,7 @@ def top(path_of):
     write(folder, {f"crates/high/wrong/{name}.edit": edit_text(function, pairs)
                    for name, (function, pairs, _) in EDITS.items()})
     os.mkdir(os.path.join(folder, ".git"))
-    os.mkdir(os.path.join(folder, "tools"))
+    os.makedirs(os.path.join(folder, "tools/nfs4"))
     for name in SCRIPTS:
         shutil.copy(os.path.join(TOP, "tools", name), os.path.join(folder, "tools", name))
     return folder

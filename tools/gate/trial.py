@@ -1,24 +1,16 @@
 """What the tests of servers over TCP have in common: a journal's verdict by program and model, what peers got beside
 it, and what is tried again where it came late."""
-import argparse
 import functools
 import os
-import signal
-import sys
-import tempfile
-import threading
-from collections.abc import Callable, Sequence
+from collections.abc import Callable
 from typing import Any
 
 from gate.told import Judge
-from model.entries import NotJournal
 from model.journal import Journal, read_journal, verdict
 from model.program import Program, bytes_of
 from nfs4.client import Client, Wrong, expect
-from nfs4.served import PROGRAM, Peer, Served, TOP
-from nfs4.wire import Unreadable
+from nfs4.served import PROGRAM, Peer, Served
 
-ROOM = tempfile.TemporaryDirectory()
 # How often a test is tried where something comes late.
 TRIES = 3
 
@@ -40,22 +32,6 @@ def tried_again(test: Callable[..., None]) -> Callable[..., None]:
     return tried
 
 
-def read_options(text: str, *switches: str, name: str = "nfs4state") -> argparse.Namespace:
-    """The words of a script that says this of itself: a built program of this name, and any of these switches."""
-    parser = argparse.ArgumentParser(description=text, formatter_class=argparse.RawDescriptionHelpFormatter)
-    for switch in switches:
-        parser.add_argument(switch, action="store_true")
-    built = os.path.join(TOP, f"crates/{name}/out/{name}")
-    parser.add_argument("program", nargs="?", default=built, help=f"a built {name}")
-    given = parser.parse_args()
-    given.program = os.path.abspath(given.program)
-    return given
-
-
-def path_of(name: str) -> str:
-    return os.path.join(ROOM.name, name)
-
-
 def peer_of(served: Served, **how: Any) -> Peer:
     if served.port is None:
         raise Wrong(f"it doesn't listen: {served.end()}")
@@ -68,15 +44,15 @@ def greet(served: Served, uid: int = 1) -> None:
         Client(peer, uid).null()
 
 
-def lawful_journal(program: str | None, path: str) -> Journal:
-    """The journal of this file, which the program, if there is one, and the model find lawful."""
+def lawful_journal(program: str, path: str) -> Journal:
+    """The journal of this file, which the model finds lawful, and so does the program, if it is built."""
     data = bytes_of(path)
     if data is None:
         raise Wrong("there is no journal")
     is_lawful, line = verdict(data)
     if not is_lawful:
         raise Wrong(f"the model says of the journal: {line}")
-    if program is not None:
+    if os.path.isfile(program):
         expect("an audit", Program(program).audit(data), (0, f"{line}\n".encode(), b""))
     return read_journal(data)
 
@@ -95,15 +71,3 @@ def judged(path: str, *clients: Client) -> Journal:
         expect_in_journal(judge, client)
     judge.expect_ends()
     return judge.journal
-
-
-def run_parts(parts: Sequence[Callable[[], Any]]) -> None:
-    """Runs the parts; the first that goes wrong ends the script with a line."""
-    # Where this is ended, so are the servers.
-    signal.signal(signal.SIGTERM, lambda *_: sys.exit(1))
-    for part in parts:
-        try:
-            part()
-        except (Wrong, NotJournal, Unreadable, OSError, threading.BrokenBarrierError) as wrong:
-            sys.exit(f"{os.path.basename(sys.argv[0])}: {part.__name__}: {type(wrong).__name__}: {wrong}")
-    ROOM.cleanup()

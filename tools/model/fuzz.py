@@ -22,24 +22,26 @@ import random
 import sys
 from collections import Counter
 from collections.abc import Callable, Iterator, Sequence
-from dataclasses import replace
 from typing import Any, TypeVar
 
 sys.dont_write_bytecode = True
 from packages import make_known
 make_known()
+from dataclasses import replace
+
 from model.attributes import FIRST_COOKIE
-from model.check_rows import outcome_of
 from model.entries import Expire, Forget as Forgetting, Path, Revoke as Revocation
 from model.journal import Recorder, journal_bytes
 from model.operations.readdir import LISTING_ENDS
 from model.pages import CASES, CUTS, LENGTHS, PAGE, Pages
 from model.ranges import ALL_ONES, LAST_BYTE
+from model.row_checks import outcome_of
 from model.server import CLIENTS_LIMIT
 from model.states import (ClientRecord, Delegation, KeptState, LockState, Owner, OwnerName, Refusal, Request, Result,
                           SLOTS, handle_of, next_sequence_id)
 from model.tree import CLIENTS, CLOSE_LOCKS, DEFAULT, PROFILES, TEXT_LIMIT, Tree
 from nfs4 import rows, wire
+from nfs4.built import expect_program
 from nfs4.rows import Forget, Mark, Order, Part, Pending, Probe, Revoke, Row, Step, Sweep, Take
 from nfs4.wire import OpenOwner, Opnum, Principal, Status, opaque, u32, u64
 from sending.driver import ALONE, PROGRAM, SHARED
@@ -654,6 +656,7 @@ def main() -> int:
     parser.add_argument("--ids", type=int, default=IDS, help="ids of clients")
     parser.add_argument("--profile", choices=PROFILES, help="the one of all runs (either)")
     words = parser.parse_args()
+    expect_program(words.program)
     counts: Counter[Any] = Counter()
     runs, seed = 0, words.seed
     with multiprocessing.Pool(words.jobs) as pool:

@@ -8,12 +8,12 @@ before it. `Recorder` is a model that keeps its journal. `Growing` reads a file 
 import argparse
 import sys
 from collections.abc import Callable, Iterator
-from dataclasses import dataclass, field
 from typing import Any, NamedTuple
 
 sys.dont_write_bytecode = True
 from packages import make_known
 make_known()
+from dataclasses import dataclass, field
 
 from model.entries import (Answer, Call, EndsEarly, Entry, Expire, Forget, NotJournal, Path, Revoke, StrictReader,
                            entry_bytes, read_entry)

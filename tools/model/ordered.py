@@ -107,8 +107,10 @@ class Session:
 
     def run(self) -> None:
         orders = [self.serve, self.sweep, self.mark, self.revoke, self.take, self.pending, self.probe, self.forget]
-        while (number := self.input.next_order()) is not None:
+        number = self.input.next_order()
+        while number is not None:
             orders[limited(number - 1, len(orders))]()
+            number = self.input.next_order()
         data = journal_bytes(self.server.journal())
         send(u32(len(data)) + data)
 

@@ -641,9 +641,3 @@ def words_beside(wanted: bytes, got: bytes, whose: str) -> Iterator[str]:
     for place in range(max(0, first - 20), min(count, first + 20)):
         mark = "" if left[place] == right[place] else "  <--"
         yield f"    {place:>6}  {left[place]:<8}  {right[place]:<8}{mark}"
-
-
-def show_difference(wanted: bytes, got: bytes, whose: str) -> None:
-    """Prints the words round the first difference, where there is one."""
-    for line in words_beside(wanted, got, whose) if wanted != got else ():
-        print(line)

@@ -11,11 +11,10 @@ import time
 from collections.abc import Iterator
 from typing import Any, TypeVar
 
+from nfs4.built import TOP as TOP, program_path
 from nfs4.messages import split
 
-# The repository's folder, and the program as it is built there.
-TOP = os.path.dirname(os.path.dirname(os.path.dirname(os.path.abspath(__file__))))
-PROGRAM = os.path.join(TOP, "crates/nfs4state/out/nfs4state")
+PROGRAM = program_path("nfs4state")
 LISTENING = re.compile(rb"listening on 127\.0\.0\.1:([0-9]+)\n")
 # The line behind it, which says what is served.
 SERVING = re.compile(rb"serving [0-9]+ files, lease [0-9]+ s, epoch [0-9]+\n")
@@ -78,7 +77,12 @@ class Served(Process):
 
     def __init__(self, command: list[str], **how: Any) -> None:
         super().__init__(command, **{"stdin": subprocess.DEVNULL} | how)
-        self.errors = self.next_line()
+        try:
+            self.errors = self.next_line()
+        except BaseException:
+            # Nobody else ends it then.
+            self.__exit__()
+            raise
         found = LISTENING.fullmatch(self.errors)
         self.port = int(found[1]) if found else None
         if found:

@@ -61,16 +61,16 @@ way, revoke or forget in the second, and a number that is to be 0 or 1 and isn't
 import os
 import select
 import subprocess
-import sys
 import time
 from typing import Any, BinaryIO, NamedTuple
 
 from model.tree import DEFAULT
-from nfs4.served import Process, TOP
+from nfs4.built import ROWS, program_path
+from nfs4.served import Process
 from nfs4.wire import u32, u64
 
 
-PROGRAM = os.path.join(TOP, "crates/rows/out/rows")
+PROGRAM = program_path(ROWS)
 # The ways to keep the state: each connection is served alone, with a core of its own; or each by a thread and a seat of
 # its own, with a state that they share.
 ALONE, SHARED = 0, 1
@@ -104,20 +104,6 @@ class Failed(Exception):
 
 class NoMemory(Failed):
     """The program says that it is out of memory."""
-
-
-def build(path: str = PROGRAM) -> None:
-    """Builds the program, if it isn't there: that proves it, and all that it uses."""
-    if os.path.exists(path):
-        return
-    folder = os.path.dirname(os.path.dirname(path))
-    print(f"rows: {os.path.relpath(path)} isn't there: `rt run` in {os.path.relpath(folder)} proves and builds it",
-          file=sys.stderr)
-    try:
-        # It also runs what it has built. This run has nothing but its head.
-        subprocess.run(["rt", "run"], cwd=folder, input=head(ALONE), stdout=subprocess.DEVNULL, check=True)
-    except (OSError, subprocess.CalledProcessError) as error:
-        raise Failed(f"it can't be built ({error}); tools/model/check_rows.py runs rows without it") from None
 
 
 def part(data: bytes) -> bytes:

@@ -3,6 +3,7 @@
 
 ghost use Rattle.nfs_options.specs.CommandLine.{IsOnceWithinLimits};
 
+mod build;
 mod inputs;
 mod listening;
 mod new_file;
@@ -12,6 +13,7 @@ mod serve;
 mod stand_ins;
 mod told;
 
+use crate::build::BUILD;
 use crate::inputs::{core_of, file, journal_file, tree};
 use crate::serve::serve;
 use nfs_core::{Moment, Seeds};
@@ -21,9 +23,6 @@ use nfs_server::{Counted, Sides};
 use std::io::Eprint;
 use std::process::ExitCode;
 use std::{env, io};
-
-// What `--version` prints: the toolchain by which all of this is proved.
-const VERSION: &str = "nfs4state, proved by rattle-kit-13\n";
 
 /// Does what the words of the command line ask for: see `nfs4state --help`.
 fn main(rt: HostRuntime) -> ExitCode {
@@ -35,7 +34,7 @@ fn main(rt: HostRuntime) -> ExitCode {
         Err(_) => return print_usage(&rt, "error: a word isn't UTF-8\n"),
     };
     if asks_version(words.as_slice()) {
-        return print_help(&rt, VERSION);
+        return print_help(&rt, BUILD);
     }
     match options(rt.alloc(), words.as_slice()) {
         Ok(Subcommand::Once(options)) => ExitCode::from(once(&rt, &options)),

@@ -11,7 +11,7 @@ use std::alloc::{AllocError, Global};
 
 const PROGRAM_NOTE: &str = "Without a command it does what `nfs4state once` does without options.
 `nfs4state once --help` and `nfs4state serve --help` show the options,
-and `nfs4state --version` the toolchain by which it is proved.";
+and `nfs4state --version` the version, the commit, and whether that was proved.";
 
 const ONCE_NOTE: &str = "Example:
   nfs4state once --tree files.toml < records > replies";
