@@ -13,13 +13,13 @@ from functools import cache
 from gate.pages import LINK, with_imported
 from nfs4.served import TOP
 
-COMMANDS = [f"tools/{name}" for name in ("between", "explain", "listen_callbacks", "quick_tests", "rows", "send_rows",
-                                         "show_journal", "model/check_rows.py", "model/journal.py", "model/once.py",
-                                         "model/serve.py")]
+COMMANDS = [f"tools/{name}" for name in ("between", "explain", "judge", "listen_callbacks", "quick_tests", "rows",
+                                         "send_rows", "show_journal", "model/check_rows.py", "model/journal.py",
+                                         "model/once.py", "model/serve.py")]
 # Files, and folders with all that is in them.
 OTHERS = ["start", "README.md", "CHANGELOG.md", "docs/CLAIMS.md", "docs/CLIENTS.md", "docs/JOURNAL.md",
-          "docs/PROGRAM.md", "docs/RULES.md", "tools/model/README.md", "samples/*", "crates/rows/README.md",
-          "crates/rows/INDEX", "crates/rows/data/*"]
+          "docs/PROGRAM.md", "docs/RULES.md", "docs/verdict.schema.json", "tools/model/README.md", "samples/*",
+          "crates/rows/README.md", "crates/rows/INDEX", "crates/rows/data/*"]
 PROGRAM, RELEASE, PROOF = "nfs4state", "RELEASE", "PROOF"
 # The most bytes that an archive may have.
 LIMIT = 2 << 20

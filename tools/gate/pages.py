@@ -29,12 +29,12 @@ from clause_index import crates, functions_of, items_in, sources_of
 from nfs4.served import TOP
 
 BUDGETS = {
-    "README.md": 900, "docs/CLAIMS.md": 4700, "docs/CLIENTS.md": 3900, "docs/CONTRACTS.md": 1500,
+    "README.md": 1080, "docs/CLAIMS.md": 4700, "docs/CLIENTS.md": 4620, "docs/CONTRACTS.md": 1500,
     "docs/CONTRIBUTING.md": 2200, "docs/DECISIONS.md": 4000, "docs/JOURNAL.md": 1350, "docs/MAP.md": 2500,
     "docs/MEASURED.md": 1200, "docs/PROGRAM.md": 2200, "docs/RULES.md": 7000, "crates/rows/README.md": 2200,
     "tools/model/README.md": 900, "tools/bench/README.md": 600}
 # Of each other page of a crate, of these together, and of all pages but those of tools.
-CRATE, ALL_CRATES, ALL = 180, 3900, 37_400
+CRATE, ALL_CRATES, ALL = 180, 3900, 38_000
 
 PAGE = re.compile(r"README\.md|docs/\w+\.md|(?:crates|tools)/\w+/README\.md")
 FOR_CLIENTS = re.compile(r"README\.md|docs/(?:CLIENTS|PROGRAM|RULES|JOURNAL)\.md|crates/rows/README\.md")

@@ -1,9 +1,9 @@
 """Refusals, each with the reason that has to be given for it, for test_reasons.py. The reasons were worked out from
-docs/RULES.md: what stands in the way, since which entry, and under which heading that is."""
-from collections.abc import Callable, Sequence
+docs/RULES.md: what conflicts or is wrong, since which entry, and under which heading that is."""
+from collections.abc import Sequence
 from typing import Any
 
-from gate.journal_cases import CALLBACK, FOR_CLIENTS, LAST, NO_CREATE, NOBODY, SOMEBODY
+from gate.journal_cases import CALLBACK, LAST, NO_CREATE, NOBODY, SOMEBODY
 from model.journal import Recorder
 from model.tree import DEFAULT, Tree
 from nfs4.wire import (Claim, Close, Delegreturn, Getattr, KnownLocker, Lock, LockOwner, Lockt, Locku, NewLocker, Open,
@@ -136,9 +136,9 @@ def stateids() -> Story:
     story.close(4, state(1, 2, epoch=2), ("the stateid is of epoch 2, and this server's is 1", STATEIDS))
     story.close(4, state(1, 2, client=5), ("the stateid is one of client 5, which was never given", STATEIDS))
     story.close(4, state(7, 2), ("state 7 was never given", OWNERS))
-    kind = f"the stateid is that of state 1, an {OPEN_A}; a lock state is wanted here"
+    kind = f"the stateid is that of state 1, an {OPEN_A}; a lock state is wanted here, such as state 2"
     story.unlock(4, state(1, 2), (kind, STATEIDS))
-    kind = f"the stateid is that of state 2, a {LOCK_X}; an open is wanted here"
+    kind = f"the stateid is that of state 2, a {LOCK_X}; an open is wanted here, such as state 1"
     story.close(2, state(2), (kind, STATEIDS))
     place = f'the stateid is that of state 1, an {OPEN_A}, and the current filehandle that of file "/b"'
     story.close(4, state(1, 2), (place, STATEIDS), OTHER_FILE)
@@ -249,10 +249,10 @@ def sequence_ids() -> Story:
     story.close(4, state(1, 2), (due + "4 came", OWNERS))
     story.close(2, state(1), (due + "2 came: that of the entry itself, with another operation", OWNERS))
     itself = due + "2 came: that of the entry itself, with "
-    story.confirm(2, state(1, 2), (itself + "other arguments", OWNERS))
+    story.confirm(2, state(1, 2), (itself + "another stateid", OWNERS))
     story.confirm(2, state(1), (itself + "another current filehandle", OWNERS), OTHER_FILE)
     story.open(3, NO_FILE, name=b"e")
-    again = "it is the request of entry 8 (OPEN) again, and gets the same answer; what stood in its way then: "
+    again = "it is the request of entry 8 (OPEN) again, and gets the kept answer; the cause then: "
     story.repeat(8, OPEN_BY_A, (again + NO_FILE[0], OWNERS))
     story.lock_first(4, state(1, 2), 7)
     due = '8 is the next sequence id of lock owner "x" of client 1, after entry 10 (LOCK), and '
@@ -261,7 +261,8 @@ def sequence_ids() -> Story:
                  "10 (LOCK)")
     story.lock_first(5, state(1, 2), 8, (has_state, "LOCK"))
     story.open(5, name=b"b")
-    story.lock_first(6, state(3), 5, (due + "the lock_seqid is 5", "LOCK"), filehandle=OTHER_FILE)
+    uncounted = "the lock_seqid is 5; entry 12 (LOCK) had 8, and NFS4ERR_BAD_SEQID doesn't count"
+    story.lock_first(6, state(3), 5, (due + uncounted, "LOCK"), filehandle=OTHER_FILE)
     other = "the lock owner has the clientid 1 2, and the open is one of client 1"
     story.lock_first(6, state(3), 5, (other, "LOCK"), LockOwner(1, 2, b"x"), filehandle=OTHER_FILE)
     return story
@@ -291,7 +292,7 @@ def kept_answers() -> Story:
     story.repeat(14, 'LOCKU by lock owner "x" of client 1')
     # Entries 16 to 19: a refusal is kept as well, and a CLOSE though the open is gone.
     story.open(6, NO_FILE, name=b"e")
-    again = "it is the request of entry 16 (OPEN) again, and gets the same answer; what stood in its way then: "
+    again = "it is the request of entry 16 (OPEN) again, and gets the kept answer; the cause then: "
     story.repeat(16, OPEN_BY_A, (again + NO_FILE[0], OWNERS))
     story.close(7, state(1, 4))
     story.repeat(18, 'CLOSE by open owner "A" of client 1')
@@ -378,7 +379,7 @@ def shares() -> Story:
 
 
 def many_shares() -> Story:
-    """Of many that are in the way some are named."""
+    """Of many that conflict some are named."""
     story = begun()
     named = ['open owner "A" of client 1 has file "/a" open for READ, which this OPEN denies, since entry 2']
     for number, name in enumerate((b"B", b"C", b"D", b"E"), 4):
@@ -421,254 +422,6 @@ def locks() -> Story:
     return story
 
 
-def bytes_of_files() -> Story:
-    """READ and WRITE by special stateids, and by those of opens and lock states."""
-    story, second = begun(), state(1, 2)
-    directory = 'the current filehandle is that of directory "/d", and no file\'s'
-    asks: list[tuple[Callable[..., None], str]] = [(story.read, "READ"), (story.write, "WRITE")]
-    for ask, heading in asks:
-        for stateid in (ZEROS, second):
-            ask(stateid, NO_HANDLE, None)
-            ask(stateid, (directory, heading), DIRECTORY)
-        ask(ZEROS)
-        ask(second)
-        ask(second._replace(epoch=2), ("the stateid is of epoch 2, and this server's is 1", STATEIDS))
-        ask(second._replace(client=5), ("the stateid is one of client 5, which was never given", STATEIDS))
-        ask(state(7), ("state 7 was never given", STATEIDS))
-        place = f'the stateid is that of state 1, an {OPEN_A}, and the current filehandle that of file "/b"'
-        ask(second, (place, STATEIDS), OTHER_FILE)
-        stands = "state 1 has seqid 2 since entry 3 (OPEN_CONFIRM), and the stateid has the "
-        ask(state(1), (stands + "earlier 1", STATEIDS))
-        ask(state(1, 3), (stands + "later 3", STATEIDS))
-    story.write(second, ("offset 65532 and 5 bytes add up to 65537, and a file has 65536 at most", "WRITE"),
-                offset=65532)
-    story.write(second, offset=65531)
-    # Entries 30 to 33: state 2 is B's open of `b`, which writes and denies READ; and then state 3, a lock of it.
-    entry = story.server.entries
-    story.open(1, owner=b"B", access=2, deny=1, name=b"b")
-    unconfirmed = (f'open owner "B" of client 1 isn\'t confirmed: it has opened the file in entry {entry}, and no '
-                   "OPEN_CONFIRM has followed")
-    story.read(state(2), (unconfirmed, STATEIDS), OTHER_FILE)
-    denies = f'open owner "B" of client 1 denies READ of file "/b" since entry {entry}'
-    story.read(ZEROS, (denies + " (it isn't confirmed, which makes no difference here)", "READ"), OTHER_FILE)
-    story.write(ONES, filehandle=OTHER_FILE)
-    story.confirm(2, state(2), filehandle=OTHER_FILE)
-    story.read(ONES, (denies, "READ"), OTHER_FILE)
-    access = 'READ takes access to READ, and state 2, an open of file "/b" by open owner "B" of client 1, has access'
-    story.read(state(2, 2), (f"{access} to WRITE alone", "READ"), OTHER_FILE)
-    story.lock_first(3, state(2, 2), 1, filehandle=OTHER_FILE)
-    story.read(state(3), (f"{access} to WRITE alone", "READ"), OTHER_FILE)
-    story.write(state(3), filehandle=OTHER_FILE)
-    story.expire(1)
-    gone = f"client 1 was removed by entry {story.server.entries - 1}, as its lease was over"
-    story.read(state(3), (gone, STATEIDS), OTHER_FILE)
-    story.write(second, (gone, STATEIDS))
-    return story
-
-
-def bytes_of_lent_files() -> Story:
-    """READ and WRITE by delegations, and by special stateids beside them."""
-    story = lent()
-    story.write(state(2))
-    story.read(state(2))
-    bars = (f"state 2, {A_DELEGATION} to client 1 since entry 4 (OPEN), keeps out READs and WRITEs by a special "
-            "stateid, whoever sends them, and ")
-    story.read(ZEROS, (bars + "is called back now", DELEGATIONS))
-    story.write(ONES, (bars + "was called back by entry 9 (READ)", DELEGATIONS))
-    story.tell(f"client 1 gets state 4, {TO_READ}")
-    story.open(4, None, access=1, name=b"b")
-    # Theirs are the opens 3 and 5, with the delegations 4 and 6.
-    story.open(1, owner=b"B", access=1, client=2, name=b"b")
-    story.confirm(2, state(5, client=2), filehandle=OTHER_FILE)
-    story.tell(f"client 2 gets state 6, {TO_READ}")
-    story.open(3, None, b"B", 1, client=2, name=b"b")
-    story.read(ZEROS, filehandle=OTHER_FILE)
-    mode = f"WRITE takes access to WRITE, and the stateid is that of state 6, {TO_READ} to client 2"
-    story.write(state(6, client=2), (mode, "WRITE"), OTHER_FILE)
-    bars = "keeps out WRITEs by a special stateid, whoever sends them, and is called back now"
-    both = (f"state 4, {TO_READ} to client 1 since entry 11 (OPEN), {bars}; state 6, {TO_READ} to client 2 since entry "
-            f"14 (OPEN), {bars}")
-    story.write(ZEROS, (both, DELEGATIONS), OTHER_FILE)
-    story.tell(f"client 1 gives back state 2, {A_DELEGATION}; it was called back by entry 9 (READ), at 0")
-    story.give_back(state(2))
-    ended = f"state 2, {A_DELEGATION} to client 1, was ended by entry 18 (DELEGRETURN)"
-    story.write(state(2), (ended, STATEIDS))
-    return story
-
-
-A_DELEGATION, TO_READ = 'a delegation of file "/a" for writing', 'a delegation of file "/b" for reading'
-
-
-def lent() -> Story:
-    """Client 1 has state 1, its open of `a` by A, and state 2, a delegation for writing: entries 0 to 4. A's next
-    sequence id is 4. Client 2 is live: entries 5 and 6."""
-    story = Story('policy.callbacks = "assume"\n' + DEFAULT)
-    story.introduce()
-    story.confirm_client(1, 1)
-    story.open(1)
-    story.confirm(2, state(1))
-    story.tell(f"client 1 gets state 2, {A_DELEGATION}")
-    story.open(3)
-    story.introduce(b"c2")
-    story.confirm_client(2, 2)
-    return story
-
-
-def delays() -> Story:
-    """OPENs that meet delegations of others, called back by them or before."""
-    story = lent()
-    bars = f"state 2, {A_DELEGATION} to client 1 since entry 4 (OPEN), keeps out any open of another client, and "
-    story.open(1, (bars + "is called back now", DELEGATIONS), b"B", 1, client=2)
-    story.open(1, (bars + "was called back by entry 7 (OPEN)", DELEGATIONS), b"B", 2, client=2)
-    story.tell(f"client 1 gets state 4, {TO_READ}")
-    story.open(4, None, access=1, name=b"b")
-    story.open(1, owner=b"B", access=1, client=2, name=b"b")
-    story.confirm(2, state(5, client=2), filehandle=OTHER_FILE)
-    story.tell(f"client 2 gets state 6, {TO_READ}")
-    story.open(3, None, b"B", 1, client=2, name=b"b")
-    story.introduce(b"c3")
-    story.confirm_client(3, 3)
-    both = (f"state 4, {TO_READ} to client 1 since entry 9 (OPEN), keeps out opens of other clients that write or deny "
-            f"READ, and is called back now; state 6, {TO_READ} to client 2 since entry 12 (OPEN), keeps out opens of "
-            "other clients that write or deny READ, and is called back now")
-    story.open(1, (both, DELEGATIONS), b"C", 2, client=3, name=b"b")
-    return story
-
-
-def many_delays() -> Story:
-    """Of many that are in the way some are named, in the order of their numbers."""
-    story, named = Story('policy.callbacks = "assume"\n' + DEFAULT), []
-    for client in range(1, 6):
-        story.introduce(b"c%d" % client)
-        story.confirm_client(client, client)
-        story.open(1, owner=b"A", access=1, client=client)
-        story.confirm(2, state(2 * client - 1, client=client))
-        story.tell(f'client {client} gets state {2 * client}, a delegation of file "/a" for reading')
-        named.append(f'state {2 * client}, a delegation of file "/a" for reading to client {client} since entry '
-                     f"{story.server.entries} (OPEN), keeps out opens of other clients that write or deny READ, and is "
-                     "called back now")
-        story.open(3, owner=b"A", access=1, client=client)
-    story.introduce(b"c6")
-    story.confirm_client(6, 6)
-    story.open(1, ("; ".join(named[:3]) + "; and 2 more", DELEGATIONS), b"B", 2, client=6)
-    return story
-
-
-def delegation_stateids() -> Story:
-    """Of delegations, in the operations that work on them and in those that don't."""
-    story, other = lent(), "the stateid is that of state 2, "
-    story.close(4, state(2), (f"{other}{A_DELEGATION} to client 1, and a delegation has no owner", OWNERS))
-    wanted = f"the stateid is that of state 1, an {OPEN_A}; a delegation is wanted here"
-    story.give_back(state(1, 3), (wanted, STATEIDS))
-    place = f'{other}{A_DELEGATION} to client 1, and the current filehandle that of file "/b"'
-    story.give_back(state(2), (place, STATEIDS), OTHER_FILE)
-    stands = "state 2 has seqid 1 since entry 4 (OPEN), and the stateid has the "
-    story.give_back(state(2, 0), (stands + "earlier 0", STATEIDS))
-    story.give_back(state(2, 2), (stands + "later 2", STATEIDS))
-    story.give_back(state(2), NO_HANDLE, None)
-    strange = "the stateid is of epoch 2, and this server's is 1"
-    story.give_back(state(2, epoch=2), (strange, STATEIDS))
-    whose = "state 2 was given to client 1, and the stateid is one of client 2"
-    story.give_back(state(2, client=2), (whose, STATEIDS))
-    claim, of = Claim(2, b"a", state(2)), "of the delegation's stateid: "
-    # It isn't looked for what is in the way.
-    theirs = f"it is that of state 2, {A_DELEGATION} to client 1, and the OPEN is one of client 2"
-    story.open(1, (of + theirs, "OPEN"), b"B", 1, client=2, claim=claim)
-    story.open(4, (of + stands + "earlier 0", STATEIDS), claim=Claim(2, b"a", state(2, 0)))
-    story.open(5, (of + stands + "later 2", STATEIDS), claim=Claim(2, b"a", state(2, 2)))
-    story.open(5, (of + place.replace("the current filehandle that of", "the OPEN names"), STATEIDS), name=b"b",
-               claim=Claim(2, b"b", state(2)))
-    story.tell(f"client 1 gives back state 2, {A_DELEGATION}; it wasn't called back")
-    story.give_back(state(2))
-    ended = f"state 2, {A_DELEGATION} to client 1, was ended by entry 19 (DELEGRETURN)"
-    story.give_back(state(2), (ended, STATEIDS))
-    story.open(5, (of + ended, STATEIDS), claim=claim)
-    return story
-
-
-def ends_of_delegations() -> Story:
-    """Returned after a recall, revoked, and gone with their clients."""
-    story = lent()
-    bars = f"state 2, {A_DELEGATION} to client 1 since entry 4 (OPEN), keeps out any open of another client, and "
-    called = (bars + "is called back now", DELEGATIONS)
-    story.open(1, called, b"B", 1, client=2)
-    story.tell(f"client 1 gives back state 2, {A_DELEGATION}; it was called back by entry 7 (OPEN), at 0")
-    story.give_back(state(2))
-    story.tell(f"client 1 gets state 3, {A_DELEGATION}")
-    story.open(4)
-    # The same OPEN again gives nothing.
-    story.tell(f"client 1 is told again of state 3, {A_DELEGATION}, which entry 9 gave it")
-    story.repeat(9, OPEN_BY_A)
-    bars = f"state 3, {A_DELEGATION} to client 1 since entry 9 (OPEN), keeps out any open of another client, and "
-    story.server.moment = 10
-    story.open(1, (bars + "is called back now", DELEGATIONS), b"B", 1, client=2)
-    lost = f"client 1 loses state 3, {A_DELEGATION}, as it is revoked; it was called back by "
-    story.tell(lost + "entry 11 (OPEN), at 10")
-    story.server.revoke(101)
-    ended = f"state 3, {A_DELEGATION} to client 1, was ended by entry 12, as it wasn't given back in time"
-    story.give_back(state(3), (ended, STATEIDS))
-    story.tell("the path of client 1 was up since entry 1 (SETCLIENTID_CONFIRM)")
-    story.server.mark_path(1, False)
-    story.open(5)
-    story.tell("the path of client 1 was down since entry 14")
-    story.server.mark_path(1, True)
-    story.tell(f"client 1 gets state 4, {A_DELEGATION}")
-    story.open(6)
-    story.tell(f"client 1 loses state 4, {A_DELEGATION}, as the client is removed; it wasn't called back")
-    story.expire(1)
-    gone = "client 1 was removed by entry 18, as its lease was over"
-    story.give_back(state(4), (gone, STATEIDS))
-    return story
-
-
-def clients_with_delegations() -> Story:
-    """A delegation is state of its client, and goes where another one takes its place."""
-    story = lent()
-    story.close(4, state(1, 3))
-    used = (f'the id "c1" is that of client 1, by AUTH_NONE, which has state: state 2, {A_DELEGATION} to client 1, '
-            "since entry 4 (OPEN)")
-    story.introduce(verifier=2, because=(used, "SETCLIENTID"), principal=SOMEBODY)
-    story.introduce(verifier=2)
-    story.tell(f"client 1 loses state 2, {A_DELEGATION}, as the client is removed; it wasn't called back")
-    story.confirm_client(3, 3)
-    gone = "client 1 was removed by entry 10 (SETCLIENTID_CONFIRM), as client 3 took its place"
-    story.give_back(state(2), (gone, STATEIDS))
-    return story
-
-
-def clients_of_slots() -> Story:
-    """Clients 257 and 258, live, each the second in its slot: entries 3 to 7. The first has a delegation."""
-    story = Story('policy.callbacks = "assume"\n' + DEFAULT)
-    one, other = "client 257 (slot 1, second)", "client 258 (slot 2, second)"
-    story.introduce()
-    story.confirm_client(1, 1)
-    story.expire(1)
-    story.introduce()
-    story.confirm_client(257, 2)
-    story.introduce(b"c2")
-    story.introduce(b"c2")
-    story.confirm_client(258, 4)
-    story.open(1, client=257)
-    story.confirm(2, state(1, client=257))
-    story.tell(f"{one} gets state 2, {A_DELEGATION}")
-    story.open(3, client=257)
-    used = (f'the id "c1" is that of {one}, by AUTH_NONE, which has state: state 1, an open of file "/a" by open owner '
-            f'"A" of {one}, since entry 8 (OPEN)')
-    story.introduce(verifier=2, because=(used, "SETCLIENTID"), principal=SOMEBODY)
-    value = f"entry 3 (SETCLIENTID) gave confirm value 2 to {one}"
-    story.confirm_client(258, 2, (value, "SETCLIENTID_CONFIRM"))
-    whose = f"state 2 was given to {one}, and the stateid is one of {other}"
-    story.give_back(state(2, client=258), (whose, STATEIDS))
-    theirs = (f"of the delegation's stateid: it is that of state 2, {A_DELEGATION} to {one}, and the OPEN is one of "
-              f"{other}")
-    story.open(1, (theirs, "OPEN"), b"B", 1, client=258, claim=Claim(2, b"a", state(2, client=257)))
-    story.tell(f"the path of {one} was up since entry 4 (SETCLIENTID_CONFIRM)")
-    story.server.mark_path(257, False)
-    story.tell(f"{one} gives back state 2, {A_DELEGATION}; it wasn't called back")
-    story.give_back(state(2, client=257))
-    return story
-
-
 def owners_that_are_forgotten() -> Story:
     """The number of a closed open leads nowhere then; nor did it where the CLOSE wasn't the kept request any longer."""
     story = begun()
@@ -697,102 +450,5 @@ def owners_that_are_forgotten() -> Story:
     return story
 
 
-def listings() -> Story:
-    """READDIR, and GETATTR of what can only be set, under the profile "clients"."""
-    story = Story(FOR_CLIENTS)
-    story.list(NO_HANDLE, filehandle=None)
-    story.list(('the current filehandle is that of file "/a", and no directory\'s', "READDIR"), filehandle=FILE)
-    story.list()
-    story.list(("attribute 54 (time_modify_set) can only be set", "READDIR"), mask=(0, 1 << 22), cookie=1)
-    for cookie in (1, 2, 6, 7, 2**64 - 1):
-        story.list((f'cookie {cookie} is neither 0 nor that of a child of directory "/"', "READDIR"), cookie=cookie,
-                   verifier=b"verifier", maxcount=0)
-    story.list(('cookie 3 is neither 0 nor that of a child of directory "/d"', "READDIR"), DIRECTORY, cookie=3)
-    story.list(("the verifier is 7665726966696572, and that of all listings is zero", "READDIR"), cookie=3,
-               verifier=b"verifier", maxcount=0)
-    story.list(verifier=b"verifier")
-    story.list(('one with "a" alone has 56 bytes, and 55 are the most here', "READDIR"), maxcount=55)
-    story.list(('one with "b" alone has 56 bytes, and 0 are the most here', "READDIR"), cookie=3, maxcount=0)
-    story.list(("a listing without an entry has 16 bytes, and 15 are the most here", "READDIR"), cookie=5, maxcount=15)
-    story.list(maxcount=56)
-    story.list(cookie=5, maxcount=16)
-    story.ask_for((0, 1 << 16), NO_HANDLE, None)
-    story.ask_for((0, 1 << 16), ("attribute 48 (time_access_set) can only be set", "GETATTR"))
-    story.ask_for((2**32 - 1, 2**32 - 1), ("attribute 48 (time_access_set); 54 (time_modify_set) can only be set",
-                                           "GETATTR"))
-    story.ask_for((0, 1 << 21))
-    return story
-
-
-def sizes() -> Story:
-    """SETATTR under the profile "clients"."""
-    story = Story(FOR_CLIENTS)
-    story.introduce()
-    story.confirm_client(1, 1)
-    story.open(1, access=1, deny=2)
-    story.confirm(2, state(1))
-    size, server_time = (2).to_bytes(8, "big"), bytes(4)
-
-    def refuse(mask: Sequence[int], values: bytes, text: str, heading: str = "SETATTR",
-               filehandle: Handle = OTHER_FILE, stateid: Stateid = ZEROS) -> None:
-        story.set(mask, values, (text, heading), filehandle, stateid)
-
-    refuse((16,), size, *NO_HANDLE, None)
-    refuse((24, 1 << 16), b"", "attribute 48 (time_access_set) isn't supported")
-    refuse((0, 0, 1), b"", "attribute 64 isn't supported")
-    refuse((2**32 - 1,), b"", "attribute 12; 13; 14; and 8 more isn't supported")
-    refuse((24, 2), b"", "attribute 3 (change) can only be read")
-    refuse((16, 2), b"", "attribute 33 (mode) stays what it is for good")
-    refuse((0, 0x30), b"", "attribute 36 (owner); 37 (owner_group) stays what it is for good")
-    refuse((16,), size + server_time, "the 12 bytes of values are no values of attribute 4 (size)")
-    refuse((), server_time, "the 4 bytes of values are no values of no attribute")
-    own_time = "the time is a client's own, and the server takes none but its own"
-    refuse((0, 1 << 22), bytes((0, 0, 0, 1)) + bytes(12), own_time)
-    story.set((16,), size, filehandle=OTHER_FILE)
-    story.set((16, 1 << 22), size + server_time, filehandle=OTHER_FILE)
-    story.set((), b"", filehandle=DIRECTORY, stateid=state(9))
-    refuse((16,), size, 'the current filehandle is that of directory "/d", and no file\'s', filehandle=DIRECTORY)
-    refuse((16,), size, 'open owner "A" of client 1 denies WRITE of file "/a" since entry 2', filehandle=FILE)
-    refuse((16,), size, *OLD, FILE, state(1))
-    access = f"SETATTR takes access to WRITE, and state 1, an {OPEN_A}, has access to READ alone"
-    refuse((16,), size, access, filehandle=FILE, stateid=state(1, 2))
-    refuse((0, 1 << 22), server_time, "the stateid is of epoch 2, and this server's is 1", STATEIDS, FILE,
-           state(1, 2, epoch=2))
-    refuse((16,), (65537).to_bytes(8, "big"), "the size is 65537, and a file has 65536 bytes at most")
-    story.set((16,), (65536).to_bytes(8, "big"), filehandle=OTHER_FILE)
-    return story
-
-
-def closes_beside_locks() -> Story:
-    """Refused as long as a byte is held; and what comes before that."""
-    story = Story('policy.close_locks = "refuse"\n' + DEFAULT)
-    story.introduce()
-    story.confirm_client(1, 1)
-    story.open(1)
-    story.confirm(2, state(1))
-    story.lock_first(3, state(1, 2), 1)
-    by_x = ('lock owner "x" of client 1 holds bytes 0 to {} of file "/a" for writing{}, by state 2, which was changed '
-            "last by ")
-    held = by_x.format(9, "") + "entry 4 (LOCK)"
-    story.close(4, state(1, 2), (held, "CLOSE"))
-    again = f"it is the request of entry 5 (CLOSE) again, and gets the same answer; what stood in its way then: {held}"
-    story.repeat(5, 'CLOSE by open owner "A" of client 1', (again, OWNERS))
-    # Entries 7 to 9: another lock owner, and two ranges of the first.
-    story.lock_first(5, state(1, 2), 1, owner=LockOwner(1, 1, b"y"), locktype=1, offset=20, length=ALL)
-    story.call(Opnum.LOCKU, Locku(2, 2, state(2), 4, 1))
-    by_y = ('lock owner "y" of client 1 holds the bytes from 20 on of file "/a" for reading, by state 3, which was '
-            "changed last by entry 7 (LOCK)")
-    both = by_x.format(3, ", the first of 2 ranges") + f"entry 8 (LOCKU); {by_y}"
-    story.close(6, state(1, 2), (both, "CLOSE"))
-    story.close(7, state(1), OLD)
-    story.unlock(3, state(2, 2), length=ALL)
-    story.close(8, state(1, 2), (by_y, "CLOSE"))
-    story.unlock(2, state(3), length=ALL)
-    story.close(9, state(1, 2))
-    return story
-
-
 STORIES = (stateids, ends, clients, records_that_give_way, sequence_ids, kept_answers, no_kept_answers, opens, shares,
-           many_shares, locks, bytes_of_files, bytes_of_lent_files, delays, many_delays, delegation_stateids,
-           ends_of_delegations, clients_with_delegations, clients_of_slots, owners_that_are_forgotten,
-           closes_beside_locks, listings, sizes)
+           many_shares, locks, owners_that_are_forgotten)

@@ -17,6 +17,7 @@ from model.entries import Expire, Forget, NotJournal, entry_bytes
 from model.journal import EARLIER, Growing, HEAD, HEAD_OF_CLIENTS, Recorder, journal_bytes
 from model.program import bytes_of
 from model.tree import DEFAULT, Tree
+from model.named_words import named_line_of
 from model.words import client_words, line_of
 from nfs4.client import expect
 from nfs4.served import TOP, with_interrupts
@@ -149,7 +150,7 @@ def test_clients():
 FORGETTINGS = {
     Forget(OpenOwner(1, 1, b"A"), 191): 'open owner "A" of client 1 is forgotten, now 191',
     Forget(OpenOwner(1, 257, b"a b"), 0): 'open owner "a b" of client 257 (slot 1, second) is forgotten, now 0',
-    Forget(OpenOwner(1, 2, b"\xff\0"), 2): "open owner 2 0xff000000 of client 2 is forgotten, now 2"}
+    Forget(OpenOwner(1, 2, b"\xff\0"), 2): r'open owner "\xff\x00" of client 2 is forgotten, now 2'}
 
 
 def test_forgettings():
@@ -167,7 +168,9 @@ def test_earlier_is_kept():
 # The tools.
 
 def shown(journal):
-    return [f"{number}: {line_of(entry, journal.tree)}" for number, entry in enumerate(journal.entries)]
+    """Its lines. No DELAY of these journals is a kept answer."""
+    lines = [f"{number}: {named_line_of(entry, journal.tree)}" for number, entry in enumerate(journal.entries)]
+    return [line + "  # a delegation conflicts" * line.endswith(" -> NFS4ERR_DELAY") for line in lines]
 
 
 @pytest.fixture
@@ -235,20 +238,20 @@ LISTED = [
     '1: moment 0, AUTH_NONE, file "/a": GETATTR 2 0 0x00400000 -> GETATTR NFS4ERR_INVAL',
     '2: moment 0, AUTH_NONE, file "/a": SETATTR 0 0 0 0 1 16 8 0x00000000 0x00000000 -> SETATTR NFS4_OK 1 16',
     '3: moment 0, AUTH_NONE, file "/a": SETATTR 0 0 0 0 2 0 2 4 0x00000180 -> SETATTR NFS4ERR_ROFS 0']
-NOT_LISTED = {1: "    attribute 54 (time_modify_set) can only be set (RULES: GETATTR)",
-              3: "    attribute 33 (mode) stays what it is for good (RULES: SETATTR)"}
+NOT_LISTED = {1: "    attribute 54 (time_modify_set) can only be set (RULES: GETATTR; RFC 7530, 5.5)",
+              3: "    attribute 33 (mode) stays what it is for good (RULES: SETATTR; RFC 7530, 16.32)"}
 
 
 def test_for_clients(put, tmp_path):
     """A journal under "clients", and a beginning of one, which is saved as what it is."""
     journal, saved = listed_and_set(), str(tmp_path / "saved")
     whole = put("listed", journal_bytes(journal))
-    expect_tool("show_journal", [whole], LISTED)
+    expect_tool("show_journal", ["--words", whole], LISTED)
     explained = [line for number, reason in NOT_LISTED.items() for line in (LISTED[number], reason)]
-    expect_tool("explain", [whole], explained)
+    expect_tool("explain", ["--words", whole], explained)
     cut = put("listed.part", beginning_of(journal)[:places_of(journal)[3] + 8])
     inside = "the file ends inside entry 3, of which it has 8 bytes"
-    expect_tool("show_journal", [cut], LISTED[:3] + [inside])
+    expect_tool("show_journal", ["--words", cut], LISTED[:3] + [inside])
     expect_tool("show_journal", ["--lawful", cut], ["lawful: 3 entries", inside])
     expect_tool("show_journal", ["--save", saved, cut], ["saved: 3 entries", inside])
     expect_bytes(saved, journal_bytes(journal._replace(entries=journal.entries[:3])), HEAD_OF_CLIENTS)
@@ -274,12 +277,12 @@ def test_data(put):
              lines[3].replace(f"hex:{'00' * 64} .. (66 bytes)", f"66{' 0x00000000' * 17}"),
              lines[4].replace(f"{text_b} .. (65 bytes)", f'"{"b" * 65}"')]
     path = put("data", journal_bytes(server.journal()))
-    expect_tool("show_journal", [path], lines)
-    expect_tool("show_journal", ["--whole", path], whole)
-    many = " bytes add up to {}, and a file has 65536 at most (RULES: WRITE)"
+    expect_tool("show_journal", ["--words", path], lines)
+    expect_tool("show_journal", ["--words", "--whole", path], whole)
+    many = " bytes add up to {}, and a file has 65536 at most (RULES: WRITE; RFC 7530, 16.36)"
     reasons = ["    offset 0 and 70000" + many.format(70000), "    offset 4294967296 and 66" + many.format(2**32 + 66)]
     for words, of in (([], lines), (["--whole"], whole)):
-        expect_tool("explain", [*words, path], [of[2], reasons[0], of[3], reasons[1]])
+        expect_tool("explain", ["--words", *words, path], [of[2], reasons[0], of[3], reasons[1]])
 
 
 def test_explained(put):
@@ -289,7 +292,7 @@ def test_explained(put):
     stale = client._replace(answer=client.answer._replace(status=10022))
     journal = confirmed._replace(entries=[*confirmed.entries, ends, stale])
     lines = [shown(journal)[4],
-             "    client 1 was removed by entry 3, as its lease was over (RULES: SETCLIENTID_CONFIRM)"]
+             "    client 1 was removed by entry 3, as its lease was over (RULES: SETCLIENTID_CONFIRM; RFC 7530, 9.5)"]
     expect_tool("explain", [put("refused", journal_bytes(journal))], lines)
     expect_tool("explain", [put("refused.part", beginning_of(journal) + u32(1))],
                 lines + ["the file ends inside entry 5, of which it has 4 bytes"])

@@ -1,6 +1,7 @@
 """`samples/ci_job.sh`, a job that tests a client: it passes with one that is right, and fails with one that isn't, and
 says why. Beside it `./start` finds the program, or the independent model alone."""
 import os
+import re
 import subprocess
 
 import pytest
@@ -59,7 +60,7 @@ def run_job(request, tmp_path):
 def test_right_client(run_job, tmp_path):
     status, output, told = run_job([*CLIENT, RIGHT_ROWS])
     assert (status, output) == (0, "1 rows: 0 failed\n" * 3), told
-    assert "start: lawful: 24 entries\n" in told
+    assert "start: lawful: 24 entries\n" in told and "\nverdict: right" in told
     assert os.path.exists(tmp_path / "run.journal")
 
 
@@ -86,13 +87,12 @@ def test_client_that_ignores_its_end(run_job):
 def test_client_that_calls_nothing(run_job):
     status, output, told = run_job(["true"])
     assert (status, output) == (1, "")
-    assert told.endswith("start: lawful: 0 entries\n" + NO_CALL)
+    assert told.endswith("start: lawful: 0 entries\nverdict: right\n" + NO_CALL)
 
 
 def test_client_that_is_wrong(run_job, tmp_path):
     (tmp_path / "wrong.rows").write_text(WRONG_ID)
     status, output, told = run_job([*CLIENT, str(tmp_path / "wrong.rows")])
     assert (status, output) == (1, "1 rows: 0 failed\n" * 3)
-    assert told.count("-> CLOSE NFS4ERR_BAD_SEQID\n") == 3
-    assert told.count("(RULES: Owners and sequenced operations)\n") == 3
-    assert told.endswith("start: a status of --never was answered: CLOSE NFS4ERR_BAD_SEQID\n")
+    assert told.count("  error sequence-id-skipped (RFC 7530, 9.1.7), entry ") == 3
+    assert re.search(r"\nverdict: 3 errors, [0-9]+ warnings\n$", told)

@@ -240,6 +240,7 @@ def test_first_command(room):
     expect("its output", (ran.returncode, ran.stdout), (0, "1 rows: 0 failed\n"))
     expect("the server's name", bool(NAMED.match(ran.stderr)), True)
     expect("the audit's line", "start: lawful: 5 entries\n" in ran.stderr, True)
+    expect("the verdict", ran.stderr.splitlines()[-1].startswith("verdict: right"), True)
 
 
 @pytest.mark.parametrize("heading", [

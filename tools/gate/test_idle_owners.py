@@ -99,8 +99,8 @@ def test_forgotten(command, path_of, tell):
     line = f'{number}: open owner "{name}" of client 1 is forgotten, now {entry.now}'
     expect("the entry in words", tool("show_journal", path)[number], line)
     reason = (f'    state 1, an open of file "/a" by open owner "{name}" of client 1, was ended by entry 4 (CLOSE), '
-              f"and its owner was forgotten by entry {number} (RULES: Idle owners)")
-    expect("the reasons", tool("explain", path)[1::2], [reason] * 2)
+              f"and its owner was forgotten by entry {number} (RULES: Idle owners; RFC 7530, 9.1.10)")
+    expect("the reasons", tool("explain", "--each", path)[1::2], [reason] * 2)
     tell(f"an owner was forgotten {seconds:.1f} seconds after its CLOSE, with a lease of {LEASE}")
 
 
@@ -127,8 +127,8 @@ def test_locks_held(command, path_of):
     held = (f'lock owner "{client.locker.decode()}" of client 1 holds bytes 1000 to 1009 of file "/a" for writing, by '
             f"state 2, which was changed last by entry {lock} (LOCK)")
     lines = tool("explain", path)[1::2]
-    expect("the reason", lines[0], f"    {held} (RULES: CLOSE)")
-    is_again = lines[1].endswith(f"{held} (RULES: Owners and sequenced operations)")
+    expect("the reason", lines[0], f"    {held} (RULES: CLOSE; RFC 7530, 16.2)")
+    is_again = lines[1].endswith(f"{held} (RULES: Owners and sequenced operations; RFC 7530, 9.1.7)")
     expect("the reason when it comes again", is_again, True)
 
 

@@ -1,19 +1,28 @@
 """Whether refusals are explained: each of the stories has the reasons that are wanted, and the kept answers; and of any
 journal each refusal has a reason of the status that was answered, under a heading that docs/RULES.md has, no other call
 has one but for a kept answer, and that is the answer to the same request."""
+import argparse
 import os
+import re
 
 import pytest
 
+from gate.file_cases import STORIES_OF_FILES
+from gate.lent_cases import STORIES_OF_DELEGATIONS
 from gate.reason_cases import STORIES
+from gate.repeated_cases import FOLDED, STORIES_OF_REQUESTS
 from gate.row_journals import ROW_FILES, journal_of, rows_of
 from model.entries import Call
-from model.reasons import again_words, is_refusal, reasons
+from model.fuzz import Caller
+from model.reason_lines import Paragraphs
+from model.reasons import Replay, again_words, is_refusal, sentence
 from nfs4.client import expect
 from nfs4.served import TOP
 from nfs4.wire import Status
 
 pytestmark = pytest.mark.quick
+
+ALL_STORIES = STORIES + STORIES_OF_DELEGATIONS + STORIES_OF_FILES + STORIES_OF_REQUESTS
 
 
 @pytest.fixture(scope="module")
@@ -25,7 +34,9 @@ def headings():
 
 def expect_reasons(journal, headings, add_up):
     """Each refusal in it has a reason, and each kept answer is one."""
-    for number, entry, reason, _ in reasons(journal):
+    replay = Replay(journal)
+    for number, entry, reason, _ in replay.run():
+        expect_index(replay.server)
         if not isinstance(entry, Call):
             continue
         status = Status.OK if reason is None else reason.status
@@ -33,11 +44,20 @@ def expect_reasons(journal, headings, add_up):
         if is_refusal(entry):
             add_up(1, "refusals explained")
             assert reason.heading in headings, f"entry {number} is explained by a heading that the rules don't have"
+            assert re.fullmatch(r"\d+(\.\d+)+", reason.section) and sentence(reason, replay.server)
         if reason and reason.again:
             add_up(1, "kept answers")
             first = journal.entries[reason.again.entry]
             assert isinstance(first, Call)
             expect(f"the request and the answer of entry {number}", same_in_both(entry), same_in_both(first))
+
+
+def expect_index(server):
+    """What the history keeps to find states sooner is what the server has."""
+    expect("the states that there are", server.present, {it.number for it in server.states()})
+    expect("those and the states that ended", server.present | set(server.ended), set(server.given))
+    for file in server.opens_by_file:
+        expect(f"the opens of node {file}", server.opens_of(file), [it for it in server.opens if it.file == file])
 
 
 def same_in_both(call):
@@ -52,14 +72,48 @@ def test_rows(file, headings, add_up):
             expect_reasons(journal, headings, add_up)
 
 
-@pytest.mark.parametrize("story_of", STORIES, ids=lambda it: it.__name__)
+@pytest.mark.parametrize("seed", range(12))
+def test_any_calls(seed, headings, add_up):
+    caller = Caller(seed)
+    for _ in range(60):
+        caller.next_step()
+    expect_reasons(caller.server.journal(), headings, add_up)
+
+
+@pytest.mark.parametrize("story_of", ALL_STORIES, ids=lambda it: it.__name__)
 def test_story(story_of, headings, add_up):
     story = story_of()
     journal = story.server.journal()
     expect_reasons(journal, headings, add_up)
-    told = list(reasons(journal))
-    assert {number: (reason.text, reason.heading) for number, entry, reason, _ in told
-            if is_refusal(entry) and reason is not None} == story.wanted
+    replay, told, texts = Replay(journal), [], {}
+    for it in replay.run():
+        told.append(it)
+        if is_refusal(it.entry):
+            texts[it.number] = sentence(it.reason, replay.server), it.reason.heading
+    assert texts == story.wanted
+    # A sentence is the same when the replay has gone on.
+    assert texts == {it.number: (sentence(it.reason, replay.server), it.reason.heading) for it in told
+                     if is_refusal(it.entry)}
     assert {it.number: it.events for it in told if it.events} == story.events
     assert {it.number: again_words(it.entry, it.reason.again) for it in told
             if it.reason and it.reason.again} == story.again
+
+
+def folded(journal, is_each=False):
+    """Of each paragraph of tools/explain the number of its entry, and what is said of equal refusals."""
+    replay = Replay(journal)
+    given = argparse.Namespace(again=False, delegations=False, each=is_each, whole=False, words=False)
+    paragraphs = Paragraphs(given, replay.server)
+    for told in replay.run():
+        paragraphs.add(told)
+    return {int(lines[0].split(":")[0]): [line.strip() for line in lines[2:]]
+            for lines in (list(it.text()) for it in paragraphs.all)}
+
+
+@pytest.mark.parametrize("story_of, wanted", FOLDED, ids=lambda it: getattr(it, "__name__", ""))
+def test_folded(story_of, wanted):
+    """Equal refusals are one paragraph; with --each all are shown."""
+    story = story_of()
+    journal = story.server.journal()
+    assert folded(journal) == wanted
+    assert folded(journal, is_each=True) == {number: [] for number in story.wanted}

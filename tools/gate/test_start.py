@@ -13,6 +13,8 @@ import pytest
 
 from building import archive
 from building.archive import Proved
+from gate.test_ci_job import WRONG_ID
+from judging.situations import SITUATIONS
 from nfs4.served import PATIENCE, TOP
 
 pytestmark = pytest.mark.quick
@@ -158,18 +160,50 @@ def test_changed_byte(tree, path, refusal):
     assert lines.startswith(f"start: {refusal}\nstart: nfs4state ({tree.head()[:8]}), NOT proved")
 
 
-def test_changed_program_of_unpacked_release(tree):
+def test_changed_program_in_out(tree):
+    """It is unpacked again from the archive, which is the release's still."""
     tree.put_release(), tree.put_unproved()
     assert ", proved" in tree.first_line()
     [program] = tree.folder.glob("out/release/*/nfs4state-0.2/nfs4state")
-    program.write_text(program.read_text() + "# more\n")
+    text = program.read_text()
+    for change in (lambda: program.write_text(text + "# more\n"), program.unlink):
+        change()
+        assert tree.first_line() == f"start: nfs4state 0.2 ({tree.head()[:8]}), proved"
+        assert program.read_text() == text
+    assert [it.name for it in (tree.folder / "out/release").iterdir()] == [program.parts[-3]]
+
+
+def test_release_file_in_checkout(tree):
+    """It is a file like any other: only what was unpacked from an archive is a release."""
+    program = tree.put("nfs4state", program_text("mine"), is_program=True)
+    tree.put("RELEASE", f"version: 0.9\ncommit: {tree.head()}\n"
+             f"program: {archive.hashlib.sha256(program.read_bytes()).hexdigest()}\n")
+    tree.put_unproved()
+    assert "NOT proved: built here" in tree.first_line()
+    assert tree.run("--with", "release", "--", "true")[2].startswith("start: there is no release in dist/\n")
+
+
+def test_two_archives(tree):
+    tree.put_release(), tree.put_unproved()
+    tree.put("dist/nfs4state-0.3-x86_64-linux.tar.gz", b"another")
     _, _, lines = tree.run("--", "true")
-    assert "has another sum than its RELEASE says, so it isn't the proved program\n" in lines
-    assert "NOT proved: built here" in lines
+    assert lines.startswith("start: dist/ has 2 archives, and one is wanted: nfs4state-0.2-x86_64-linux.tar.gz and "
+                            f"others\nstart: nfs4state ({tree.head()[:8]}), NOT proved")
+
+
+def test_no_sums(tree):
+    """Without sha256sum nothing counts as proved, and that is said of each program."""
+    tree.put_proved(), tree.put_release(), tree.put_unproved()
+    _, _, lines = tree.run("--", "true", env=without(tree, "sha256sum"))
+    assert lines.splitlines()[:2] == [
+        f"start: there is no sha256sum, by which {name} is known to be proved"
+        for name in ("out/proved/nfs4state", "dist/nfs4state-0.2-x86_64-linux.tar.gz")]
+    assert lines.splitlines()[2].startswith(f"start: nfs4state ({tree.head()[:8]}), NOT proved")
 
 
 def test_unpacked_release(tree, tmp_path_factory):
-    """In an empty folder, without git and sources: it serves a row, and says what it is."""
+    """In an empty folder, without git and sources: it serves a row, says what it is, and judges the client. If its
+    program is changed, that is no release."""
     tree.put_release()
     elsewhere = tmp_path_factory.mktemp("elsewhere")
     shutil.unpack_archive(tree.folder / "dist" / archive.archive_of("0.2"), elsewhere)
@@ -179,6 +213,12 @@ def test_unpacked_release(tree, tmp_path_factory):
     assert (ran.returncode, ran.stdout) == (0, PASSES), ran.stderr
     assert ran.stderr.startswith(f"start: nfs4state 0.2 ({tree.head()[:8]}), proved; files: samples/no_callbacks.toml\n")
     assert "SHARE_DENIED" in ran.stderr and "start: lawful: 5 entries\n" in ran.stderr
+    assert "\nverdict: " in ran.stderr
+    (folder / "nfs4state").write_text(program_text("another"))
+    ran = subprocess.run(["./start", "--with", "release", "--", "true"], cwd=folder, stdin=subprocess.DEVNULL,
+                         stderr=subprocess.PIPE, text=True, timeout=PATIENCE)
+    refusal = "has another sum than its RELEASE says, so it isn't the proved program\n"
+    assert ran.returncode == 2 and refusal in ran.stderr
 
 
 def test_sources_have_gone_on(tree):
@@ -221,7 +261,7 @@ def test_row(tmp_path, shell):
     status, output, lines = tree.run("--journal", str(journal), "--", *ROW)
     assert (status, output) == (0, PASSES), lines
     assert f"start: journal: {journal}\nstart: lawful: 5 entries\n" in lines
-    assert "-> OPEN NFS4ERR_SHARE_DENIED\n    open owner" in lines
+    assert "-> NFS4ERR_SHARE_DENIED\n    open owner" in lines and "\nverdict: right" in lines
 
 
 @pytest.mark.parametrize("words, status", [
@@ -284,26 +324,72 @@ def test_further_options(tree):
     assert status == 1 and "clientid wanted 1 1, got 5 1" in output, lines
 
 
-def without_python(tree):
-    """An environment in which there is no Python, and a program that doesn't look for one."""
+def without(tree, *beginnings):
+    """An environment that has no commands of these beginnings, and a program that doesn't look for them."""
     folder = tree.folder / "out/bin"
     folder.mkdir(parents=True)
     for directory in os.environ["PATH"].split(":"):
         for name in os.listdir(directory) if os.path.isdir(directory) else []:
-            if not name.startswith(("python", "pypy")) and not os.path.lexists(folder / name):
+            if not name.startswith(beginnings) and not os.path.lexists(folder / name):
                 os.symlink(os.path.join(directory, name), folder / name)
     return {"PATH": str(folder)}
 
 
 def test_no_python(tree):
     tree.put_unproved()
-    environment = without_python(tree)
+    environment = without(tree, "python", "pypy")
     status, _, lines = tree.run("--", "true", env=environment)
-    assert (status, lines.splitlines()[-1]) == (3, "start: nothing is explained: Python 3.11 is needed")
+    assert (status, lines.splitlines()[-1]) == (3, "start: no verdict: Python 3.11 is needed")
     assert tree.run("--", "false", env=environment)[0] == 1
     status, _, lines = tree.run("--with", "model", "--", "true", env=environment)
     assert status == 2 and "start: there is no Python 3.11, which the model needs\n" in lines
     assert tree.run("--test", env=environment)[2].endswith("start: --test needs Python 3.11\n")
+
+
+# The verdict.
+
+def client(tree):
+    """A client that skips sequence ids."""
+    tree.put("out/wrong.rows", WRONG_ID.replace('"c1"', '"it\'s c1"'))
+    return ["--", "tools/send_rows", "{host}", "{port}", "out/wrong.rows"]
+
+
+@pytest.mark.parametrize("words, status", [
+    ([], 1), (["--allow", "sequence-id-skipped=it's c1"], 0), (["--allow", "sequence-id-skipped", "--warnings"], 1),
+    (["--allow", "sequence-id-skipped", "--allow", "open-left", "--warnings"], 0)])
+def test_verdict(tree, words, status):
+    """The last line is the verdict, behind the explained refusals."""
+    found, output, lines = tree.run(*words, *client(tree))
+    assert (found, output) == (status, "1 rows: 0 failed\n"), lines
+    assert "start: lawful: 5 entries\n" in lines and "sequence-id-skipped" in lines
+    assert lines.index("-> NFS4ERR_BAD_SEQID\n") < lines.index('client "it\'s c1": ') < lines.index("\nverdict: ")
+    assert lines.splitlines()[-1].startswith("verdict: ")
+
+
+def test_verdict_of_a_right_client(tree):
+    status, _, lines = tree.run("--", *ROW)
+    assert status == 0 and lines.splitlines()[-1].startswith("verdict: ") and " error" not in lines
+
+
+def test_status_of_command_and_verdict(tree):
+    """The command's own status comes first; but a client that is killed is judged, too."""
+    status, _, lines = tree.run("--", "sh", "-c", f"{' '.join(client(tree)[1:])}; exit 7")
+    assert status == 7 and "error sequence-id-skipped" in lines
+
+
+def test_what_was_tried(tree):
+    """What a verdict is to have besides, by names that are known."""
+    [name, *others] = SITUATIONS
+    assert tree.run("--require", name, "--", "true")[0] == 1
+    assert name in tree.run("--tried", "--", *ROW)[2]
+
+
+@pytest.mark.parametrize("words", [["--allow", "no-such"], ["--require", "no-such"], ["--allow", "it's; $(touch out)"]])
+def test_wrong_words_of_verdict(tree, words):
+    """They are told before the run."""
+    status, output, lines = tree.run(*words, "--", "touch", "out/ran")
+    assert (status, output) == (2, "") and words[1] in lines
+    assert not (tree.folder / "out").exists()
 
 
 # How it ends.
@@ -384,6 +470,17 @@ def test_end_of_input(tmp_path, shell):
         status, lines = started.end()
     assert status == 0 and lines.endswith("start: lawful: 5 entries\n"), lines
     assert "; it is written at the end: Ctrl-D, SIGTERM or Ctrl-C\n" in lines
+
+
+HINT = "the input ended before a connection came"
+
+
+def test_no_hint(tree):
+    """The server's hint on its input says nothing to whoever runs `start`."""
+    assert HINT not in tree.run("--", "true")[2]
+    with Started(tree, stdin=subprocess.PIPE) as started:
+        status, lines = started.end()
+    assert status == 0 and HINT not in lines and lines.endswith("start: lawful: 0 entries\n"), lines
 
 
 def test_signal_while_input_is_open(tree):

@@ -66,7 +66,7 @@ class Delegating(State):
 
     def is_barred(self, kind: int, client: int, file: int) -> bool:
         """Whether an open or a delegation of another client is in the way of a delegation of this kind."""
-        opens = [it for it in self.opens if it.file == file and it.client != client]
+        opens = [it for it in self.opens_of(file) if it.client != client]
         held = self.delegations_of_others(client, file)
         if kind == OPEN_DELEGATE_WRITE:
             return bool(opens or held)

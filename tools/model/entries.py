@@ -34,9 +34,11 @@ class StrictReader(wire.Reader):
     """Takes values that have one spelling, and says what is wrong with them."""
 
     def fixed(self, count: int) -> bytes:
-        if len(self.data) - self.at < count:
+        end = self.at + count
+        if end > len(self.data):
             raise EndsEarly("it ends too early")
-        return super().fixed(count)
+        value, self.at = self.data[self.at:end], end
+        return value
 
     def opaque(self, limit: int = 2**32 - 1) -> bytes:
         if int.from_bytes(self.data[self.at:self.at + 4], "big") > limit:

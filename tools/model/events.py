@@ -1,5 +1,5 @@
 """What entries of a journal do about delegations: which they give, and which of them end; and the marks of clients'
-paths, by which clients get any. What stands in the way of an operation is told as its reason, by `reasons.py`."""
+paths, by which clients get any. What conflicts with an operation is told as its reason, by `reasons`."""
 from collections.abc import Iterator
 
 from model.entries import Entry, Path, Revoke, delegation_given
@@ -14,12 +14,13 @@ class Events:
 
     def __init__(self, server: History) -> None:
         self.server = server
+        # The delegations before the entry. If one ends the server gets another list.
         self.held: list[Delegation] = []
         # What the path of a Path's client was, and which entry marked it so.
         self.path: tuple[str | None, int] | None = None
 
     def begin(self, entry: Entry) -> None:
-        self.held = list(self.server.delegations)
+        self.held = self.server.delegations
         if isinstance(entry, Path):
             is_live, client = self.server.is_live(entry.client), entry.client
             self.path = (self.server.live_record(client).path, self.server.path_marks[client]) if is_live else None
@@ -29,12 +30,18 @@ class Events:
         given = delegation_given(entry)
         if given is not None:
             yield self.gift_words(number, given[1].number)
-        for found in self.held:
-            if not any(it is found for it in self.server.delegations):
-                yield self.end_words(found, entry)
+        for found in self.ended():
+            yield self.end_words(found, entry)
         if isinstance(entry, Path) and self.path is not None:
             was, since = self.path
             yield f"the path of {client_words(entry.client)} was {was} since {self.server.entry_words(since)}"
+
+    def ended(self) -> list[Delegation]:
+        """The delegations that the entry ended."""
+        if self.held is self.server.delegations:
+            return []
+        left = {it.number for it in self.server.delegations}
+        return [it for it in self.held if it.number not in left]
 
     def delegation_words(self, found: Delegation) -> str:
         place = place_words(found.file, self.server.tree)
@@ -58,5 +65,7 @@ class Events:
             ended = f"{client} loses {delegation}, as the client is removed"
         since = self.server.recalled.get(found.number)
         if since is None:
-            return f"{ended}; it wasn't called back"
-        return f"{ended}; it was called back by {self.server.entry_words(since)}, at {found.recalled}"
+            return f"{ended}; it wasn't recalled"
+        marked, is_up = self.server.recall_marks.get(found.number, (None, True))
+        failed = "" if is_up else f", but the recall could not be delivered (entry {marked})"
+        return f"{ended}; it was recalled by {self.server.entry_words(since)}, at {found.recalled}{failed}"

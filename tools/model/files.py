@@ -31,7 +31,7 @@ class Files(Attributes, Delegating):
 
     def expect_access_of_nobody(self, file: int, wanted: int) -> None:
         """No open denies it; and it is in the way of no delegation, whoever has that, as an open of nobody would be."""
-        if any(it.file == file and it.share()[1] & wanted for it in self.opens):
+        if any(it.share()[1] & wanted for it in self.opens_of(file)):
             raise Refusal(Status.LOCKED)
         self.expect_none_in_the_way([it for it in self.delegations if it.file == file], (wanted, 0))
 

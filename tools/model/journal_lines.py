@@ -1,14 +1,18 @@
-"""What tools/show_journal does with a journal's file: it shows the entries, judges them, writes those that are whole, or
-follows the file while a server writes."""
+"""What tools/show_journal does with a journal's file: it shows the entries, judges them, writes those that are whole,
+or follows the file while a server writes."""
+import argparse
 import os
 import sys
 import time
 from typing import BinaryIO
 
-from model.entries import Entry, NotJournal
-from model.journal import Growing, Journal, head_bytes, journal_bytes, verdict_on
+from model.entries import Call, Entry, NotJournal
+from model.journal import Growing, Journal, WrongAnswer, head_bytes, journal_bytes, verdict_on
 from model.journal_file import read_file, tell_end
+from model.named_words import named_line_of
+from model.reasons import Replay, Told
 from model.words import line_of
+from nfs4.wire import Status
 
 # What the name of a beginning has behind that of the journal which takes its place.
 PART = ".part"
@@ -16,18 +20,56 @@ PART = ".part"
 PIECE, PAUSE = 1 << 20, 0.2
 
 
-def show_entries(growing: Growing, entries: list[Entry], is_whole: bool) -> None:
-    """Shows the entries that were read last."""
-    # There are none before the head is read.
-    if growing.head is not None:
-        for number, entry in enumerate(entries, growing.entries - len(entries)):
-            print(f"{number}: {line_of(entry, growing.head.tree, is_whole)}")
-    sys.stdout.flush()
+class Remarks:
+    """What is said behind answers of DELAY. A replay, as far as the last of these, tells new answers from kept ones, at
+    which the delegation may be gone."""
+
+    def __init__(self, head: Journal) -> None:
+        self.replay: Replay | None = Replay(head)
+        self.entries: list[Entry] = []
+        self.told: Told | None = None
+
+    def on(self, number: int, entry: Entry) -> str:
+        """That of an entry, or nothing: of no other one, and of none behind an entry that can't follow."""
+        if not isinstance(entry, Call) or entry.answer.status != Status.DELAY:
+            return ""
+        self.follow(number)
+        if self.replay is None or self.told is None or self.told.reason is None:
+            return ""
+        again = self.told.reason.again
+        return f"  # the kept answer of entry {again.entry}" if again else "  # a delegation conflicts"
+
+    def follow(self, number: int) -> None:
+        """Replays up to this entry."""
+        try:
+            while self.replay is not None and self.replay.server.entries <= number:
+                self.told = self.replay.step(self.entries[self.replay.server.entries])
+        except WrongAnswer:
+            self.replay = None
 
 
-def show(path: str, is_whole: bool) -> None:
-    growing, entries = read_file(path)
-    show_entries(growing, entries, is_whole)
+class Lines:
+    """Shows entries as they come."""
+
+    def __init__(self, given: argparse.Namespace) -> None:
+        self.is_whole: bool = given.whole
+        self.line_of = line_of if given.words else named_line_of
+        self.remarks: Remarks | None = None
+
+    def show(self, growing: Growing, entries: list[Entry]) -> None:
+        """Shows the entries that were read last; there are none before the head is read."""
+        if growing.head is not None:
+            self.remarks = self.remarks or Remarks(growing.head)
+            self.remarks.entries += entries
+            for number, entry in enumerate(entries, growing.entries - len(entries)):
+                line = self.line_of(entry, growing.head.tree, self.is_whole)
+                print(f"{number}: {line}{self.remarks.on(number, entry)}")
+        sys.stdout.flush()
+
+
+def show(given: argparse.Namespace) -> None:
+    growing, entries = read_file(given.path)
+    Lines(given).show(growing, entries)
     tell_end(growing)
 
 
@@ -66,8 +108,9 @@ def save(path: str, target: str) -> None:
 class Followed:
     """A file that is shown as far as it has come, and on."""
 
-    def __init__(self, path: str, source: BinaryIO, is_whole: bool) -> None:
-        self.path, self.source, self.is_whole = path, source, is_whole
+    def __init__(self, source: BinaryIO, given: argparse.Namespace) -> None:
+        self.path: str = given.path
+        self.source, self.lines = source, Lines(given)
         self.growing = Growing()
         self.last: Entry | None = None
 
@@ -79,7 +122,7 @@ class Followed:
             if data:
                 entries = self.growing.take(data)
                 self.last = entries[-1] if entries else self.last
-                show_entries(self.growing, entries, self.is_whole)
+                self.lines.show(self.growing, entries)
             elif is_left:
                 return self.go_on()
             else:
@@ -108,7 +151,7 @@ class Followed:
         else:
             rest = entries[self.growing.entries:]
             self.growing = whole
-            show_entries(whole, rest, self.is_whole)
+            self.lines.show(whole, rest)
 
     def is_beginning_of(self, whole: Growing, entries: list[Entry]) -> bool:
         """Whether these entries begin with those that were shown."""
@@ -134,9 +177,9 @@ def opened(path: str) -> BinaryIO:
             sys.exit("fault: file not read")
 
 
-def follow(path: str, is_whole: bool) -> None:
-    with opened(path) as source:
-        followed = Followed(path, source, is_whole)
+def follow(given: argparse.Namespace) -> None:
+    with opened(given.path) as source:
+        followed = Followed(source, given)
         try:
             followed.run()
         except NotJournal as wrong:

@@ -1,30 +1,102 @@
-"""The lines of tools/explain: what stood in the way of refusals, what becomes of delegations, and which answers are kept
-ones."""
+"""The lines of tools/explain: why calls are refused, what becomes of delegations, and which answers are kept ones.
+Equal refusals are told once: who asks again and again would else fill the screen."""
 import argparse
 import sys
+from collections.abc import Iterator
+from dataclasses import dataclass
+from typing import Any
 
 from model.entries import Call
+from model.history import History
 from model.journal import WrongAnswer, fault_of
 from model.journal_file import read_file, tell_end
-from model.reasons import Told, again_words, is_refusal, reasons
-from model.tree import Tree
+from model.named_words import named_line_of
+from model.reasons import Reason, Replay, Told, again_words, is_refusal, repeated_words, sentence
 from model.words import line_of
+from nfs4.wire import Stateid
+
+# The fields of arguments by which equal requests differ.
+SEQUENCE_IDS = {"seqid", "open_seqid", "lock_seqid"}
 
 
-def lines_of(told: Told, tree: Tree, given: argparse.Namespace) -> list[str]:
-    """What is printed of an entry, if anything."""
-    if given.again:
-        if told.reason is None or told.reason.again is None:
-            return []
-        assert isinstance(told.entry, Call)
-        return [f"{told.number}: {again_words(told.entry, told.reason.again)}"]
-    below = list[str]()
-    if is_refusal(told.entry):
-        assert told.reason is not None
-        below.append(f"{told.reason.text} (RULES: {told.reason.heading})")
-    below += told.events if given.delegations else []
-    head = [f"{told.number}: {line_of(told.entry, tree, given.whole)}"] if below else []
-    return head + [f"    {line}" for line in below]
+@dataclass
+class Paragraph:
+    """What is printed of an entry; and if it is a refusal how many are equal to it, and the last of them."""
+    lines: list[str]
+    first: int
+    count: int = 1
+    last: int = 0
+    reason: Reason | None = None
+
+    def add(self, number: int, reason: Reason) -> None:
+        self.count, self.last, self.reason = self.count + 1, number, reason
+
+    def text(self) -> Iterator[str]:
+        yield from self.lines
+        if self.reason is not None:
+            times = repeated_words(self.reason, self.count)
+            yield f"    entries {self.first} to {self.last}: {times}"
+
+
+class Paragraphs:
+    """Those of a journal, in their order."""
+
+    def __init__(self, given: argparse.Namespace, server: History) -> None:
+        self.given, self.server = given, server
+        self.all: list[Paragraph] = []
+        self.refusals: dict[Any, Paragraph] = {}
+
+    def add(self, told: Told) -> None:
+        key = None if self.given.each or self.given.again else request_and_cause(told)
+        if key in self.refusals:
+            assert told.reason is not None
+            self.refusals[key].add(told.number, told.reason)
+            return
+        lines = self.lines_of(told)
+        if lines:
+            self.all.append(Paragraph(lines, told.number))
+        if lines and key is not None:
+            self.refusals[key] = self.all[-1]
+
+    def show(self) -> None:
+        for paragraph in self.all:
+            print("\n".join(paragraph.text()))
+        sys.stdout.flush()
+
+    def lines_of(self, told: Told) -> list[str]:
+        """What is printed of an entry, if anything."""
+        if self.given.again:
+            if told.reason is None or told.reason.again is None:
+                return []
+            assert isinstance(told.entry, Call)
+            return [f"{told.number}: {again_words(told.entry, told.reason.again)}"]
+        below = list[str]()
+        if is_refusal(told.entry):
+            assert told.reason is not None
+            place = f"RULES: {told.reason.heading}; RFC 7530, {told.reason.section}"
+            below.append(f"{sentence(told.reason, self.server)} ({place})")
+        below += told.events if self.given.delegations else []
+        words_of = line_of if self.given.words else named_line_of
+        head = [f"{told.number}: {words_of(told.entry, self.server.tree, self.given.whole)}"] if below else []
+        return head + [f"    {line}" for line in below]
+
+
+def request_and_cause(told: Told) -> Any:
+    """What equal refusals have in common: the request, but for its sequence ids and stateids, and the cause. It is None
+    for other entries."""
+    if told.reason is None or not is_refusal(told.entry) or told.events:
+        return None
+    assert isinstance(told.entry, Call)
+    call, reason = told.entry, told.reason
+    return call.opnum, call.principal, call.filehandle, bare(call.arguments), reason.kind, reason.status, reason.facts
+
+
+def bare(value: Any) -> Any:
+    """Arguments without sequence ids and stateids."""
+    if isinstance(value, Stateid) or not isinstance(value, (tuple, list)):
+        return None if isinstance(value, Stateid) else value
+    names = getattr(value, "_fields", [""] * len(value))
+    return tuple(bare(it) for name, it in zip(names, value) if name not in SEQUENCE_IDS)
 
 
 def explain(given: argparse.Namespace) -> None:
@@ -33,11 +105,13 @@ def explain(given: argparse.Namespace) -> None:
     if growing.head is None:
         tell_end(growing)
         return
+    replay = Replay(growing.head._replace(entries=entries))
+    paragraphs = Paragraphs(given, replay.server)
     try:
-        for told in reasons(growing.head._replace(entries=entries)):
-            for line in lines_of(told, growing.head.tree, given):
-                print(line)
+        for told in replay.run():
+            paragraphs.add(told)
     except WrongAnswer as ended:
-        sys.stdout.flush()
+        paragraphs.show()
         sys.exit(fault_of(ended))
+    paragraphs.show()
     tell_end(growing)

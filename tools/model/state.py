@@ -92,6 +92,9 @@ class State:
     def states(self) -> list[KeptState]:
         return [*self.opens, *self.lock_states, *self.delegations]
 
+    def opens_of(self, file: int) -> list[OpenState]:
+        return [it for it in self.opens if it.file == file]
+
     def is_live(self, number: int) -> bool:
         return any(it.is_confirmed and it.number == number for it in self.records)
 

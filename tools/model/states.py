@@ -179,9 +179,12 @@ def next_sequence_id(seqid: int) -> int:
     return 0 if seqid == LAST else seqid + 1
 
 
+# Anonymous, and READ bypass (section 9.1.4.3).
+SPECIAL = Stateid(0, 0, 0, 0), Stateid(LAST, LAST, LAST, LAST)
+
+
 def is_special(stateid: Stateid) -> bool:
-    """Anonymous, or READ bypass (section 9.1.4.3)."""
-    return stateid in (Stateid(0, 0, 0, 0), Stateid(LAST, LAST, LAST, LAST))
+    return stateid in SPECIAL
 
 
 def answer(rule: Callable[[], bytes]) -> Result:

@@ -1,9 +1,10 @@
-"""Entries of a journal as text, with operations and answers in the words of rows (crates/rows/README.md). Of the bytes
-of files that READ and WRITE bring only the first are shown, where there are many, unless they are wanted whole."""
+"""Entries of a journal as text, with operations and answers in the words of rows (crates/rows/README.md), in the order
+of RFC 7531; `model.named_words` has them by name. Of the bytes of files that READ and WRITE bring only the first are
+shown, where there are many, unless they are wanted whole."""
 from collections.abc import Callable
 from typing import Any, TypeVar
 
-from model.entries import ARGUMENT_BYTES, Answer, Call, Entry, Expire, Forget, RESTS, Revoke, delegation_given
+from model.entries import ARGUMENT_BYTES, Answer, Call, Entry, Expire, Forget, Path, RESTS, Revoke, delegation_given
 from model.states import OwnerName, SLOTS, slot_of
 from model.tree import Tree
 from nfs4 import rows, wire
@@ -86,6 +87,20 @@ def is_shown_as_text(value: bytes) -> bool:
     return text.isprintable() and '"' not in text
 
 
+def name_words(value: bytes) -> str:
+    """A name, or other bytes, as a text, with an escape for each byte that can't stand in it."""
+    text = value.decode(errors="surrogateescape")
+    return '"' + "".join(map(letter_words, text)) + '"'
+
+
+def letter_words(letter: str) -> str:
+    if letter in '"\\':
+        return f"\\{letter}"
+    if letter.isprintable():
+        return letter
+    return "".join(f"\\x{byte:02x}" for byte in letter.encode(errors="surrogateescape"))
+
+
 def words_read(read: Callable[[Any], Any], data: bytes, is_whole: bool = False) -> list[str]:
     """The words of what is read of these bytes, which are read to their end."""
     reader = WordReader(data, is_whole)
@@ -120,15 +135,24 @@ def place_words(node: int | None, tree: Tree) -> str:
         names.insert(0, tree.nodes[at].name)
         at = tree.nodes[at].parent
     kind = "file" if tree.is_file(node) else "directory"
-    return " ".join([kind] + opaque_words(b"/" + b"/".join(names)))
+    return f"{kind} {name_words(b'/' + b'/'.join(names))}"
 
 
 def line_of(entry: Entry, tree: Tree, is_whole: bool = False) -> str:
     """An entry as a line."""
     if isinstance(entry, Call):
-        head = f"moment {entry.moment}, {principal_words(entry.principal)}, {place_words(entry.filehandle, tree)}"
-        words = f"{operation_words(entry, is_whole)} -> {answer_words(entry.answer, is_whole)}"
-        return f"{head}: {words}{remark_on(entry)}"
+        return call_line(entry, tree, f"{operation_words(entry, is_whole)} -> {answer_words(entry.answer, is_whole)}")
+    return event_line(entry)
+
+
+def call_line(call: Call, tree: Tree, words: str) -> str:
+    """A call as a line that has these words of its operation and answer."""
+    head = f"moment {call.moment}, {principal_words(call.principal)}, {place_words(call.filehandle, tree)}"
+    return f"{head}: {words}{remark_on(call)}"
+
+
+def event_line(entry: Expire | Revoke | Path | Forget) -> str:
+    """An entry that no call brought, as a line."""
     if isinstance(entry, Expire):
         return f"{client_words(entry.client)} expires, seen at {entry.seen}, now {entry.now}"
     if isinstance(entry, Revoke):
@@ -149,10 +173,6 @@ def owner_words(owner: OwnerName) -> str:
     return f"{kind} owner {name_words(owner.name)} of {client_words(owner.client)}"
 
 
-def name_words(name: bytes) -> str:
-    return " ".join(opaque_words(name))
-
-
 def ordinal(number: int) -> str:
     ending = "th" if number // 10 % 10 == 1 else {1: "st", 2: "nd", 3: "rd"}.get(number % 10, "th")
     return {2: "second", 3: "third"}.get(number, f"{number}{ending}")
@@ -164,8 +184,8 @@ def purpose_of(kind: int) -> str:
 
 
 def remark_on(call: Call) -> str:
-    """What is easily overlooked in the words of a call, as a comment behind them, or nothing: what it does about
-    delegations; and that a client is the next one in its slot."""
+    """What is easily overlooked in the words of a call, as a comment behind them, or nothing: which delegation it gives
+    or returns; and that a client is the next one in its slot."""
     given = delegation_given(call)
     if given is not None:
         kind, stateid = given
@@ -173,8 +193,6 @@ def remark_on(call: Call) -> str:
     if (call.opnum, call.answer.status) == (Opnum.SETCLIENTID, Status.OK):
         number = int.from_bytes(call.answer.rest[4:8], "big")
         return f"  # {client_words(number)}" if number >= SLOTS else ""
-    if call.answer.status == Status.DELAY:
-        return "  # the delegations in its way are called back"
     if (call.opnum, call.answer.status) == (Opnum.DELEGRETURN, Status.OK):
         stateid = call.arguments.stateid
         return f"  # {client_words(stateid.client)} gives state {stateid.number} back"

@@ -44,9 +44,9 @@ class Sample:
 SAMPLES = [
     Sample(("two_owners.rows", "after_the_lease.rows"), "no_callbacks.toml", lease=1, pause=BEYOND_LEASE),
     Sample(("called_back.rows", "recalled_file.rows"), is_called_back=True),
-    Sample(("two_owners.rows",), "no_callbacks.toml"), Sample(("cut_file.rows",), "clients.toml"),
-    Sample(("lent_file.rows",), "lending.toml"), Sample(("two_owners.records",)), Sample(("client_ids.records",)),
-    Sample(("letters.records",), "letters.toml")]
+    Sample(("two_owners.rows",), "no_callbacks.toml"), Sample(("two_faults.rows",), "no_callbacks.toml"),
+    Sample(("cut_file.rows",), "clients.toml"), Sample(("lent_file.rows",), "lending.toml"),
+    Sample(("two_owners.records",)), Sample(("client_ids.records",)), Sample(("letters.records",), "letters.toml")]
 
 
 @dataclass(frozen=True)

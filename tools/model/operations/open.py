@@ -18,12 +18,13 @@ def rule(server: Delegating, arguments: Open, directory: int) -> bytes:
     file = opened_file(server, arguments, directory)
     if arguments.claim.kind == CLAIM_DELEGATE_CUR:
         server.expect_claimed(arguments.claim.delegation, owner.client, file)
-    if any(it.file == file and it.owner != owner and conflict(it.share(), share) for it in server.opens):
+    opens = server.opens_of(file)
+    if any(it.owner != owner and conflict(it.share(), share) for it in opens):
         raise Refusal(Status.SHARE_DENIED)
     server.expect_none_in_the_way(server.delegations_of_others(owner.client, file), share)
     is_confirmed = owner in server.open_owners
     kind = server.kind_given(arguments, file) if is_confirmed else OPEN_DELEGATE_NONE
-    is_new = not any((it.owner, it.file) == (owner, file) for it in server.opens)
+    is_new = not any(it.owner == owner for it in opens)
     server.expect_room(is_new + (kind != OPEN_DELEGATE_NONE), not is_confirmed)
     found = join(server, owner, file, share)
     flags = LOCKTYPE_POSIX if is_confirmed else CONFIRM | LOCKTYPE_POSIX
@@ -44,7 +45,7 @@ def opened_file(server: Delegating, arguments: Open, directory: int) -> int:
 
 def join(server: Delegating, owner: OpenOwner, file: int, share: tuple[int, int]) -> OpenState:
     """Adds the pair to the owner's open on the file, or makes one (section 9.11)."""
-    found = next((it for it in server.opens if (it.owner, it.file) == (owner, file)), None)
+    found = next((it for it in server.opens_of(file) if it.owner == owner), None)
     if found is not None:
         if share not in found.pairs:
             found.pairs.append(share)
