@@ -6,3 +6,4 @@ pub mod Workers
 pub mod Kept
 pub mod Rest
 pub mod Accounts
+pub mod Renewals

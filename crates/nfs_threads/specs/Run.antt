@@ -3,7 +3,7 @@ use Rattle.std.specs.Prelude.{◌≡◌, ℕ, suc, List, [], ◌∷◌, length, 
 use Rattle.nfs_core.specs.Safe.{IsSafe}
 use Rattle.nfs_core.specs.Server.{IsLawful, Server}
 use Rattle.nfs_server.specs.Serves.{served_by}
-use Rattle.nfs_shared.specs.Ends.{AllApart, AllInTime, AllStand, receipts_in}
+use Rattle.nfs_shared.specs.Ends.{AllApart, AllHeeded, AllInTime, AllStand, JournalBearsOut, receipts_in}
 use Rattle.nfs_shared.specs.Naming.{start_of}
 use Rattle.nfs_shared.specs.Receipts.{calls_in}
 use Rattle.nfs_shared.specs.Seats.{SeatView, fresh}
@@ -51,3 +51,9 @@ pub record IsRun {R W : Type 0} (links : TcpLinks R W) (tree : Files) (count : �
   pub counted : calls_in new.journal.entries ≡ receipts_in (receipts_by_worker workers)
   -- no renewal that was answered to one of the seats is later than the journal's end of its client allows
   pub in_time : AllInTime new.journal.lease new.journal.entries seats
+  -- by what each seat saw no renewal is answered after an end, each comes after a look that showed the lease open, and no
+  -- look shows a lease as vacant that was known
+  pub heeded : AllHeeded seats
+  -- a lease that a seat renewed, or tried to, the journal opened; and one that it found closed the journal ended, or opened
+  -- a later one of its slot
+  pub borne_out : JournalBearsOut new seats

@@ -11,7 +11,7 @@ ghost use Rattle.nfs_threads.specs.declared.tcp_links.TcpLinks.{TcpLinks};
 ghost use Rattle.nfs_threads.specs.declared.watcher.Nobody.{Nobody};
 ghost use Rattle.nfs_owners.specs.Registry.{is_live};
 ghost use Rattle.nfs_threads.specs.Worker.{AreEndsOf, AreUnused, receipts_back, seats_back, seats_of};
-ghost use Rattle.nfs_shared.specs.Ends.{AllApart, AllInTime, AllStand, AreKept, receipts_in};
+ghost use Rattle.nfs_shared.specs.Ends.{AllApart, AllHeeded, AllInTime, AllStand, AreKept, JournalBearsOut, receipts_in};
 ghost use Rattle.nfs_shared.specs.Naming.{CanBegin, start_of};
 ghost use Rattle.nfs_shared.specs.Receipts.{calls_in};
 ghost use Rattle.nfs_state.specs.Stored.{meaning};
@@ -283,6 +283,8 @@ fn end<N: Naming>(
     ensures counted { calls_in result.0.journal.entries ≡ receipts_in (receipts_back all.items) }
     ensures in_time { AllInTime result.0.journal.lease result.0.journal.entries
         (seats_back all.items) }
+    ensures heeded { AllHeeded (seats_back all.items) }
+    ensures borne_out { JournalBearsOut result.0 (seats_back all.items) }
     ensures shifts { map (λ a. a.shift) result.1.items ≡ map (λ e. e.shift) all.items }
     ensures receipts { receipts_by_worker result.1.items ≡ receipts_back all.items }
 {

@@ -1,6 +1,6 @@
 use Rattle.std.proofs.Common.{List, map, ap, subst, sym, ◌∙◌}
 use Rattle.nfs_threads.specs.Worker.{seats_back}
-use Rattle.nfs_shared.specs.Ends.{AllApart, AllInTime, AllStand, AreKept, receipts_in}
+use Rattle.nfs_shared.specs.Ends.{AllApart, AllHeeded, AllInTime, AllStand, AreKept, JournalBearsOut, receipts_in}
 use Rattle.nfs_shared.specs.Seats.{SeatView}
 use Rattle.nfs_shared.specs.declared.receipt.Receipt.{Receipt}
 use Rattle.nfs_threads.proofs.Accounts.{items_of}
@@ -34,3 +34,9 @@ pub returns-clause-in_time : goal.returns-clause-in_time
 returns-clause-in_time g c =
     let core = c.end-core.result in
     subst (λ (s : List SeatView). AllInTime core.journal.lease core.journal.entries s) c.take.ensures.seats c.end-core.ensures.in_time
+
+pub returns-clause-heeded : goal.returns-clause-heeded
+returns-clause-heeded g c = subst AllHeeded c.take.ensures.seats c.end-core.ensures.heeded
+
+pub returns-clause-borne_out : goal.returns-clause-borne_out
+returns-clause-borne_out g c = subst (JournalBearsOut c.end-core.result) c.take.ensures.seats c.end-core.ensures.borne_out

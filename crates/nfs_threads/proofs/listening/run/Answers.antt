@@ -68,4 +68,6 @@ returns-clause-served g c =
       apart = subst (λ (r : List (List Receipt)). AllApart r) (sym receipts) c.end-core.ensures.apart;
       counted = c.end-core.ensures.counted ∙ ap receipts_in (sym receipts);
       in_time = c.end-core.ensures.in_time;
+      heeded = c.end-core.ensures.heeded;
+      borne_out = c.end-core.ensures.borne_out;
     }
