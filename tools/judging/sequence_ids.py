@@ -127,8 +127,13 @@ class SequenceIds(Finder):
 
 
 def wraps(facts: Facts) -> bool:
-    """Whether an id is the one that section 9.1.3 has behind the last of all, in whose place this server takes 0."""
-    return isinstance(facts, SequenceFacts) and (facts.expected, facts.given) == (0, 1)
+    """Whether an id is the one that section 9.1.3 has behind the last of all, in whose place this server takes 0. It
+    isn't if the client has sent 0, too: then it knows what this server takes."""
+    if not isinstance(facts, SequenceFacts) or (facts.expected, facts.given) != (0, 1):
+        return False
+    last = facts.last_uncounted
+    refused = [*facts.uncounted, *([last] if last is not None and last.owner is None else [])]
+    return all(it.sequence_id != 0 for it in refused)
 
 
 def ordinal(number: int) -> str:
