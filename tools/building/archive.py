@@ -29,9 +29,10 @@ commit: {commit}
 kit: {kit}
 program: {program}
 
-This is nfs4state {version}. Its program, `nfs4state`, was proved as a whole by the toolchain above, from the sources of
-the commit above, and then linked statically for Linux on x86-64. `program` is its SHA-256. PROOF tells what the
-toolchain said of each crate. docs/CLAIMS.md says what is proved, and what is trusted.
+This is nfs4state {version}. Its program, `nfs4state`, was proved by the toolchain above, from the sources of the commit
+above; the libraries below it may be those that the gate had proved from the same sources. It was then linked statically
+for Linux on x86-64. `program` is its SHA-256. PROOF tells what the toolchain said of each crate. docs/CLAIMS.md says
+what is proved, and what is trusted.
 {note}
 The owner of nfs4state has given no licence yet.
 """
