@@ -12,7 +12,8 @@ from typing import Any, NamedTuple
 from nfs4.callback_listener import (CallbackCall, Heard, Listener, accept, keep_silent, reply_to, reset,
                                     universal_address)
 from nfs4.messages import call, words
-from nfs4.wire import Callback, PROG_UNAVAIL, REPLY, Status, accepted, record
+from nfs4.wire import (AUTH_BADCRED, AUTH_ERROR, Callback, PROG_UNAVAIL, REPLY, SUCCESS, Status, accepted, denied,
+                       record)
 
 # What a client gives beside the address.
 CALLBACK_PROGRAM, IDENT = 0x40000000, 7
@@ -34,6 +35,16 @@ def asked(heard: Heard) -> CallbackCall:
 def refuse(heard: Heard) -> None:
     """The program isn't there."""
     heard.reply(accepted(asked(heard).xid, PROG_UNAVAIL))
+
+
+def deny_credential(heard: Heard) -> None:
+    """The server isn't believed to be who it says."""
+    heard.reply(denied(asked(heard).xid, AUTH_ERROR, AUTH_BADCRED))
+
+
+def answer_another(heard: Heard) -> None:
+    """The answer to a call that was never made."""
+    heard.reply(accepted(asked(heard).xid ^ 1, SUCCESS))
 
 
 def accept_null(heard: Heard, answer: Callable[[Heard], Any] = keep_silent) -> None:

@@ -3,7 +3,7 @@
 A delegation is granted once a client's listener has answered CB_NULL, recalled by CB_RECALL, whose bytes are the
 model's, and given back; or revoked after a lease. A client whose path is down is granted none. One that never answers
 holds nobody else back; one that gives another address is called there, and what the old one says late is nothing; and
-so is what clients say late that have ended, and whose slots others have.
+so is what clients say late that have ended, and whose slots others have. Why a path is down is told by a line.
 Peers of each bad kind do no harm: other calls are answered, the run ends in time, and its journal is lawful. Where the
 system refuses a socket, a call is made later; where it refuses the thread that calls, none is made, and the run says so
 at its end. Of 100 delegations that are recalled at once from ten clients, those of the eight that answer are there in
@@ -22,18 +22,18 @@ from resource import RLIMIT_NOFILE, setrlimit
 import pytest
 
 from gate.callback_client import Borrower, Opened
-from gate.callback_peers import (CALLBACK_PROGRAM, IDENT, accept_null, bad_peers, callback_at, deny_handle, nobody,
-                                 refuse)
+from gate.callback_peers import (CALLBACK_PROGRAM, IDENT, accept_null, answer_another, bad_peers, callback_at,
+                                 deny_credential, deny_handle, nobody, refuse)
 from gate.trial import Late, lawful_journal, peer_of, tried_again
 from model.entries import Path, Revoke
 from model.journal import Growing, NotJournal
 from model.program import bytes_of
-from nfs4.callback_listener import Listener, accept, keep_silent
+from nfs4.callback_listener import Listener, accept, keep_silent, universal_address
 from nfs4.callbacks import null_call, recall_call
 from nfs4.client import Client, done, expect, Wrong
 from nfs4.messages import GETATTR, NFS4_OK, NULL, OPEN, PUTROOTFH, call, compound, reply, results, words, xid
 from nfs4.served import PATIENCE, PROGRAM, REPLY_PATIENCE, Served, TOP
-from nfs4.wire import BOTH, READ, Status, WRITE
+from nfs4.wire import BOTH, Callback, READ, Status, WRITE
 
 pytestmark = [pytest.mark.needs("nfs4state"), pytest.mark.quick]
 
@@ -43,6 +43,15 @@ pytestmark = [pytest.mark.needs("nfs4state"), pytest.mark.quick]
 SOON = 2
 # The seconds of a lease that ends here, and those in which it is renewed at the latest.
 LEASE, RENEWAL = 3, 2.9
+# A line on a callback: which client was called, and where; why the call failed, or that a reply is missing yet. Or how
+# many such lines were left out.
+ON_CALLBACK = re.compile(
+    rb"client (?P<client>\d+): callback to (?P<address>\S+ \S+)(?: failed|): (?P<reason>.*)\n"
+    rb"|callbacks: (?P<left_out>\d+) more lines left out\n")
+# The lines of a kind that come in a second at most.
+LINES_A_SECOND = 10
+# The seconds after which a reply that is missing is told.
+MISSED = 5
 # The most files that the server may have open where it is refused a socket.
 FILES_OPEN = 16
 # The clients whose delegations are recalled at once, those of them that never answer a recall, and the files.
@@ -61,6 +70,8 @@ class Run:
 
     def __init__(self, served, path, goes_on):
         self.served, self.path, self.goes_on, self.peers = served, path, goes_on, []
+        # The lines on callbacks, once the run has ended.
+        self.told = []
 
     def peer(self):
         self.peers.append(peer_of(self.served))
@@ -77,21 +88,30 @@ class Run:
         until = time.monotonic() + REPLY_PATIENCE
         while len(found := marks_of(entries_so_far(self.path + ".part"), client)) < least:
             if time.monotonic() > until:
-                raise Wrong(f"the path of client {client.number} has the marks {found}, and no more")
+                raise Wrong(f"the callback path of client {client.number} has the marks {found}, and no more")
             time.sleep(0.1)
         return found
 
     def end(self, *lines, status=0, seconds=PATIENCE):
         """Ends the connections, and then the run ends within so many seconds, with this status, and has told these
-        lines: its entries, which are lawful."""
+        lines, beside those on callbacks: its entries, which are lawful."""
         for peer in self.peers:
             peer.socket.close()
         begun = time.monotonic()
         if self.goes_on:
             self.served.end_input()
-        expect("the end", self.served.end(), (status, b"", b"".join(line + b"\n" for line in lines)))
+        ended, output, errors = self.served.end()
+        told = errors.splitlines(keepends=True)
+        self.told = [line for line in told if ON_CALLBACK.fullmatch(line)]
+        others = b"".join(line for line in told if line not in self.told)
+        expect("the end", (ended, output, others), (status, b"", b"".join(line + b"\n" for line in lines)))
         expect_time("the end", time.monotonic() - begun, seconds)
         return lawful_journal(PROGRAM, self.path).entries
+
+    def reasons(self, client):
+        """What the lines tell of the calls to this client: why each failed, or that a reply is missing yet."""
+        found = [ON_CALLBACK.fullmatch(line) for line in self.told]
+        return [line["reason"].decode() for line in found if line["client"] == b"%d" % client.number]
 
 
 @pytest.fixture
@@ -270,6 +290,7 @@ def test_path_down(run):
         expect_delay(client, b"b", READ)
         expect_recall(home, other, lent)
         expect("the marks", marks_of(server.end(), client), [False])
+        expect("the reasons", (server.reasons(client), server.reasons(other)), (["connection refused"], []))
 
 
 def test_refused_recall(run):
@@ -286,6 +307,70 @@ def test_refused_recall(run):
         holder.introduce(callback_at(other_home.address))
         holder.borrow(b"a", READ)
         expect("the marks", marks_of(server.end(), holder), [True, False, True])
+        expect("the reasons", server.reasons(holder), [f"status {Status.BADHANDLE:d} of CB_COMPOUND"])
+
+
+# What a listener does with CB_NULL, and what the line says.
+REASONS = {
+    "refuses the program": (refuse, "PROG_UNAVAIL"),
+    "refuses the credential": (deny_credential, "AUTH_ERROR"),
+    "answers another call": (answer_another, "reply of another xid"),
+    "closes behind the call": (lambda heard: heard.stream.close(), "connection closed before a reply"),
+}
+
+
+@pytest.mark.parametrize("answer, reason", REASONS.values(), ids=REASONS)
+def test_reason(run, answer, reason):
+    """Why a path is down is told once, with the client and the address."""
+    with Listener(answer) as home, run() as server:
+        client = server.client(1, home)
+        expect("the marks", server.marks(client, 1), [False])
+        server.end()
+        address = b"tcp " + universal_address(home.address).encode()
+        expect("the lines", server.told, [b"client %d: callback to %s failed: %s\n" % (
+            client.number, address, reason.encode())])
+
+
+def test_missing_reply(run):
+    """A reply that is missing for five seconds is told once, while the call goes on; and it may come after that."""
+    with Listener(keep_silent) as home, run() as server:
+        client = server.client(1, home)
+        hanging = expect_null_call(home)
+        time.sleep(MISSED + 1)
+        accept(hanging)
+        expect("the marks", server.marks(client, 1), [True])
+        server.end()
+        expect("the reasons", server.reasons(client), [f"no reply for {MISSED} s yet"])
+
+
+def test_odd_address(run):
+    """The bytes of an address that don't print are escaped: whatever a client gives, its line is one."""
+    lines = []
+    with run() as server:
+        clients = [server.client(uid, Callback(CALLBACK_PROGRAM, *address, IDENT))
+                   for uid, address in ((1, (b"t\x1b[2J\n", b"\xff\"\\\r a")), (2, (b"", b"")))]
+        for client, shown in zip(clients, (rb"t\x1b[2J\n \xff\"\\\r\x20a", rb'"" ""')):
+            expect("the marks", server.marks(client, 1), [False])
+            lines.append(b"client %d: callback to %s failed: no usable address\n" % (client.number, shown))
+        server.end()
+        expect("the lines", sorted(server.told), sorted(lines))
+
+
+def test_many_reasons(run):
+    """Of many reasons at once ten a second are told, and then how many were left out."""
+    with nobody() as callback, run() as server:
+        peer, clients = server.peer(), []
+        for uid in range(1, 4 * LINES_A_SECOND + 1):
+            clients.append(Borrower(peer, uid))
+            clients[-1].introduce(callback)
+        for client in clients:
+            expect("the marks", server.marks(client, 1), [False])
+        server.end()
+        found = [ON_CALLBACK.fullmatch(line) for line in server.told]
+        left_out = sum(int(line["left_out"]) for line in found if line["left_out"])
+        told = sum(line["client"] is not None for line in found)
+        expect("the sum", told + left_out, len(clients))
+        expect("whether some were left out", left_out > 0, True)
 
 
 @pytest.mark.alone
@@ -420,6 +505,8 @@ def test_bad_peer(run, goes_on, bad):
         # A run of so many connections may end before the mark.
         expect("the marks", marks == wanted or not goes_on and marks == [], True)
         expect("the marks of the other one", marks_of(entries, second), [True])
+        if goes_on and not bad.is_unanswered:
+            expect("how many reasons", len(server.reasons(first)), 1 - bad.mark)
 
 
 def slowest_answer(client):

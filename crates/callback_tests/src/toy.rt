@@ -1,4 +1,5 @@
-use nfs_callbacks::{CallbackSource, MarkError, Probe};
+//! A state for the tests: what was given to it is asked, and what it is told is kept.
+use nfs_callbacks::{CallbackSource, Fault, MarkError, Probe};
 use nfs_rpc::Recall;
 use nfs_xdr::{Address, Callback, ClientId, FileHandle, Principal, Stateid};
 use std::alloc::{AllocError, Global};
@@ -20,6 +21,10 @@ pub(crate) struct Toy {
     pub(crate) refusal: Option<MarkError>,
     /// The marks that were made: the client, and whether its path is up.
     pub(crate) marks: Vec<(u32, bool)>,
+    /// Why the call before the last mark didn't reach its client.
+    pub(crate) fault: Option<Fault>,
+    /// The client of which it took notice last that it hasn't replied for long.
+    pub(crate) noticed: Option<u32>,
     /// The first and the last of the delegations that it was asked about last, whose numbers follow each other.
     pub(crate) asked: Option<(u32, u32)>,
 }
@@ -34,6 +39,8 @@ impl Toy {
             is_held: true,
             refusal: None,
             marks: Vec::with_capacity(alloc, 16)?,
+            fault: None,
+            noticed: None,
             asked: None,
         })
     }
@@ -77,6 +84,10 @@ pub(crate) fn callback_at(alloc: Global, addr: &str) -> Result<Callback, AllocEr
 }
 
 impl CallbackSource for Toy {
+    ghost use Rattle.std.specs.Prelude.{⊤};
+
+    ghost answers = { λ old answered new. ⊤ };
+
     fn take(&mut self) -> Option<Recall> {
         self.recalls.pop_front()
     }
@@ -109,11 +120,23 @@ impl CallbackSource for Toy {
         self.is_held
     }
 
-    fn mark(&mut self, client: u32, _callback: &Callback, up: bool) -> Result<(), MarkError> {
+    fn mark(
+        &mut self,
+        client: u32,
+        _callback: &Callback,
+        reached: Result<(), Fault>,
+    ) -> Result<(), MarkError> {
         if let Some(refusal) = self.refusal {
             return Err(refusal);
         }
         self.unknown = None;
-        self.marks.push((client, up)).map_err(|_| MarkError::Later)
+        self.fault = reached.err();
+        self.marks
+            .push((client, reached.is_ok()))
+            .map_err(|_| MarkError::Later)
+    }
+
+    fn notice(&mut self, client: u32, _callback: &Callback) {
+        self.noticed = Some(client);
     }
 }

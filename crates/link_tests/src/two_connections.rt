@@ -3,7 +3,7 @@ ghost use Rattle.nfs_owners.specs.Registry.{is_live};
 
 use crate::client::converse;
 use nfs_core::{Core, Seeds};
-use nfs_threads::{WorkerAccount, serve_on};
+use nfs_threads::{RunEnd, serve_on};
 use nfs_tree::Tree;
 use std::alloc::Global;
 use std::net::{Net, TcpListener, TcpStream};
@@ -63,7 +63,7 @@ fn serve_two<
         {
             let run = serve_on(alloc, rt, listener, core, tree, 2).ok()?;
             let entries = run.core.journal().len();
-            Some((count(run.workers.as_slice()), entries))
+            Some((count(&run), entries))
         },
     );
     let (served, entries) = served?;
@@ -75,13 +75,13 @@ fn serve_two<
 }
 
 // How many were served to the end, each with its own receipt.
-fn count(all: &[WorkerAccount]) -> u32 {
+fn count(run: &RunEnd) -> u32 {
     let mut served = 0u32;
-    for account in all {
-        let [connection] = account.shift.connections.as_slice() else {
+    for (shift, receipts) in run.shifts.iter().zip(run.receipts.iter()) {
+        let [connection] = shift.connections.as_slice() else {
             continue;
         };
-        if connection.result == Ok(0) && account.receipts.len() == 1 {
+        if connection.result == Ok(0) && receipts.len() == 1 {
             served = served.saturating_add(1);
         }
     }

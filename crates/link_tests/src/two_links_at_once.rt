@@ -135,9 +135,10 @@ fn serve_seats<N: Naming + Send + Sync, R: Threads + Wait + Sleeper + Sync>(
         return None;
     };
     let (served, read_failures) = count(&all);
-    let Ok((receipts, seats)) = WorkerEnd::split(alloc, all) else {
-        return None;
-    };
+    let mut shifts = Vec::with_capacity(alloc, all.len()).ok()?;
+    let mut seats = Vec::with_capacity(alloc, all.len()).ok()?;
+    let mut receipts = Vec::with_capacity(alloc, all.len()).ok()?;
+    WorkerEnd::split(all, &mut shifts, &mut seats, &mut receipts);
     workers_keep_receipts::<N, BoardLink<'_, R>>();
     Some(SeatsBack {
         seats,

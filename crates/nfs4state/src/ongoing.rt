@@ -10,7 +10,7 @@ use nfs_options::{ServeOptions, Until};
 use nfs_program::{
     Beginning, Fault, LineKind, Lines, Reporter, Teller, end_ongoing_run, file_buffer, lines_to,
 };
-use nfs_threads::{Door, RunEnd, WorkerAccount, accept_for, close_at_end, serve_through};
+use nfs_threads::{Door, RunEnd, Shift, accept_for, close_at_end, serve_through};
 use nfs_tree::Tree;
 use std::alloc::{AllocError, Global};
 use std::net::{Net, TcpListener, TcpStream};
@@ -136,8 +136,8 @@ impl<
 
     // Where the input ended before any connection came, a line says which option doesn't look at it.
     fn tell_no_connection(&self, run: &RunEnd) {
-        let is_unused = |worker: &WorkerAccount| worker.shift.connections.is_empty();
-        if self.options.until == Some(Until::InputEnds) && run.workers.iter().all(is_unused) {
+        let is_unused = |shift: &Shift| shift.connections.is_empty();
+        if self.options.until == Some(Until::InputEnds) && run.shifts.iter().all(is_unused) {
             let teller = self.teller(LineKind::Run);
             let _ = eprintln!(teller;
                 "the input ended before a connection came; `--until-killed` doesn't look at it"

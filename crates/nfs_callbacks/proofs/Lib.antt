@@ -1,4 +1,8 @@
+pub mod Earning
 pub mod Going
-pub mod Recalls
+pub mod Keeping
+pub mod Overlooking
+pub mod Reasons
 pub mod Replies
+pub mod Stepping
 pub mod Turns

@@ -1,4 +1,4 @@
--- What a client is called back for.
+-- What a callback to a client is for.
 use Rattle.std.specs.Prelude.{ℕ, Bool, true, false, List}
 use Rattle.nfs_callbacks.specs.declared.errand.Errand.{Errand}
 use Rattle.nfs_callbacks.specs.declared.errand.Errand.TheVariants.{Recall, Null}

@@ -1,3 +1,9 @@
+pub mod Accounts
+pub mod Callers
 pub mod Errands
 pub mod Exchanges
+pub mod Faults
 pub mod Lines
+pub mod Network
+pub mod Source
+pub mod Steps

@@ -1,5 +1,7 @@
+//! What a callback is for, and which bytes call it.
 ghost use Rattle.std.specs.Prelude.{◌≡◌, IfOk};
 ghost use Rattle.nfs_callbacks.specs.Errands as specs;
+ghost use Rattle.nfs_callbacks.specs.Source.{current, due};
 
 use crate::CallbackSource;
 use nfs_rpc::{Recall, write_null_call, write_recall_call};
@@ -7,7 +9,7 @@ use nfs_xdr::Callback;
 use std::alloc::Global;
 use xdr::WireError;
 
-/// What a client is called back for.
+/// What a callback to a client is for.
 #[derive(Drop)]
 pub(crate) enum Errand {
     /// To recall a delegation, by a CB_COMPOUND.
@@ -34,7 +36,7 @@ impl Errand {
         matches!(self, Errand::Recall(_))
     }
 
-    /// The record of the call with this xid. It fails only where memory is refused.
+    /// The record of the call with this xid. It fails only if memory is refused.
     pub(crate) fn call(&self, alloc: Global, xid: u32) -> Result<Vec<u8>, WireError>
         ensures { IfOk result (λ call. call.items ≡ specs.call_of xid self.now) }
     {
@@ -46,17 +48,21 @@ impl Errand {
         Ok(call)
     }
 
-    /// Whether there is still reason to begin the call. That of a recall goes to the callback that the recall names,
-    /// also where its client has another one by now.
-    pub(crate) fn is_due<S: CallbackSource>(&self, client: u32, source: &mut S) -> bool {
+    /// Whether there is still reason for the call. A recall goes to the callback that it names, even if its client
+    /// has another callback by now.
+    pub(crate) fn is_due<S: CallbackSource>(&self, client: u32, source: &mut S) -> bool
+        ensures { S.answers source.old (due client self.now result) source.new }
+    {
         match self {
             Errand::Recall(recall) => source.has_delegation(recall),
             Errand::Null(callback) => source.has_callback(client, callback),
         }
     }
 
-    /// Whether the client is called back so, still.
-    pub(crate) fn is_current<S: CallbackSource>(&self, client: u32, source: &mut S) -> bool {
+    /// Whether this is still the client's callback.
+    pub(crate) fn is_current<S: CallbackSource>(&self, client: u32, source: &mut S) -> bool
+        ensures { S.answers source.old (current client self.now result) source.new }
+    {
         source.has_callback(client, self.callback())
     }
 }

@@ -1,14 +1,17 @@
-ghost use Rattle.std.specs.Prelude.{◌≡◌, [], ◌≤◌, IfErr, IfNone, IfSome, IsSome, IsTrue, OnErr, OnOk, Some, option_copied, ◌↔◌};
+//! The calls to a client, and what becomes of each.
+ghost use Rattle.std.specs.Prelude.{◌≡◌, ◌≤◌, IfErr, IfNone, IfSome, None, OnErr, OnOk, Some};
+ghost use Rattle.std.specs.Option.{option_copied};
 ghost use Rattle.std.specs.VecDeque.{deque_capacity, deque_len};
-ghost use Rattle.nfs_callbacks.specs.Lines.{Ends, BeginsFirst, Gains, IsAwaited, Loses, WaitsAlike, current_of, first_of, owed_of, state_of, without_null};
-ghost use Rattle.nfs_callbacks.specs.declared.line.LineState.TheVariants as states;
-ghost use Rattle.nfs_callbacks.specs.declared.line.Stage.TheVariants as stages;
+ghost use Rattle.nfs_callbacks.specs.Lines.{current_in, empty, ended, first_in, joined, owed_in, standing_of, state_of, turned, without_null};
+ghost use Rattle.nfs_callbacks.specs.Steps.{GoesOnOrRests};
 
 use crate::errand::Errand;
 use crate::exchange::{Exchange, Progress};
+use crate::{Fault, Network};
 use std::alloc::{AllocFailed, Global};
 use std::collections::VecDeque;
 use std::mem;
+use std::time::Duration;
 
 /// What the line of a client waits for.
 #[derive(Clone, Copy, PartialEq, Eq)]
@@ -35,12 +38,27 @@ enum Stage {
     Refused,
     // A call is under way.
     Calling(Errand, Exchange),
-    // A call is over, and the path is still to be marked as up or down.
-    Owing(Errand, bool),
+    // A call is over, and the path is still to be marked as up, or as down for this reason.
+    Owing(Errand, Result<(), Fault>),
 }
 
-/// The calls to one client, one after the other: the one that is under way, and those that wait, in the order in which
-/// they came. A CB_NULL waits only where no recall does.
+/// What a line does next.
+#[derive(Drop)]
+pub(crate) enum Turn {
+    /// The first call that waits is under way, by this exchange.
+    Begins(Exchange),
+    /// The first call that waits is over, and didn't reach the client for this reason.
+    Fails(Fault),
+    /// The first call that waits is cancelled.
+    Drops,
+    /// The system refused it a socket.
+    Refuses,
+    /// What it did is over.
+    Clears,
+}
+
+/// The calls to a client: the call under way, and those that wait, in the order in which they came. A CB_NULL waits
+/// only if no recall does.
 #[derive(Drop)]
 pub(crate) struct Line {
     queue: VecDeque<Errand>,
@@ -49,8 +67,7 @@ pub(crate) struct Line {
 
 impl Line {
     pub(crate) fn new(alloc: Global) -> Line
-        ensures waiting { result.queue.items ≡ [] }
-        ensures stage { result.stage ≡ stages.Idle }
+        ensures { standing_of result ≡ empty }
     {
         Line {
             queue: VecDeque::new(alloc),
@@ -59,7 +76,7 @@ impl Line {
     }
 
     pub(crate) fn state(&self) -> LineState
-        ensures { result ≡ state_of self.now }
+        ensures { result ≡ state_of (standing_of self.now) }
     {
         match &self.stage {
             Stage::Calling(_, exchange) if exchange.is_stalled() => LineState::Stalled,
@@ -73,10 +90,9 @@ impl Line {
 
     /// Puts a call at the end. A CB_NULL that waits is given up for it: a recall tells as much of the path.
     pub(crate) fn push(&mut self, errand: Errand) -> Result<(), AllocFailed<Errand>>
-        ensures ok { OnOk result (Gains self.old self.new errand) }
-        ensures err { IfErr result (λ failed. failed.value ≡ errand) }
-        ensures waiting { OnErr result (WaitsAlike self.old self.new) }
-        ensures stage { self.new.stage ≡ self.old.stage }
+        ensures ok { OnOk result (standing_of self.new ≡ joined errand (standing_of self.old)) }
+        ensures err { OnErr result (standing_of self.new ≡ standing_of self.old) }
+        ensures back { IfErr result (λ failed. failed.value ≡ errand) }
     {
         if self.queue.reserve(1).is_err() {
             return Err(AllocFailed { value: errand });
@@ -100,54 +116,14 @@ impl Line {
 
     /// The first call of those that wait.
     pub(crate) fn first(&self) -> Option<&Errand>
-        ensures { option_copied result ≡ first_of self.now }
+        ensures { option_copied result ≡ first_in self.now.queue.items }
     {
         self.queue.front()
     }
 
-    /// Takes out the first call of those that wait.
-    pub(crate) fn take_first(&mut self) -> Option<Errand>
-        ensures some { IfSome result (λ errand. Loses self.old self.new errand) }
-        ensures none { IfNone result (WaitsAlike self.old self.new) }
-        ensures stage { self.new.stage ≡ self.old.stage }
-    {
-        self.queue.pop_front()
-    }
-
-    /// The first call of those that wait is under way from now on, by this exchange.
-    pub(crate) fn begin(&mut self, exchange: Exchange)
-        requires { state_of self.old ≡ states.Ready }
-        ensures { BeginsFirst self.old self.new exchange }
-    {
-        match self.queue.pop_front() {
-            Some(errand) => self.stage = Stage::Calling(errand, exchange),
-            None => unreachable!(),
-        }
-    }
-
-    /// The system refused it a socket for its first call.
-    pub(crate) fn refuse(&mut self)
-        requires { state_of self.old ≡ states.Ready }
-        ensures stage { self.new.stage ≡ stages.Refused }
-        ensures waiting { WaitsAlike self.old self.new }
-    {
-        self.stage = Stage::Refused;
-    }
-
-    /// The time has come to try again, where the system refused it a socket.
-    pub(crate) fn retry(&mut self)
-        ensures waiting { WaitsAlike self.old self.new }
-        ensures current { current_of self.new ≡ current_of self.old }
-        ensures tried { state_of self.new ≡ states.Refused → ⊥ }
-    {
-        if let Stage::Refused = self.stage {
-            self.stage = Stage::Idle;
-        }
-    }
-
     /// The call that is under way.
     pub(crate) fn current(&self) -> Option<&Errand>
-        ensures { option_copied result ≡ current_of self.now }
+        ensures { option_copied result ≡ current_in self.now.stage }
     {
         match &self.stage {
             Stage::Calling(errand, _) => Some(errand),
@@ -155,10 +131,43 @@ impl Line {
         }
     }
 
-    /// Whether the call that is under way goes on for now, though its client is called back otherwise.
+    /// The call after which the path is still to be marked, and whether it reached the client.
+    pub(crate) fn owed(&self) -> Option<(&Errand, Result<(), Fault>)>
+        ensures some { IfSome result (λ owed. owed_in self.now.stage ≡ Some (owed.0.now, owed.1)) }
+        ensures none { IfNone result (owed_in self.now.stage ≡ None) }
+    {
+        match &self.stage {
+            Stage::Owing(errand, reached) => Some((errand, *reached)),
+            _ => None,
+        }
+    }
+
+    /// Does this next.
+    pub(crate) fn turn(&mut self, turn: Turn)
+        ensures { standing_of self.new ≡ turned turn (standing_of self.old) }
+    {
+        self.stage = match turn {
+            Turn::Begins(exchange) => match self.queue.pop_front() {
+                Some(errand) => Stage::Calling(errand, exchange),
+                None => Stage::Idle,
+            },
+            Turn::Fails(fault) => match self.queue.pop_front() {
+                Some(errand) => Stage::Owing(errand, Err(fault)),
+                None => Stage::Idle,
+            },
+            Turn::Drops => {
+                self.queue.pop_front();
+                Stage::Idle
+            }
+            Turn::Refuses if self.queue.is_empty() => Stage::Idle,
+            Turn::Refuses => Stage::Refused,
+            Turn::Clears => Stage::Idle,
+        };
+    }
+
+    /// Whether the call under way goes on for now, though its client has another callback.
     pub(crate) fn use_check(&mut self) -> bool
-        ensures waiting { WaitsAlike self.old self.new }
-        ensures current { current_of self.new ≡ current_of self.old }
+        ensures { standing_of self.new ≡ standing_of self.old }
     {
         match &mut self.stage {
             Stage::Calling(_, exchange) => exchange.use_check(),
@@ -166,68 +175,38 @@ impl Line {
         }
     }
 
-    /// Goes on with the call that is under way. One that ends is taken out, with whether it reached the client.
-    pub(crate) fn advance(&mut self) -> Option<(Errand, bool)>
-        ensures some { IfSome result (λ e. Ends self.old self.new e.0 e.1) }
-        ensures none { IfNone result (current_of self.new ≡ current_of self.old) }
-        ensures told { IfNone result (IsAwaited self.new.stage) }
-        ensures waiting { WaitsAlike self.old self.new }
+    /// Whether notice is to be taken now that the call under way has had no reply yet.
+    pub(crate) fn use_notice(&mut self, now: Duration) -> bool
+        ensures { standing_of self.new ≡ standing_of self.old }
+    {
+        match &mut self.stage {
+            Stage::Calling(_, exchange) => exchange.use_notice(now),
+            _ => false,
+        }
+    }
+
+    /// Goes on with the call under way, and closes its connection if it is over.
+    pub(crate) fn advance<D: Network>(&mut self, client: u32, net: &mut D)
+        ensures { GoesOnOrRests D.carries client net.old (standing_of self.old) net.new
+            (standing_of self.new) }
     {
         let Stage::Calling(_, exchange) = &mut self.stage else {
-            return None;
+            return;
         };
-        let Progress::Ended(up) = exchange.advance() else {
-            return None;
+        let Progress::Ended(reached) = exchange.advance(client, net) else {
+            return;
         };
-        match self.leave_stage() {
-            Stage::Calling(errand, _) => Some((errand, up)),
-            _ => None,
-        }
+        net.close(client);
+        self.end(reached);
     }
 
-    /// Lets go the call that is under way.
-    pub(crate) fn let_go(&mut self)
-        requires { IsSome (current_of self.old) }
-        ensures stage { self.new.stage ≡ stages.Idle }
-        ensures waiting { WaitsAlike self.old self.new }
+    // The call that is under way is over, and has reached the client or not.
+    fn end(&mut self, reached: Result<(), Fault>)
+        ensures { standing_of self.new ≡ ended reached (standing_of self.old) }
     {
-        self.leave_stage();
-    }
-
-    /// Whether no call is under way, and none is over after which the path is still to be marked.
-    pub(crate) fn is_idle(&self) -> bool
-        ensures { IsTrue result ↔ (self.now.stage ≡ stages.Idle) }
-    {
-        matches!(self.stage, Stage::Idle)
-    }
-
-    /// The path is still to be marked, after this call.
-    pub(crate) fn owe(&mut self, errand: Errand, up: bool)
-        requires { self.old.stage ≡ stages.Idle }
-        ensures stage { self.new.stage ≡ stages.Owing errand up }
-        ensures waiting { WaitsAlike self.old self.new }
-    {
-        self.stage = Stage::Owing(errand, up);
-    }
-
-    /// Takes out the call after which the path is still to be marked, with whether it reached the client.
-    pub(crate) fn take_owed(&mut self) -> (Errand, bool)
-        requires { state_of self.old ≡ states.Owing }
-        ensures owed { owed_of self.old ≡ Some result }
-        ensures stage { self.new.stage ≡ stages.Idle }
-        ensures waiting { WaitsAlike self.old self.new }
-    {
-        match self.leave_stage() {
-            Stage::Owing(errand, up) => (errand, up),
-            _ => unreachable!(),
-        }
-    }
-
-    fn leave_stage(&mut self) -> Stage
-        ensures left { result ≡ self.old.stage }
-        ensures stage { self.new.stage ≡ stages.Idle }
-        ensures waiting { WaitsAlike self.old self.new }
-    {
-        mem::replace(&mut self.stage, Stage::Idle)
+        self.stage = match mem::replace(&mut self.stage, Stage::Idle) {
+            Stage::Calling(errand, _exchange) => Stage::Owing(errand, reached),
+            stage => stage,
+        };
     }
 }

@@ -1,9 +1,9 @@
 -- Open owners that are forgotten, one after another.
-use Rattle.std.proofs.Common.{◌≡◌, ℕ, zero, ◌-◌, ◌<◌, List, [], ◌∷◌, ◌++◌, length, false, true, Option, None, Some, Result, Ok, Err, refl, sym, ap, subst, ◌∙◌, arith, length-append}
+use Rattle.std.proofs.Common.{◌≡◌, ℕ, zero, ◌-◌, ◌<◌, List, [], ◌∷◌, ◌++◌, length, Option, None, Some, Result, Ok, Err, refl, sym, ap, subst, ◌∙◌, arith, length-append}
 use Rattle.std.proofs.lemmas.List.{map-append}
 use Rattle.std.specs.List.{AllByRecursion}
 use Rattle.std.specs.Prelude.{Bool, IfOk, IsFalse, OnErr}
-use Rattle.nfs_core.specs.Events.{IsForgotten, NoneIsDue, NoneIsIdle, NoneIsIdleBefore, forget_of}
+use Rattle.nfs_core.specs.Events.{IsForgotten, IsNotForgottenFor, NoneIsDue, NoneIsIdle, NoneIsIdleBefore, forget_of}
 use Rattle.nfs_core.specs.LiveClients.{EventsFollow}
 use Rattle.nfs_core.specs.Server.{AreAlike, Enters, IsLawful, Server}
 use Rattle.nfs_core.specs.declared.core_error.CoreError.{CoreError}
@@ -125,7 +125,7 @@ none_before_first now server = all_before _ (meaning server.stored).owners
 
 -- none may be forgotten any more
 pub ends : (now : ℕ) (owners : List OpenOwner) (old mid new : Server) → Forgets now owners old mid
-    → new ≡ mid → NoneIsIdle mid now → ForgetsIdle now owners false old new
+    → new ≡ mid → NoneIsIdle mid now → ForgetsIdle now owners None old new
 ends now owners old mid new h same none = record {
   found = mid;
   right = h.right;
@@ -139,12 +139,12 @@ none_alike now mid new alike none =
     (subst (λ (j : History). NoneIsIdle (record new { journal = j }) now) alike.0 none)
 
 -- one may be still, but was refused
-pub stops : (now : ℕ) (owners : List OpenOwner) (old mid new : Server) → Forgets now owners old mid
-    → AreAlike mid new → (NoneIsIdle mid now → ⊥) → ForgetsIdle now owners true old new
-stops now owners old mid new h alike one = record {
+pub stops : (now : ℕ) (owners : List OpenOwner) (error : CoreError) (old mid new : Server) → Forgets now owners old mid
+    → AreAlike mid new → IsNotForgottenFor mid now error → ForgetsIdle now owners (Some error) old new
+stops now owners error old mid new h alike refused = record {
   found = mid;
   right = h.right;
-  last = (λ none. one (none_alike now mid new alike none), alike);
+  last = (λ none. refused.0 (none_alike now mid new alike none), alike, refused.1);
   entries = gains_alike (forgettings now owners) old mid new h.gains alike;
 }
 
@@ -153,17 +153,18 @@ due_alike now mid new alike none =
     subst (λ (s : Stored). NoneIsDue (record new { stored = s }) now) (sym alike.1)
     (subst (λ (j : History). NoneIsDue (record mid { journal = j }) now) (sym alike.0) none)
 
-true_not_false : (b : Bool) → b ≡ true → IsFalse b → ⊥
-true_not_false b h k = cc
+some_not_none : (error : CoreError) → Some error ≡ None → ⊥
+some_not_none error h = cc
 
 -- A sweep that doesn't stop at a delegation leaves none that is due.
-pub due_after : (halted : Bool) (now : ℕ) (numbers : List ℕ) (owners : List OpenOwner) (stopped : Bool)
+pub due_after : (halted : Option CoreError) (now : ℕ) (numbers : List ℕ) (owners : List OpenOwner) (stopped : Option CoreError)
     (old mid new : Server)
     → RevokesDue now numbers halted old mid → ForgetsUnless halted now owners stopped mid new
     → (NoneIsDue mid now → NoneIsDue new now)
-    → IsFalse halted → NoneIsDue new now
-due_after true now numbers owners stopped old mid new revokes forgets stay going = absurd (true_not_false true refl going)
-due_after false now numbers owners stopped old mid new revokes forgets stay going = stay revokes.last.0
+    → halted ≡ None → NoneIsDue new now
+due_after (Some error) now numbers owners stopped old mid new revokes forgets stay going =
+    absurd (some_not_none error going)
+due_after None now numbers owners stopped old mid new revokes forgets stay going = stay revokes.last.0
 
 -- The book stays that of the core's clients where an owner is forgotten, and where none is.
 pub book_forgotten : EventsFollow → (is_open was_opened : ℕ → Bool) (lease now : ℕ) (old new : Server)

@@ -1,5 +1,5 @@
 -- Delegations that are revoked, one after another.
-use Rattle.std.proofs.Common.{◌≡◌, ℕ, ◌-◌, ◌<◌, List, [], ◌∷◌, ◌++◌, length, true, false, None, Some, refl, sym, ap, subst, ◌∙◌, arith, length-append}
+use Rattle.std.proofs.Common.{◌≡◌, ℕ, ◌-◌, ◌<◌, List, [], ◌∷◌, ◌++◌, length, None, Some, refl, sym, ap, subst, ◌∙◌, arith, length-append}
 use Rattle.std.proofs.lemmas.List.{map-append}
 use Rattle.nfs_core.specs.Events.{IsNotRevokedFor, IsRevoked, NoneIsDue, revoke_of}
 use Rattle.nfs_core.specs.Lawful as lawful
@@ -117,7 +117,7 @@ clients_alike old mid new h same = subst (λ (s : Stored). HaveSameClients old.s
 
 -- none is due any more
 pub ends : (now : ℕ) (numbers : List ℕ) (old mid new : Server) → Revokes now numbers old mid
-    → IsRevoked mid new now None → NoneIsDue mid now → RevokesDue now numbers false old new
+    → IsRevoked mid new now None → NoneIsDue mid now → RevokesDue now numbers None old new
 ends now numbers old mid new h same none = record {
   found = mid;
   right = h.right;
@@ -132,10 +132,10 @@ none_alike now mid new alike none =
 
 -- one is due, for whose entry there was no room
 pub stops : (now : ℕ) (numbers : List ℕ) (error : CoreError) (old mid new : Server) → Revokes now numbers old mid
-    → AreAlike mid new → IsNotRevokedFor mid now error → RevokesDue now numbers true old new
+    → AreAlike mid new → IsNotRevokedFor mid now error → RevokesDue now numbers (Some error) old new
 stops now numbers error old mid new h alike refused = record {
   found = mid;
   right = h.right;
-  last = (λ none. refused.0 (none_alike now mid new alike none), alike, (error, refused.1));
+  last = (λ none. refused.0 (none_alike now mid new alike none), alike, refused.1);
   entries = gains_alike (revocations now numbers) old mid new h.gains alike;
 }

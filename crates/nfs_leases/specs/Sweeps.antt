@@ -1,7 +1,7 @@
 -- What a sweep does.
-use Rattle.std.specs.Prelude.{◌≡◌, ℕ, ◌<◌, Bool, IsFalse, false, true, ◌==◌, List, [], ◌∷◌, ◌++◌, length, map, Some, ⊤}
+use Rattle.std.specs.Prelude.{◌≡◌, ℕ, ◌<◌, Bool, ◌==◌, List, [], ◌∷◌, ◌++◌, length, map, Option, Some, None, ⊤}
 use Rattle.std.specs.List.{list_any}
-use Rattle.nfs_core.specs.Events.{IsRevoked, IsWithoutRoom, NoneIsDue, NoneIsIdle, forget_of, revoke_of}
+use Rattle.nfs_core.specs.Events.{IsRevoked, IsWithoutRoom, IsWithoutRoomForOwner, NoneIsDue, NoneIsIdle, forget_of, revoke_of}
 use Rattle.nfs_core.specs.Server.{AreAlike, Enters, Server}
 use Rattle.nfs_core.specs.declared.core_error.CoreError.{CoreError}
 use Rattle.nfs_forms.specs.declared.open_owner.OpenOwner.{OpenOwner}
@@ -50,7 +50,7 @@ none_swept = record {
   refused = 0;
   revoked = 0;
   forgotten = 0;
-  stopped = false;
+  stopped = None;
 }
 
 -- a core, and the book of its clients' leases
@@ -84,16 +84,18 @@ AreRevoked now [] old new = new ≡ old
 AreRevoked now (number ∷ numbers) old new =
     (mid : Server) × IsRevoked old mid now (Some number) × AreRevoked now numbers mid new
 
--- What came of the last attempt to revoke, on the server that it found. Where the sweep doesn't stop, no delegation is
--- due any more. Where it stops, one is due still, but there was no room for an entry.
-abbrev pub IsLastAttempt : Bool → ℕ → Server → Server → Type 0
-IsLastAttempt false now found new = NoneIsDue new now × (new ≡ found)
-IsLastAttempt true now found new = (NoneIsDue new now → ⊥)
+-- What came of the last attempt to revoke, on the server that it found. If the sweep doesn't stop, no delegation is due
+-- any more. If it stops with an error, a delegation is due still, but there was no room for an entry: the journal was
+-- full, or memory ran out, as the error tells.
+abbrev pub IsLastAttempt : Option CoreError → ℕ → Server → Server → Type 0
+IsLastAttempt None now found new = NoneIsDue new now × (new ≡ found)
+IsLastAttempt (Some error) now found new = (NoneIsDue new now → ⊥)
     × AreAlike found new
-    × ((error : CoreError) × IsWithoutRoom found error)
+    × IsWithoutRoom found error
 
 -- The part of a sweep in which delegations are revoked, those with these numbers. It stops, or goes on until none is due.
-pub record RevokesDue (now : ℕ) (numbers : List ℕ) (stopped : Bool) (old new : Server) : Type 0 where
+pub record RevokesDue (now : ℕ) (numbers : List ℕ) (stopped : Option CoreError) (old new : Server)
+    : Type 0 where
   pub found : Server
   -- each was right where it came: it was due, and of those that were due it had the least number
   pub right : AreRevoked now numbers old found
@@ -113,15 +115,18 @@ AreForgotten now (owner ∷ owners) old new =
     × Enters old mid (entries.Forget (forget_of owner now)) (length old.journal.entries)
     × AreForgotten now owners mid new
 
--- What came of the last attempt to forget, on the server that it found. Where the sweep doesn't stop, no owner may be
--- forgotten any more. Where it stops, one may be still.
-abbrev pub IsLastForgetting : Bool → ℕ → Server → Server → Type 0
-IsLastForgetting false now found new = NoneIsIdle new now × (new ≡ found)
-IsLastForgetting true now found new = (NoneIsIdle new now → ⊥) × AreAlike found new
+-- What came of the last attempt to forget, on the server that it found. If the sweep doesn't stop, no owner may be
+-- forgotten any more. If it stops with an error, an owner may be still, but there was no room for an entry: the journal
+-- was full, or it was not and memory ran out for the entry or the owner's name, as the error tells.
+abbrev pub IsLastForgetting : Option CoreError → ℕ → Server → Server → Type 0
+IsLastForgetting None now found new = NoneIsIdle new now × (new ≡ found)
+IsLastForgetting (Some error) now found new = (NoneIsIdle new now → ⊥)
+    × AreAlike found new
+    × IsWithoutRoomForOwner found.journal error
 
 -- The part of a sweep in which open owners are forgotten, these. It stops, or goes on until none may be.
-pub record ForgetsIdle (now : ℕ) (owners : List OpenOwner) (stopped : Bool) (old new : Server)
-    : Type 0 where
+pub record ForgetsIdle (now : ℕ) (owners : List OpenOwner) (stopped : Option CoreError)
+    (old new : Server) : Type 0 where
   pub found : Server
   -- each was right where it came: it could be forgotten, and of those that could be the least entry had recorded it
   pub right : AreForgotten now owners old found
@@ -129,10 +134,12 @@ pub record ForgetsIdle (now : ℕ) (owners : List OpenOwner) (stopped : Bool) (o
   -- the journal gained just their entries
   pub entries : Gains (forgettings now owners) old new
 
--- The same, unless the sweep had halted at a delegation: then no owner is forgotten, and it has stopped.
-abbrev pub ForgetsUnless : Bool → ℕ → List OpenOwner → Bool → Server → Server → Type 0
-ForgetsUnless true now owners stopped old new = (owners ≡ []) × (stopped ≡ true) × (new ≡ old)
-ForgetsUnless false now owners stopped old new = ForgetsIdle now owners stopped old new
+-- The same, unless the sweep had halted at a delegation: then no owner is forgotten, and it has stopped for that reason.
+abbrev pub ForgetsUnless : Option CoreError → ℕ → List OpenOwner → Option CoreError
+    → Server → Server → Type 0
+ForgetsUnless (Some error) now owners stopped old new =
+    (owners ≡ []) × (stopped ≡ Some error) × (new ≡ old)
+ForgetsUnless None now owners stopped old new = ForgetsIdle now owners stopped old new
 
 -- The entries of a sweep: the ends of clients in these visits, then those of the delegations with these numbers, and then
 -- those by which these open owners are forgotten.
@@ -149,13 +156,13 @@ pub record Sweeps {Book : Type 0} (happens : Book → BookEvent → Book → Typ
   pub owners : List OpenOwner
   pub ended : Server
   pub revoked : Server
-  -- whether it stopped at a delegation
-  pub halted : Bool
+  -- why it stopped at a delegation, if it did
+  pub halted : Option CoreError
   pub ends : EndsClients happens now visits old (leased_server ended new.book)
   pub revokes : RevokesDue now numbers halted ended revoked
   pub forgets : ForgetsUnless halted now owners swept.stopped revoked new.core
   -- at the end no delegation is due, unless it stopped at one
-  pub due : IsFalse halted → NoneIsDue new.core now
+  pub due : halted ≡ None → NoneIsDue new.core now
   pub counts : swept ≡ record (tally none_swept visits) {
     revoked = length numbers;
     forgotten = length owners;

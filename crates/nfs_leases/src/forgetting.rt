@@ -8,11 +8,11 @@ ghost use Rattle.nfs_leases.specs.Sweeps.{ForgetsIdle, ForgetsUnless};
 ghost use Rattle.nfs_owners.specs.ClientLaws.{HaveSameClients};
 
 use crate::removals::Removals;
-use nfs_core::{Core, live_clients_follow};
+use nfs_core::{Core, CoreError, live_clients_follow};
 use nfs_state::Moment;
 
-/// Forgets the open owners that may be forgotten at `now`, unless the sweep has halted before.
-pub(crate) fn forget_unless(halted: bool, core: &mut Core, now: Moment) -> Removals
+/// Forgets the open owners that may be forgotten at `now`, unless the sweep has halted before, for this reason.
+pub(crate) fn forget_unless(halted: Option<CoreError>, core: &mut Core, now: Moment) -> Removals
     ensures forgets { (owners : List OpenOwner)
         × (result.count ≡ length owners)
         × ForgetsUnless halted now owners result.stopped core.old core.new }
@@ -22,13 +22,12 @@ pub(crate) fn forget_unless(halted: bool, core: &mut Core, now: Moment) -> Remov
     ensures lawful { IsLawful core.new }
 {
     core.journal();
-    if halted {
-        Removals {
+    match halted {
+        Some(_) => Removals {
             count: 0,
-            stopped: true,
-        }
-    } else {
-        forget_idle(core, now)
+            stopped: halted,
+        },
+        None => forget_idle(core, now),
     }
 }
 
@@ -56,13 +55,13 @@ fn forget_idle(core: &mut Core, now: Moment) -> Removals
             Ok(None) => {
                 return Removals {
                     count,
-                    stopped: false,
+                    stopped: None,
                 };
             }
-            Err(_) => {
+            Err(error) => {
                 return Removals {
                     count,
-                    stopped: true,
+                    stopped: Some(error),
                 };
             }
         }

@@ -27,13 +27,13 @@ pub(crate) fn revoke_due(core: &mut Core, now: Moment) -> Removals
             Ok(None) => {
                 return Removals {
                     count,
-                    stopped: false,
+                    stopped: None,
                 };
             }
-            Err(_) => {
+            Err(error) => {
                 return Removals {
                     count,
-                    stopped: true,
+                    stopped: Some(error),
                 };
             }
         }

@@ -2,6 +2,7 @@ ghost use Rattle.std.specs.Prelude.{◌≡◌, ◌-◌, ◌<◌, ◌^◌};
 ghost use Rattle.nfs_leases.specs.Visit.{total, with_case};
 
 use crate::visit_case::VisitCase;
+use nfs_core::CoreError;
 
 /// How many clients a sweep treated in which way, how many delegations it revoked, and how many open owners it forgot.
 #[derive(Clone, Copy, PartialEq, Eq)]
@@ -18,9 +19,9 @@ pub struct Swept {
     pub revoked: u32,
     /// How many open owners were forgotten.
     pub forgotten: u32,
-    /// Whether the sweep stopped at a delegation that is due or at an owner that may be forgotten, because the journal had
+    /// Why the sweep stopped at a delegation that is due or at an owner that may be forgotten, if it did: the journal had
     /// no room for an entry, or memory ran out.
-    pub stopped: bool,
+    pub stopped: Option<CoreError>,
 }
 
 impl Swept {
@@ -32,7 +33,7 @@ impl Swept {
         refused: 0,
         revoked: 0,
         forgotten: 0,
-        stopped: false,
+        stopped: None,
     };
 
     /// One client more.

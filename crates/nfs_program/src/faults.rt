@@ -1,8 +1,8 @@
 ghost use Rattle.std.specs.Prelude.{◌≡◌, map};
-ghost use Rattle.nfs_program.specs.Faults.{fault_of_ongoing_run, fault_of_run, first_fault_of, first_fault_of_workers, is_memory_refused};
+ghost use Rattle.nfs_program.specs.Faults.{fault_of_ongoing_run, fault_of_run, first_fault_of, first_fault_of_shifts, is_memory_refused};
 
 use crate::Fault;
-use nfs_threads::{ConnectionEnd, WorkerAccount};
+use nfs_threads::{ConnectionEnd, Shift};
 
 /// The fault of the first connection that ended with one, in the order of the list.
 pub fn first_fault(connections: &[ConnectionEnd]) -> Option<Fault>
@@ -18,14 +18,14 @@ pub fn first_fault(connections: &[ConnectionEnd]) -> Option<Fault>
 
 // The first fault of a worker, in the order of the list: that of its first connection that ended with one, or else that
 // memory or a thread was refused for it.
-fn first_fault_of_workers(workers: &[WorkerAccount]) -> Option<Fault>
-    ensures { result ≡ first_fault_of_workers workers.now }
+fn first_fault_of_shifts(shifts: &[Shift]) -> Option<Fault>
+    ensures { result ≡ first_fault_of_shifts shifts.now }
 {
-    for worker in workers {
-        if let Some(first) = first_fault(worker.shift.connections.as_slice()) {
+    for shift in shifts {
+        if let Some(first) = first_fault(shift.connections.as_slice()) {
             return Some(first);
         }
-        if worker.shift.end.is_err() {
+        if shift.end.is_err() {
             return Some(Fault::NoMemory);
         }
     }
@@ -33,23 +33,19 @@ fn first_fault_of_workers(workers: &[WorkerAccount]) -> Option<Fault>
 }
 
 // Whether memory or a thread was refused for one of the workers.
-fn is_memory_refused(workers: &[WorkerAccount]) -> bool
-    ensures { result ≡ is_memory_refused workers.now }
+fn is_memory_refused(shifts: &[Shift]) -> bool
+    ensures { result ≡ is_memory_refused shifts.now }
 {
-    workers.iter().any(|worker| worker.shift.end.is_err())
+    shifts.iter().any(|shift| shift.end.is_err())
 }
 
 /// The fault of a run: that nobody swept or nobody called clients back, since no thread could be made for that; or else
 /// the first of a worker, in the order of the list; or else that of the journal's file.
-pub(crate) fn run_fault(
-    has_helpers: bool,
-    workers: &[WorkerAccount],
-    filed: Option<Fault>,
-) -> Option<Fault>
-    ensures { result ≡ fault_of_run has_helpers workers.now filed }
+pub(crate) fn run_fault(has_helpers: bool, shifts: &[Shift], filed: Option<Fault>) -> Option<Fault>
+    ensures { result ≡ fault_of_run has_helpers shifts.now filed }
 {
     if has_helpers {
-        first_fault_of_workers(workers).or(filed)
+        first_fault_of_shifts(shifts).or(filed)
     } else {
         Some(Fault::NoMemory)
     }
@@ -59,12 +55,12 @@ pub(crate) fn run_fault(
 /// a worker, for the sweeps or for callbacks; or else that of the journal's file.
 pub(crate) fn ongoing_run_fault(
     has_helpers: bool,
-    workers: &[WorkerAccount],
+    shifts: &[Shift],
     filed: Option<Fault>,
 ) -> Option<Fault>
-    ensures { result ≡ fault_of_ongoing_run has_helpers workers.now filed }
+    ensures { result ≡ fault_of_ongoing_run has_helpers shifts.now filed }
 {
-    if !has_helpers || is_memory_refused(workers) {
+    if !has_helpers || is_memory_refused(shifts) {
         return Some(Fault::NoMemory);
     }
     filed

@@ -20,6 +20,7 @@ mod rate;
 mod reached_limits;
 mod reporter;
 mod serve_end;
+mod shown_bytes;
 mod sight;
 mod teller;
 mod tree_file;

@@ -3,6 +3,8 @@
 pub enum LineKind {
     /// How a connection ended.
     Connection,
+    /// What became of a callback.
+    Callback,
     /// What was seen of the journal, and what becomes of its files.
     Journal,
     /// The run itself.
@@ -14,6 +16,7 @@ impl LineKind {
     pub(crate) fn name(self) -> &'static str {
         match self {
             LineKind::Connection => "connections",
+            LineKind::Callback => "callbacks",
             LineKind::Journal => "the journal",
             LineKind::Run => "the run",
         }

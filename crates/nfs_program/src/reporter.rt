@@ -1,9 +1,12 @@
 use crate::line::Line;
+use crate::shown_bytes::ShownBytes;
 use crate::sight::Sight;
 use crate::{Beginning, Draft, Fault, LineKind, Lines, Teller};
+use nfs_callbacks::Fault as CallbackFault;
 use nfs_core::{Core, Journal};
 use nfs_server::ServeError;
 use nfs_threads::{Peer, Watcher};
+use nfs_xdr::Callback;
 use std::sync::{Mutex, Wait};
 use std::time::Clock;
 
@@ -66,6 +69,23 @@ impl<'a, R: Wait + Clock, D> Reporter<'a, R, D> {
     fn teller(&self, kind: LineKind) -> Teller<'a, R> {
         Teller::new(self.rt, self.lines, kind)
     }
+
+    // Tells why a callback failed; without a fault, that it has had no reply yet.
+    fn tell_callback(&self, client: u32, callback: &Callback, fault: Option<CallbackFault>) {
+        let teller = self.teller(LineKind::Callback);
+        let netid = ShownBytes(callback.address.netid.as_slice());
+        let addr = ShownBytes(callback.address.addr.as_slice());
+        let _ = match fault {
+            Some(fault) => {
+                eprintln!(teller; "client {client}: callback to {netid} {addr} failed: {fault}")
+            }
+            None => {
+                eprintln!(teller;
+                    "client {client}: callback to {netid} {addr}: no reply for 5 s yet"
+                )
+            }
+        };
+    }
 }
 
 impl<'a, R: Wait + Clock, D: Draft> Watcher for Reporter<'a, R, D> {
@@ -85,6 +105,14 @@ impl<'a, R: Wait + Clock, D: Draft> Watcher for Reporter<'a, R, D> {
     fn tell_refusal(&self) {
         let teller = self.teller(LineKind::Run);
         let _ = eprintln!(teller; "a connection isn't accepted; it is tried again");
+    }
+
+    fn tell_path_down(&self, client: u32, callback: &Callback, fault: CallbackFault) {
+        self.tell_callback(client, callback, Some(fault));
+    }
+
+    fn tell_no_reply(&self, client: u32, callback: &Callback) {
+        self.tell_callback(client, callback, None);
     }
 
     fn look(&self, core: &Core) -> bool {

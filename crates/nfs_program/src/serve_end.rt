@@ -35,10 +35,10 @@ pub fn end_run<E: Write, J: Sink>(
         run.now.core.journal filed
         × (filed ≡ Some Fault.NoMemory
         → ¬ (HasRoomForFileOf (vec_capacity buffer.old) run.now.core.journal))
-        × (result ≡ status_of (fault_of_run run.now.has_helpers run.now.workers.items filed)) }
+        × (result ≡ status_of (fault_of_run run.now.has_helpers run.now.shifts.items filed)) }
 {
     let filed = file_journal(buffer, run.core.journal(), journal);
-    let fault = run_fault(run.has_helpers, run.workers.as_slice(), filed);
+    let fault = run_fault(run.has_helpers, run.shifts.as_slice(), filed);
     tell_refusal(run.core.journal(), memory, errors);
     exit_status(errors, fault)
 }
@@ -58,13 +58,13 @@ pub fn end_ongoing_run<R: Wait + Clock, D: Draft + Drop, J: Sink>(
         run.now.core.journal filed
         × (filed ≡ Some Fault.NoMemory
         → ¬ (HasRoomForFileOf (vec_capacity buffer.old) run.now.core.journal))
-        × (result ≡ status_of (fault_of_ongoing_run run.now.has_helpers run.now.workers.items filed)) }
+        × (result ≡ status_of (fault_of_ongoing_run run.now.has_helpers run.now.shifts.items filed)) }
 {
     reporter.look_at_memory(run.core.journal());
     let filed = file_journal(buffer, run.core.journal(), journal);
     let unfiled = filed.map(|_| run.core.journal());
     let teller = reporter.end(unfiled);
-    let fault = ongoing_run_fault(run.has_helpers, run.workers.as_slice(), filed);
+    let fault = ongoing_run_fault(run.has_helpers, run.shifts.as_slice(), filed);
     let mut text = Line::new();
     let status = exit_status(&mut text, fault);
     teller.tell(&text);

@@ -18,6 +18,7 @@ pub(crate) struct Waiting {
     // How many lines found no room, which wasn't told yet.
     lost: u64,
     connections: Rate,
+    callbacks: Rate,
     journal: Rate,
     run: Rate,
     // Whether bytes were taken that aren't written yet.
@@ -34,6 +35,7 @@ impl Waiting {
             bytes: Vec::with_capacity(alloc, ROOM)?,
             lost: 0,
             connections: Rate::new(),
+            callbacks: Rate::new(),
             journal: Rate::new(),
             run: Rate::new(),
             is_taken: false,
@@ -48,6 +50,7 @@ impl Waiting {
         }
         let is_admitted = match kind {
             LineKind::Connection => self.connections.admits(),
+            LineKind::Callback => self.callbacks.admits(),
             LineKind::Journal => self.journal.admits(),
             LineKind::Run => self.run.admits(),
         };
@@ -59,9 +62,10 @@ impl Waiting {
     // Begins this second. What was left out before it is told.
     fn turn(&mut self, second: u64) {
         let connections = self.connections.turn(second);
+        let callbacks = self.callbacks.turn(second);
         let journal = self.journal.turn(second);
         let run = self.run.turn(second);
-        if connections || journal || run {
+        if connections || callbacks || journal || run {
             self.tell_left_out();
         }
     }
@@ -70,6 +74,8 @@ impl Waiting {
     pub(crate) fn tell_left_out(&mut self) {
         let connections = self.connections.take_left_out();
         self.tell_count(LineKind::Connection, connections);
+        let callbacks = self.callbacks.take_left_out();
+        self.tell_count(LineKind::Callback, callbacks);
         let journal = self.journal.take_left_out();
         self.tell_count(LineKind::Journal, journal);
         let run = self.run.take_left_out();
@@ -153,7 +159,10 @@ impl Waiting {
 
     /// Whether some were left out, which isn't told yet.
     pub(crate) fn has_left_out(&self) -> bool {
-        self.connections.has_left_out() || self.journal.has_left_out() || self.run.has_left_out()
+        self.connections.has_left_out()
+            || self.callbacks.has_left_out()
+            || self.journal.has_left_out()
+            || self.run.has_left_out()
     }
 
     /// Whether all that came is written.

@@ -6,7 +6,7 @@ use Rattle.nfs_core.specs.Safe.{IsSafe}
 use Rattle.nfs_core.specs.Server.{Enters, IsLawful, Server}
 use Rattle.nfs_leases.specs.BookOf.{IsBookOf}
 use Rattle.nfs_rpc.specs.declared.recall.Recall.{Recall}
-use Rattle.nfs_shared.specs.Deeds.{AreDeedsOf, keeper_deeds}
+use Rattle.nfs_shared.specs.Deeds.{AreDeedsOf, RenewNone, keeper_deeds}
 use Rattle.nfs_shared.specs.Held.{HeldView, IsHeld, Moves, waiting}
 use Rattle.nfs_shared.specs.Receipts.{calls_in, receipts_of}
 use Rattle.nfs_leases.specs.Visit.{Gains}
@@ -27,8 +27,10 @@ pub record KeepsRules (held : HeldView) : Type 0 where
   pub safe : IsSafe (meaning held.server.stored)
   pub agrees : IsBookOf (is_open_at held.leases) (was_opened_at held.leases) held.leases.view.lease held.server
   pub deeds : AreDeedsOf held.server.journal (meaning held.server.stored) (keeper_deeds held.leases.view.own)
+  pub renews_none : RenewNone held.leases.view.own
   pub recalls : AreLeftOf held.server.journal held.server.recalls
   pub queued : AreRecallsOf held.server.journal (held.put ++ waiting held.hand held.server.recalls)
+  pub known : IsPrefix held.known_taken held.put
 
 -- a call more
 pub held_call : (old new : HeldView) (number : ℕ) (call : Call) (receipt : Receipt)
@@ -47,8 +49,10 @@ held_call old new number call receipt h enters keeps number_is call_is places_is
       safe = keeps.safe;
       agrees = keeps.agrees;
       deeds = keeps.deeds;
+      renews_none = keeps.renews_none;
       recalls = keeps.recalls;
       queued = keeps.queued;
+      known = keeps.known;
       places = omega (arith, ap length places_is, length-append old.places (receipt.place ∷ []), h.places, more);
       receipts = receipts_is ∙ ap (λ xs. xs ++ receipt ∷ []) h.receipts ∙ ap (λ r. receipts_of 0 es old.places ++ r ∷ []) here ∙ sym grown ∙ (λ i. receipts_of 0 (sym journal i) (sym places_is i));
     }
@@ -73,11 +77,32 @@ held_more old new more h gains none keeps places_is receipts_is =
       safe = keeps.safe;
       agrees = keeps.agrees;
       deeds = keeps.deeds;
+      renews_none = keeps.renews_none;
       recalls = keeps.recalls;
       queued = keeps.queued;
+      known = keeps.known;
       places = ap length places_is ∙ h.places ∙ sym (calls_in_more es more none) ∙ ap calls_in (sym journal);
       receipts = receipts_is ∙ h.receipts ∙ sym (receipts_more 0 es more old.places none) ∙ (λ i. receipts_of 0 (sym journal i) (sym places_is i));
     }
+
+pub prefix_more : (xs ys zs : List Recall) → IsPrefix xs ys → IsPrefix ys zs → IsPrefix xs zs
+prefix_more xs ys zs p q = (p.0 ++ q.0, sym (append_assoc xs p.0 q.0) ∙ ap (λ (l : List Recall). l ++ q.0) p.1 ∙ q.1)
+
+-- these are known to be taken from the queue
+pub held_met : (held : HeldView) (known : List Recall) → IsHeld held → IsPrefix known held.put
+    → IsHeld (record held { known_taken = known })
+held_met held known was begins = record {
+  lawful = was.lawful;
+  safe = was.safe;
+  agrees = was.agrees;
+  deeds = was.deeds;
+  renews_none = was.renews_none;
+  recalls = was.recalls;
+  queued = was.queued;
+  known = begins;
+  places = was.places;
+  receipts = was.receipts;
+}
 
 -- recalls that went from those that wait into the queue
 pub held_moved : (old new : HeldView) → IsHeld old
@@ -86,8 +111,9 @@ pub held_moved : (old new : HeldView) → IsHeld old
     → IsBookOf (is_open_at new.leases) (was_opened_at new.leases) new.leases.view.lease new.server
     → AreLeftOf new.server.journal new.server.recalls
     → new.put ++ waiting new.hand new.server.recalls ≡ old.put ++ waiting old.hand old.server.recalls
+    → IsPrefix old.put new.put → new.known_taken ≡ old.known_taken
     → IsHeld new
-held_moved old new was server places receipts leases agrees left same =
+held_moved old new was server places receipts leases agrees left same put known =
     let journal : new.server.journal ≡ old.server.journal = ap (λ (s : Server). s.journal) server in
     record {
       lawful = subst IsLawful (sym server) was.lawful;
@@ -96,14 +122,13 @@ held_moved old new was server places receipts leases agrees left same =
       deeds =
           subst (λ (x : Server × Sitting). AreDeedsOf x.0.journal (meaning x.0.stored) (keeper_deeds x.1.view.own))
           (λ i. (sym server i, sym leases i)) was.deeds;
+      renews_none = subst (λ (s : Sitting). RenewNone s.view.own) (sym leases) was.renews_none;
       recalls = left;
       queued = subst (λ (y : History × List Recall). AreRecallsOf y.0 y.1) (λ i. (sym journal i, sym same i)) was.queued;
+      known = subst (λ (l : List Recall). IsPrefix l new.put) (sym known) (prefix_more old.known_taken old.put new.put was.known put);
       places = ap length places ∙ was.places ∙ ap (λ (j : History). calls_in j.entries) (sym journal);
       receipts = receipts ∙ was.receipts ∙ (λ i. receipts_of 0 (sym journal i).entries (sym places i));
     }
-
-pub prefix_more : (xs ys zs : List Recall) → IsPrefix xs ys → IsPrefix ys zs → IsPrefix xs zs
-prefix_more xs ys zs p q = (p.0 ++ q.0, sym (append_assoc xs p.0 q.0) ∙ ap (λ (l : List Recall). l ++ q.0) p.1 ∙ q.1)
 
 -- nothing went
 pub moves_none : (held : HeldView) → Moves held held

@@ -55,6 +55,19 @@ copies id v s h at = (
       (at_snoc (set s.views id v) (reader_of v.list) u j e),
 )
 
+-- a number is noted
+pub counts : (id : ℕ) (v : View) (count : ℕ) → Splits Kept id v (record v { seen = v.seen ++ count ∷ [] }) (reader_of [])
+counts id v count s h at =
+    let left : View = record v { seen = v.seen ++ count ∷ [] } in (
+      h.0,
+      h.1,
+      h.2,
+      λ j u e. ⊎_elim
+          (λ (was : get_elem? (set s.views id left) j ≡ some u). fits_set h.0 h.1 h.1 s.views id left (λ i y _ there. h.3 i y there) (h.3 id v at) j u was)
+          (λ (same : reader_of [] ≡ u). subst (Fits h.0 h.1 j) same (reads h.0 h.1 j [] (prefix_nil h.1)))
+          (at_snoc (set s.views id left) (reader_of []) u j e),
+    )
+
 -- a view changes to w, where a note is taken in
 joins : (id : ℕ) (v : View) (other : ℕ) (note w : View)
     → ((seat : ℕ) (all : List Receipt) → Fits seat all id v → Fits seat all other note → Fits seat all id w)
@@ -73,9 +86,9 @@ joins id v other note w fits s h at apart there =
 pub puts_beside : (id : ℕ) (v : View) (other : ℕ) (note : View) → Joins Kept id v other note (beside v note) (reader_of [])
 puts_beside id v other note = joins id v other note (beside v note) (λ seat all mine theirs. (mine.0, mine.1, theirs.1))
 
-pub takes_longer : (id : ℕ) (v : View) (other : ℕ) (note : View) → Joins Kept id v other note (reader_of (longer v.list note.list)) (reader_of [])
+pub takes_longer : (id : ℕ) (v : View) (other : ℕ) (note : View) → Joins Kept id v other note (record (reader_of (longer v.list note.list)) { seen = v.seen }) (reader_of [])
 takes_longer id v other note =
-    joins id v other note (reader_of (longer v.list note.list)) (λ seat all mine theirs. reads seat all id (longer v.list note.list) (longer_begins v.list note.list all mine.1 theirs.1))
+    joins id v other note (record (reader_of (longer v.list note.list)) { seen = v.seen }) (λ seat all mine theirs. reads seat all id (longer v.list note.list) (longer_begins v.list note.list all mine.1 theirs.1))
 
 -- the writer compares what was put beside its list
 pub compares : (slots id : ℕ) (v : View) (slots_held : List (ℕ × Receipt)) → v.writes ≡ true

@@ -50,7 +50,7 @@ queued_kept one begin old new more was queued journal left taken same =
     out_kept one begin old.server.journal more out old.server.recalls new.server.recalls was is taken before in
     let all : out ++ pending ≡ new.put ++ waiting new.hand new.server.recalls =
     append_assoc old.put (option_to_list old.hand) pending
-    ∙ (λ i. sym same.0 i ++ waiting (sym same.1 i) new.server.recalls) in
+    ∙ (λ i. sym same.0 i ++ waiting (sym same.2 i) new.server.recalls) in
     subst (λ (y : History × List Recall). AreRecallsOf y.0 y.1) (λ i. (sym journal i, all i)) after
 
 -- The same where nothing was entered.
@@ -60,4 +60,4 @@ pub queued_same : (old new : HeldView)
     → AreRecallsOf new.server.journal (new.put ++ waiting new.hand new.server.recalls)
 queued_same old new queued journal recalls same =
     subst (λ (y : History × List Recall). AreRecallsOf y.0 y.1)
-    (λ i. (sym journal i, sym same.0 i ++ waiting (sym same.1 i) (sym recalls i))) queued
+    (λ i. (sym journal i, sym same.0 i ++ waiting (sym same.2 i) (sym recalls i))) queued

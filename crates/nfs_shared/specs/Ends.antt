@@ -1,14 +1,21 @@
 -- What is known of all seats and all receipts when the workers have ended.
-use Rattle.std.specs.Prelude.{◌≡◌, ◌≢◌, ℕ, ◌+◌, ◌<◌, ◌≤◌, IsTrue, List, [], ◌∷◌, Contains, length, slice_get, Some}
+use Rattle.std.specs.Prelude.{◌≡◌, ◌≢◌, ◌⊎◌, ℕ, ◌+◌, ◌<◌, ◌≤◌, IsTrue, List, [], ◌∷◌, Contains, length, slice_get, Some}
 use mathlib.Core.List.{IsPrefix}
 use Rattle.nfs_core.specs.Events.{expire_of}
+use Rattle.nfs_core.specs.Server.{Server}
+use Rattle.nfs_leases.specs.BookEvent.{BookEvent}
+use Rattle.nfs_leases.specs.BookEvent as book
+use Rattle.nfs_leases.specs.declared.closing.Closing.TheVariants as closing
+use Rattle.nfs_owners.specs.Slots.{is_earlier}
 use Rattle.nfs_state.specs.Lease.{is_over}
+use Rattle.nfs_state.specs.Stored.{meaning}
 use Rattle.nfs_state.specs.declared.entry.Entry.{Entry}
 use Rattle.nfs_state.specs.declared.entry.Entry.TheVariants as entries
+use Rattle.nfs_shared.specs.Deeds.{AreDeedsOf}
 use Rattle.nfs_shared.specs.declared.receipt.Receipt.{Receipt}
 use Rattle.nfs_shared.specs.Seats.{SeatView, fresh}
 use Rattle.nfs_words.specs.Deeds.{event}
-use Rattle.nfs_words.specs.SeatLaws.{NoneLate}
+use Rattle.nfs_words.specs.SeatLaws.{HasFoundClosed, LooksFirst, NeverVacantAgain, NoneAfterEnd, NoneLate}
 use Rattle.nfs_words.specs.Sitting.{Words}
 use Rattle.nfs_words.specs.Words.{closed_part}
 use Rattle.nfs_words.specs.declared.event.Deed.TheVariants.{Renew}
@@ -88,6 +95,49 @@ abbrev pub AllInTime : ℕ → List Entry → List SeatView → Type 0
 AllInTime lease journal seats =
     (k : ℕ) (seat : SeatView) → slice_get seats k ≡ Some seat
     → InTime lease journal seat.leases.view.own
+
+-- What holds of all that a seat saw of leases, and did to them: no renewal is answered after an end, each comes after a
+-- look that showed the lease open, and no look shows a lease as vacant that was known.
+pub record IsHeeded (events : List Event) : Type 0 where
+  pub none_after_end : NoneAfterEnd events
+  pub looks_first : LooksFirst events
+  pub never_vacant_again : NeverVacantAgain events
+
+-- this holds of what each of these seats saw and did
+abbrev pub AllHeeded : List SeatView → Type 0
+AllHeeded seats =
+    (k : ℕ) (seat : SeatView) → slice_get seats k ≡ Some seat
+    → IsHeeded seat.leases.view.own
+
+-- by these deeds the client's lease was opened
+abbrev pub WasOpened : List BookEvent → ℕ → Type 0
+WasOpened deeds client = (moment : ℕ) × Contains deeds (book.Open client moment)
+
+-- by these deeds the client's lease was closed or retired, or that of a later generation of its slot was opened
+abbrev pub HasEnded : List BookEvent → ℕ → Type 0
+HasEnded deeds client =
+    ((seen now : ℕ) × Contains deeds (book.Close client seen now closing.Closed))
+    ⊎ Contains deeds (book.Retire client)
+    ⊎ ((later : ℕ) × IsTrue (is_earlier client later) × WasOpened deeds later)
+
+-- These deeds bear out what a seat found of leases: one whose renewal it was answered, or tried, was opened, and one that
+-- it found closed had ended.
+pub record IsBorneOutBy (deeds : List BookEvent) (events : List Event) : Type 0 where
+  pub renewed : (client moment found : ℕ) → Contains events (event client (Renew moment found))
+      → WasOpened deeds client
+  pub closed : (client : ℕ) → HasFoundClosed client events → HasEnded deeds client
+
+-- the deeds bear out what each of these seats found
+abbrev pub AllBorneOut : List BookEvent → List SeatView → Type 0
+AllBorneOut deeds seats =
+    (k : ℕ) (seat : SeatView) → slice_get seats k ≡ Some seat
+    → IsBorneOutBy deeds seat.leases.view.own
+
+-- what the server's journal did to leases bears it out
+abbrev pub JournalBearsOut : Server → List SeatView → Type 0
+JournalBearsOut server seats =
+    (deeds : List BookEvent)
+    × AreDeedsOf server.journal (meaning server.stored) deeds × AllBorneOut deeds seats
 
 -- no renewal that was answered to one of these seats is later than a closing among these events saw
 abbrev pub AllMet : ℕ → List Event → List SeatView → Type 0

@@ -1,5 +1,5 @@
 -- What the lock of the shared state guards, and what holds whenever the lock is free (`IsHeld`).
-use Rattle.std.specs.Prelude.{◌≡◌, ℕ, ◌≤◌, List, [], ◌∷◌, ◌++◌, Option, length, option_to_list}
+use Rattle.std.specs.Prelude.{◌≡◌, ℕ, ◌+◌, ◌≤◌, List, [], ◌∷◌, ◌++◌, Option, length, option_to_list}
 use mathlib.Core.List.{IsPrefix}
 use mathlib.Core.Logic.{◌⊎◌}
 use Rattle.atomic_table.specs.Seated.{TableId}
@@ -9,11 +9,11 @@ use Rattle.nfs_core.specs.Safe.{IsSafe}
 use Rattle.nfs_core.specs.Server.{IsLawful, Server}
 use Rattle.nfs_leases.specs.BookOf.{IsBookOf}
 use Rattle.nfs_rpc.specs.declared.recall.Recall.{Recall}
-use Rattle.nfs_shared.specs.Deeds.{AreDeedsOf, keeper_deeds}
+use Rattle.nfs_shared.specs.Deeds.{AreDeedsOf, RenewNone, keeper_deeds}
 use Rattle.nfs_shared.specs.Naming.{start_of}
 use Rattle.nfs_shared.specs.Receipts.{calls_in, others_in, receipts_of}
 use Rattle.nfs_shared.specs.Roll.{IsOf, IsWriter, list_of}
-use Rattle.nfs_shared.specs.Sender.{SenderView}
+use Rattle.nfs_shared.specs.Sender.{SenderView, with_known, with_mark}
 use Rattle.nfs_shared.specs.Sweeper.{SweeperView}
 use Rattle.nfs_shared.specs.declared.recall_queue.TheConstants.{CAPACITY}
 use Rattle.nfs_shared.specs.declared.receipt.Receipt.{Receipt}
@@ -32,8 +32,10 @@ pub record HeldView : Type 0 where
   pub places : List ℕ
   -- all receipts that were given, in order
   pub receipts : List Receipt
-  -- the recalls that were put into the queue, in order, and one that found no room there
+  -- the recalls that were put into the queue, in order, those that are known to be taken from it, and one that found no
+  -- room there
   pub put : List Recall
+  pub known_taken : List Recall
   pub hand : Option Recall
 
 -- the recalls that wait for room in the queue: the one in hand, and then those that are left in the core
@@ -64,10 +66,14 @@ pub record IsHeld (held : HeldView) : Type 0 where
   pub deeds :
       AreDeedsOf held.server.journal (meaning held.server.stored)
       (keeper_deeds held.leases.view.own)
+  -- the keeper renews no lease: whoever does has a worker's seat
+  pub renews_none : RenewNone held.leases.view.own
   -- the recalls that are left in the core are those of the journal without those that left it, which come first
   pub recalls : AreLeftOf held.server.journal held.server.recalls
   -- what was put into the queue, followed by what waits for room in it, are the recalls of the journal
   pub queued : AreRecallsOf held.server.journal (held.put ++ waiting held.hand held.server.recalls)
+  -- what is known to be taken from the queue begins what was put there
+  pub known : IsPrefix held.known_taken held.put
   -- the receipts are for the calls of the journal, each with its number and the place of its seat
   pub places : length held.places ≡ calls_in held.server.journal.entries
   pub receipts : held.receipts ≡ receipts_of 0 held.server.journal.entries held.places
@@ -78,12 +84,20 @@ pub record CanBeHeld (origin : History) (value : HeldView) : Type 0 where
   pub start : start_of value.server.journal ≡ origin
 
 -- As far as the sender can tell, the lock may guard this value, in a run with this start: it is one as the lock guards,
--- what the sender took begins what was put into the queue, and no more entries came by the sender than are no calls.
+-- what the sender took, and what it knows to be put, begins what was put into the queue, and no more entries came by the
+-- sender than are no calls. All that the sender took is known to be taken.
 pub record SenderMayFind (origin : History) (sender : SenderView) (value : HeldView) : Type 0 where
   pub held : IsHeld value
   pub start : start_of value.server.journal ≡ origin
   pub begins : IsPrefix sender.taken value.put
+  pub known : IsPrefix sender.known_put value.put
+  pub told : value.known_taken ≡ sender.taken
   pub count : sender.count ≤ others_in value.server.journal.entries
+
+-- the sender found a value that the lock may guard, and knows since then all that this has put
+abbrev pub HasLooked : History → SenderView → SenderView → Type 0
+HasLooked origin old new =
+    (value : HeldView) × SenderMayFind origin old value × (new ≡ with_known value.put old)
 
 -- As far as the sweeper can tell, the lock may guard this value, in a run with this start: it is one as the lock guards,
 -- and no more entries came by the sweeper than are no calls.
@@ -93,9 +107,15 @@ pub record SweeperMayFind (origin : History) (sweeper : SweeperView) (value : He
   pub start : start_of value.server.journal ≡ origin
   pub count : sweeper.count ≤ others_in value.server.journal.entries
 
--- what was put into the queue and what is in hand stay
+-- and one entry came by it
+abbrev pub HasMarked : History → SenderView → SenderView → Type 0
+HasMarked origin old new =
+    (looked : SenderView) × HasLooked origin old looked × (new ≡ with_mark looked)
+
+-- what was put into the queue, what is known to be taken from it, and what is in hand stay
 abbrev pub HasQueued : HeldView → HeldView → Type 0
-HasQueued old new = (new.put ≡ old.put) × (new.hand ≡ old.hand)
+HasQueued old new =
+    (new.put ≡ old.put) × (new.known_taken ≡ old.known_taken) × (new.hand ≡ old.hand)
 
 -- Recalls go from those that wait into the queue, in order, and all else stays.
 pub record Moves (old new : HeldView) : Type 0 where
@@ -112,9 +132,11 @@ pub record Moves (old new : HeldView) : Type 0 where
 abbrev pub HasOneMore : List Recall → List Recall → Type 0
 HasOneMore old new = (recall : Recall) × (new ≡ old ++ recall ∷ [])
 
--- none waits, or at least as many were put as the queue has room for
+-- none waits, or at least as many were put as the queue has room for, beside those that are known to be taken
 abbrev pub IsMoved : HeldView → Type 0
-IsMoved held = (waiting held.hand held.server.recalls ≡ []) ⊎ (CAPACITY ≤ length held.put)
+IsMoved held =
+    (waiting held.hand held.server.recalls ≡ [])
+    ⊎ (CAPACITY + length held.known_taken ≤ length held.put)
 
 -- The token is the writer's of this run's roll, which is the roll that is kept, and the run's ledger has counted the
 -- receipts.

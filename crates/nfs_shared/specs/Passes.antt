@@ -10,6 +10,8 @@ pub record PassView : Type 0 where
   pub queue : TableId
   -- what was put, or taken, by this pass, in order
   pub recalls : List Recall
+  -- what is known to be taken, or put, by the other one
+  pub known : List Recall
 
 -- with one recall more
 abbrev pub with_recall : Recall → PassView → PassView
@@ -20,8 +22,8 @@ log_of token = view token
 
 -- it is a pass by which recalls are put
 abbrev pub IsPutter : Pass Recall Log → Type 0
-IsPutter token = (token.me.1 ≡ []) × (log_of token ≡ putter (log_of token).put)
+IsPutter token = (token.me.1 ≡ []) × (log_of token ≡ putter (log_of token).put (log_of token).taken)
 
 -- and one by which they are taken
 abbrev pub IsTaker : Pass Recall Log → Type 0
-IsTaker token = (token.me.1 ≡ []) × (log_of token ≡ taker (log_of token).taken)
+IsTaker token = (token.me.1 ≡ []) × (log_of token ≡ taker (log_of token).put (log_of token).taken)

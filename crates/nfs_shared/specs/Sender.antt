@@ -4,14 +4,19 @@ use Rattle.nfs_rpc.specs.declared.recall.Recall.{Recall}
 
 -- what is needed to take recalls, and to mark a path
 pub record SenderView : Type 0 where
-  -- the recalls that were taken by it, in order
+  -- the recalls that were taken by it, in order, and those that it knows to be put
   pub taken : List Recall
+  pub known_put : List Recall
   -- how many entries of the journal came by it
   pub count : ℕ
 
 -- with one recall more
 abbrev pub with_taken : Recall → SenderView → SenderView
 with_taken recall sender = record sender { taken = sender.taken ++ recall ∷ [] }
+
+-- knowing that these recalls were put
+abbrev pub with_known : List Recall → SenderView → SenderView
+with_known recalls sender = record sender { known_put = recalls }
 
 -- with one entry more
 abbrev pub with_mark : SenderView → SenderView

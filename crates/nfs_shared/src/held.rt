@@ -8,7 +8,7 @@ ghost use Rattle.nfs_core.specs.declared.entered.Entered.{Entered};
 ghost use Rattle.nfs_leases.specs.BookEvent.{AllHappen};
 ghost use Rattle.nfs_leases.specs.BookOf.{events_entered};
 ghost use Rattle.nfs_shared.specs.Held.{CanBeHeld, HasQueued, SenderMayFind, SweeperMayFind, waiting};
-ghost use Rattle.nfs_shared.specs.Sender.{with_mark};
+ghost use Rattle.nfs_shared.specs.Sender.{with_known, with_mark};
 ghost use Rattle.nfs_shared.specs.Seats.{Gives, KnowsTheSame, number_given};
 ghost use Rattle.nfs_leases.specs.Sweeps.{Sweeps, leased_server};
 ghost use Rattle.nfs_state.specs.Entries.{IsFilehandle, resource};
@@ -77,7 +77,7 @@ impl<N: Naming> Model for Held<N> {
     ghost use Rattle.nfs_shared.specs.Naming.{start_of};
     ghost use Rattle.nfs_shared.specs.Receipts.{others_in};
     ghost use Rattle.nfs_shared.specs.Roll.{list_of};
-    ghost use Rattle.nfs_words.specs.Calls.{FitsTable};
+    ghost use Rattle.nfs_words.specs.Calls.{IsKeeperAt};
 
     ghost Value = { HeldView };
 
@@ -87,6 +87,7 @@ impl<N: Naming> Model for Held<N> {
       places = h.register.places.items;
       receipts = list_of h.register.writer;
       put = h.put.recalls;
+      known_taken = h.put.known;
       hand = h.hand;
     } };
 
@@ -97,13 +98,14 @@ impl<N: Naming> Model for Held<N> {
           places = h.register.places.items;
           receipts = list_of h.register.writer;
           put = h.put.recalls;
+          known_taken = h.put.known;
           hand = h.hand;
         })
         × IsTied N.run.roll h.register.roll.shared.table_id h.register.writer h.register.count.total
         × (start_of h.leased.core.journal ≡ N.start)
         × (h.register.rest.parts ≡ 0) × (h.register.rest.amount ≡ 0)
         × (h.other_count.total ≡ others_in h.leased.core.journal.entries)
-        × FitsTable h.leased.book N.run.words
+        × IsKeeperAt N.run.words N.run.workers h.leased.book
         × (h.put.queue ≡ N.run.queue) };
 }
 
@@ -246,16 +248,17 @@ pub fn enter_held<N: Naming>(
     }
 }
 
-/// What the sender took begins what was put, and no more entries are the sender's than are no calls.
+/// The locked value knows all that the sender took, and the sender all that was put. What the sender took begins what was
+/// put, and no more entries are the sender's than are no calls.
 pub(crate) fn meet_sender<N: Naming>(
     queue: &RecallQueue,
     held: &mut Held<N>,
     sender: &mut Sender<N>,
 )
     requires queue { queue.now ≡ N.run.queue }
-    ensures known { SenderMayFind N.start sender.old held.old }
-    ensures held { held.new ≡ held.old }
-    ensures sender { sender.new ≡ sender.old }
+    ensures known { SenderMayFind N.start sender.old held.new }
+    ensures held { held.new ≡ record held.old { known_taken = sender.old.taken } }
+    ensures sender { sender.new ≡ with_known held.old.put sender.old }
 {
     queue.meet(&mut held.put, &mut sender.pass);
     held.other_count.audit(&mut sender.share);

@@ -1,6 +1,6 @@
 //! How recalls go from the core into the queue, at the end of each hold of the lock.
 
-ghost use Rattle.std.specs.Prelude.{◌≡◌, ◌≤◌, ◌++◌, [], IfNone, IsFalse, IsTrue, None, length, option_to_list};
+ghost use Rattle.std.specs.Prelude.{◌≡◌, ◌+◌, ◌≤◌, ◌++◌, [], IfNone, IsFalse, IsTrue, None, length, option_to_list};
 ghost use mathlib.Core.List.{IsPrefix};
 ghost use mathlib.Core.Logic.{◌⊎◌};
 ghost use Rattle.nfs_shared.specs.Held.{HasOneMore, IsMoved, Moves, waiting};
@@ -61,9 +61,10 @@ fn put_one<R: Wait>(
     ensures recalls { put.new.recalls ++ waiting hand.new leased.new.core.recalls
         ≡ put.old.recalls ++ waiting hand.old leased.old.core.recalls }
     ensures put { IsPrefix put.old.recalls put.new.recalls }
+    ensures known { put.new.known ≡ put.old.known }
     ensures one { IsTrue result → HasOneMore put.old.recalls put.new.recalls }
     ensures room { IsFalse result → (waiting hand.new leased.new.core.recalls ≡ [])
-        ⊎ (CAPACITY ≤ length put.new.recalls) }
+        ⊎ (CAPACITY + length put.new.known ≤ length put.new.recalls) }
 {
     let Some(recall) = next_waiting(hand, leased) else {
         return false;

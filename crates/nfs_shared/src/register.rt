@@ -2,14 +2,15 @@
 ghost use Rattle.std.specs.Prelude.{◌≡◌, ◌+◌, ◌<◌, ◌^◌, ◌++◌, ◌∷◌, [], length, vec_len, vec_capacity};
 ghost use mathlib.Core.List.{IsPrefix};
 ghost use Rattle.nfs_shared.specs.Receipts.{IsAbove};
-ghost use Rattle.nfs_shared.specs.Roll.{IsOf, IsReader, IsWriter, list_of};
+ghost use Rattle.nfs_shared.specs.Roll.{IsOf, IsReader, IsWriter, list_of, seen_of};
 ghost use Rattle.nfs_shared.specs.Seats.{Gives};
 
 use crate::naming::{Naming, ReceiptLedger};
 use crate::receipt::Receipt;
-use crate::roll::{Roll, Token, add, meet, tell};
+use crate::roll::{Roll, Token, add, count_events, meet, tell};
 use crate::seat::Seat;
 use nfs_state::SeenCall;
+use std::marker::Brand;
 use std::sync::ledger::{Book, Share};
 
 /// The receipts that were given: whose they are, the roll that ties them to the seats, and how many there are.
@@ -53,6 +54,7 @@ pub(crate) fn give<N: Naming>(
         call,
     };
     let count = register.places.len() as u64;
+    count_events::<Brand>(&register.roll, &mut seat.token, &seat.leases);
     sign(
         &register.roll,
         &mut register.writer,
@@ -76,6 +78,7 @@ fn sign(roll: &Roll, writer: &mut Token, token: &mut Token, count: u64, receipt:
     ensures begins { IsPrefix (list_of token.old) (list_of writer.old) }
     ensures all { list_of writer.new ≡ list_of writer.old ++ receipt.now ∷ [] }
     ensures list { list_of token.new ≡ list_of writer.old ++ receipt.now ∷ [] }
+    ensures seen { seen_of token.new ≡ seen_of token.old }
 {
     meet(roll, writer, token);
     add(roll, writer, count, receipt);

@@ -2,12 +2,14 @@
 //! given. A view of it has a list of receipts: the writer's has all of them, and that of another token a beginning.
 ghost use Rattle.std.specs.Prelude.{◌≡◌, ◌+◌, ◌^◌, ◌<◌, ◌++◌, ◌∷◌, [], length};
 ghost use mathlib.Core.List.{IsPrefix};
-ghost use Rattle.nfs_shared.specs.Roll.{IsWriter, IsReader, IsOf, list_of};
+ghost use Rattle.nfs_shared.specs.Roll.{IsWriter, IsReader, IsOf, list_of, seen_of};
 
 use crate::receipt::Receipt;
 use atomic_table::{Join, Play, Seat, Split, Table, TableRule};
+use nfs_words::LeaseSeat;
 use std::alloc::Global;
 use std::collections::LinkedList;
+use std::marker::{Brand, PhantomData};
 
 // What a token knows. No value of it is made.
 pub struct View {
@@ -16,6 +18,8 @@ pub struct View {
     pub list: LinkedList<Receipt>,
     // What a note put beside the list, until it is compared.
     pub told: LinkedList<Receipt>,
+    // For each receipt that the token's seat was given, in order, how many events of leases the seat had then.
+    pub seen: LinkedList<u64>,
 }
 
 pub struct OneWriter;
@@ -77,9 +81,34 @@ impl Join<View> for Longer {
     ghost use Rattle.std.specs.Prelude.{[]};
     ghost use Rattle.nfs_shared.specs.Roll.{reader_of, longer};
 
-    ghost both = { λ v w. reader_of (longer v.list w.list) };
+    ghost both = { λ v w. record (reader_of (longer v.list w.list)) { seen = v.seen } };
 
     ghost spent = { reader_of [] };
+}
+
+/// Names how many events a seat has.
+pub trait Counted {
+    ghost use Rattle.std.specs.Prelude.{ℕ};
+
+    ghost count: { ℕ };
+}
+
+impl Counted for Brand {
+    ghost count = { 0 };
+}
+
+// A token has one number more of events.
+pub struct Counts<C: Counted> {
+    of: PhantomData<C>,
+}
+
+impl<C: Counted> Split<View> for Counts<C> {
+    ghost use Rattle.std.specs.Prelude.{◌++◌, ◌∷◌, []};
+    ghost use Rattle.nfs_shared.specs.Roll.{reader_of};
+
+    ghost left = { λ v. record v { seen = v.seen ++ C.count ∷ [] } };
+
+    ghost right = { λ v. reader_of [] };
 }
 
 pub type Roll = Table<Receipt, View, (), OneWriter, Global>;
@@ -118,7 +147,20 @@ pub fn tell(roll: &Roll, writer: &mut Token, token: &mut Token)
     ensures writer { IsOf roll.now.shared.table_id writer.new × (writer.new.me ≡ writer.old.me) }
     ensures token { IsOf roll.now.shared.table_id token.new × IsReader token.new }
     ensures list { list_of token.new ≡ list_of writer.old }
+    ensures seen { seen_of token.new ≡ seen_of token.old }
 {
     let note = roll.shared.split_seat::<Copied>(writer);
     roll.shared.join_seat::<Longer>(token, note);
+}
+
+/// The token has, behind its other numbers, how many events this seat at the lease words has.
+pub fn count_events<C: Counted>(roll: &Roll, token: &mut Token, leases: &LeaseSeat)
+    requires counted { C.count ≡ length leases.now.view.own }
+    requires token { IsOf roll.now.shared.table_id token.old × IsReader token.old }
+    ensures token { IsOf roll.now.shared.table_id token.new × IsReader token.new }
+    ensures list { list_of token.new ≡ list_of token.old }
+    ensures seen { seen_of token.new ≡ seen_of token.old ++ length leases.now.view.own ∷ [] }
+{
+    let _leases = leases;
+    let _ = roll.shared.split_seat::<Counts<C>>(token);
 }

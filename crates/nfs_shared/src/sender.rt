@@ -4,7 +4,7 @@ use std::marker::Model;
 use std::sync::ledger::Share;
 
 /// Who sends recalls, and marks the paths to clients' callbacks. There is one in a run. Contracts see the recalls that it
-/// took from the queue, in order, and how many entries of the journal came by it.
+/// took from the queue, in order, those that it knows to be put there, and how many entries of the journal came by it.
 #[derive(Drop)]
 pub struct Sender<N: Naming> {
     pub(crate) pass: TakePass,
@@ -17,7 +17,11 @@ impl<N: Naming> Model for Sender<N> {
 
     ghost Value = { SenderView };
 
-    ghost view = { λ s. record { taken = s.pass.recalls; count = s.share.amount } };
+    ghost view = { λ s. record {
+      taken = s.pass.recalls;
+      known_put = s.pass.known;
+      count = s.share.amount;
+    } };
 
     ghost invariant = { λ s. (s.share.parts ≡ 1) × (s.pass.queue ≡ N.run.queue) };
 }

@@ -1,36 +1,33 @@
 //! The state that threads share, behind one lock.
-ghost use Rattle.std.specs.Prelude.{◌≡◌, ◌+◌, ◌<◌, ◌≤◌, ◌↔◌, ◌++◌, [], All, IfOk, IfErr, IfSome, IfNone, IsNone, IsTrue, List, None, Ok, OnErr, OnOk, Some, length, map, vec_len};
-ghost use Rattle.nfs_core.specs.Callbacks.{callback_of, has_delegation};
-ghost use Rattle.nfs_core.specs.Events.{IsNotEntered, path_of};
+ghost use Rattle.std.specs.Prelude.{◌≡◌, ◌+◌, ◌<◌, ◌≤◌, ◌↔◌, ◌++◌, [], IfOk, IfErr, IfSome, IfNone, IsNone, IsTrue, List, None, Ok, OnErr, OnOk, Some, length, map, vec_len};
 ghost use Rattle.nfs_core.specs.Recalls.{AreRecallsOf};
 ghost use Rattle.nfs_core.specs.Safe.{IsSafe};
-ghost use Rattle.nfs_core.specs.Server.{Enters, IsLawful, Server};
-ghost use Rattle.nfs_core.specs.declared.event.Event.TheVariants as events;
+ghost use Rattle.nfs_core.specs.Server.{IsLawful};
 ghost use Rattle.nfs_forms.specs.ClientId.{number_in};
-ghost use Rattle.nfs_shared.specs.Ends.{AreFresh, AreKept, AllStand, AllApart, AllBegin, AllInTime, AllMet, receipts_in, given_in};
-ghost use Rattle.nfs_shared.specs.Held.{HeldView, SenderMayFind, SweeperMayFind};
+ghost use Rattle.nfs_shared.specs.Deeds.{keeper_deeds};
+ghost use Rattle.nfs_shared.specs.Ends.{AreFresh, AreKept, AllStand, AllApart, AllBegin, AllBorneOut, JournalBearsOut, AllHeeded, AllInTime, AllMet, receipts_in, given_in};
+ghost use Rattle.nfs_shared.specs.Held.{HeldView, SweeperMayFind};
 ghost use Rattle.nfs_shared.specs.Naming.{CanBegin, start_of};
 ghost use Rattle.nfs_leases.specs.Renewals.{renewed_by};
 ghost use Rattle.nfs_shared.specs.Receipts.{calls_in, others_in};
 ghost use Rattle.nfs_shared.specs.Renewing.{RenewsAs, RenewsFor};
 ghost use Rattle.nfs_shared.specs.Roll.{IsOf, IsWriter, list_of, writer_of};
-ghost use Rattle.nfs_shared.specs.Sender.{with_mark, with_taken};
 ghost use Rattle.nfs_shared.specs.Seats.{Gives, KnowsTheSame, fresh, with_leases};
 ghost use Rattle.nfs_leases.specs.Sweeps.{Sweeps, leased_server};
-ghost use Rattle.nfs_owners.specs.LiveClients.{IsNextUnknown};
 ghost use Rattle.nfs_rpc.specs.declared.recall.Recall.{Recall};
 ghost use Rattle.nfs_state.specs.Entries.{IsFilehandle, request_of, resource};
 ghost use Rattle.nfs_state.specs.Stored.{meaning};
-ghost use Rattle.nfs_state.specs.declared.entry.Entry.TheVariants as entries;
-ghost use Rattle.nfs_words.specs.Calls.{FitsTable, Renews, worker_at};
+ghost use Rattle.nfs_words.specs.Calls.{AreWorkerSeats, IsKeeperAt, Renews, worker_at};
 ghost use Rattle.nfs_words.specs.Desk.{Happens};
 ghost use Rattle.nfs_tree.specs.Profiles.{has_entry};
 ghost use Rattle.nfs_xdr.specs.Op.{opnum_of};
 ghost use Rattle.nfs_xdr.specs.OpResult.{op_result};
 ghost use Rattle.nfs_xdr.specs.Opnum.{answer_limit};
 
-use crate::held::{Held, call_held, enter_held, meet_sender, recalls_are_left, sweep_held};
-use crate::hold::Hold;
+mod sending;
+
+use crate::held::{Held, call_held, recalls_are_left, sweep_held};
+use crate::hold::{Hold, hold_in, look_and_lock};
 use crate::naming::{Naming, OtherLedger, ReceiptLedger};
 use crate::opened::Opened;
 use crate::recall_queue::RecallQueue;
@@ -40,13 +37,12 @@ use crate::roll::{Copied, Roll, Token, meet};
 use crate::seat::Seat;
 use crate::sender::Sender;
 use crate::sweeper::Sweeper;
-use nfs_core::{Core, CoreError, Event, Moment, Recall};
+use nfs_core::{Core, Moment};
 use nfs_leases::{LeasedCore, Renewal, Swept, renewed_client};
-use nfs_owners::ClientState;
-use nfs_state::{Path, Request};
+use nfs_state::Request;
 use nfs_tree::Profile;
 use nfs_words::{LeaseSeat, WordDesk, WordLeases};
-use nfs_xdr::{Callback, ClientId, Op, OpResult, Principal, Refusal, Stateid};
+use nfs_xdr::{ClientId, Op, OpResult, Principal, Refusal};
 use std::alloc::{AllocError, Global};
 use std::marker::Model;
 use std::sync::ledger::Share;
@@ -96,7 +92,11 @@ impl<N: Naming> Shared<N> {
         requires beginning { CanBegin N.run N.start opened core }
         ensures seats { IfOk result (λ r. AreFresh N.run.words N.run.workers r.seats.items) }
         ensures sweeper { IfOk result (λ r. r.sweeper.count ≡ 0) }
-        ensures sender { IfOk result (λ r. r.sender ≡ record { taken = []; count = 0 }) }
+        ensures sender { IfOk result (λ r. r.sender ≡ record {
+          taken = [];
+          known_put = [];
+          count = 0;
+        }) }
         ensures err { IfErr result (λ c. c ≡ core) }
     {
         let epoch = core.journal().epoch();
@@ -169,23 +169,13 @@ impl<N: Naming> Shared<N> {
         self.profile
     }
 
-    /// Takes the lock, for as long as the value lives that is returned.
+    /// Takes the lock, for as long as the value lives that is returned. It looks for a while before it sleeps.
     pub fn hold<'a, 'b, R: Wait>(&'a self, rt: &'b R) -> Hold<'a, 'b, N, R> {
         Hold {
             rt,
             queue: &self.queue,
-            guard: self.held.lock(rt),
+            guard: look_and_lock(rt, &self.held),
         }
-    }
-
-    // Takes the lock for the sender: what it took begins what was put, and its entries are among those that are no calls.
-    fn hold_for<'a, 'b, R: Wait>(&'a self, rt: &'b R, sender: &mut Sender<N>) -> Hold<'a, 'b, N, R>
-        ensures known { SenderMayFind N.start sender.old result }
-        ensures sender { sender.new ≡ sender.old }
-    {
-        let mut hold = self.hold(rt);
-        meet_sender(&self.queue, &mut *hold.guard, sender);
-        hold
     }
 
     /// Answers an operation that has an entry in the journal, in one hold of the lock, with a receipt for its entry. The
@@ -215,11 +205,41 @@ impl<N: Naming> Shared<N> {
         ensures short { length (op_result.encoding result.0) ≤ answer_limit (opnum_of op.now) }
         ensures form { op_result.Fits result.0 }
     {
-        self.renew_named(seat, op, moment);
         let Ok(request) = Request::of_copy(moment, principal, op, filehandle) else {
+            self.renew_named(seat, op, moment);
             return (op.opnum().refusal(Refusal::Resource), None);
         };
-        call_held(&mut *self.hold(rt).guard, seat, request)
+        let mut hold = None;
+        self.call_in(rt, &mut hold, seat, request)
+    }
+
+    /// Answers a request for an operation that has an entry in the journal, with a receipt for its entry. It first renews
+    /// the lease of the client that the operation names, by the seat and without the lock. If `hold` has no hold, it then
+    /// locks the state. It leaves the hold there, so that the caller may have several requests answered in one. The
+    /// filehandle has to be a node of the tree.
+    pub fn call_in<'a, 'b, R: Wait>(
+        &'a self,
+        rt: &'b R,
+        hold: &mut Option<Hold<'a, 'b, N, R>>,
+        seat: &mut Seat<N>,
+        request: Request,
+    ) -> (OpResult, Option<Receipt>)
+        requires entry { IsTrue (has_entry N.start.policy.profile request.op) }
+        requires node { IsFilehandle N.start request.filehandle }
+        ensures refused { IsNone result.1 ↔ (result.0 ≡ resource request.op) }
+        ensures renews { RenewsFor (renewed_by N.start.epoch request.op) request.moment
+            seat.old.leases seat.new.leases }
+        ensures same { IfNone result.1 (KnowsTheSame seat.old seat.new) }
+        ensures entry { IfSome result.1
+            (λ r. r.call ≡ record { request = request; answer = result.0 }) }
+        ensures given { IfSome result.1
+            (λ r. Gives (with_leases seat.old seat.new.leases) r seat.new) }
+        ensures short { length (op_result.encoding result.0) ≤ answer_limit (opnum_of request.op) }
+        ensures form { op_result.Fits result.0 }
+    {
+        self.renew_named(seat, &request.op, request.moment);
+        let hold = hold_in(hold, rt, self);
+        call_held(&mut *hold.guard, seat, request)
     }
 
     /// Renews the lease of the client with this clientid, where it is open, and neither takes the lock nor waits. The seat
@@ -281,143 +301,11 @@ impl<N: Naming> Shared<N> {
         sweep_held(&mut *self.hold(rt).guard, sweeper, now)
     }
 
-    /// Marks whether callbacks reach this client, in one hold of the lock, and returns the number of the entry. It fails,
-    /// and enters nothing, if the client isn't live, the journal is full, or memory ran out. No clause says that the lock
-    /// guarded the value that this is said of, but that it may have.
-    pub fn mark_path<R: Wait>(
-        &self,
-        rt: &R,
-        sender: &mut Sender<N>,
-        client: u32,
-        up: bool,
-    ) -> Result<u32, CoreError>
-        ensures count { OnOk result (sender.new ≡ with_mark sender.old) }
-        ensures uncounted { OnErr result (sender.new ≡ sender.old) }
-        ensures marks { IfOk result (λ number. (held : HeldView)
-            × SenderMayFind N.start sender.old held
-            × ((new : Server) × Enters held.server new (entries.Path (path_of client up)) number)) }
-        ensures error { IfErr result (λ e. (held : HeldView) × SenderMayFind N.start sender.old held
-            × IsNotEntered held.server (events.Path (path_of client up)) e) }
-    {
-        let mut hold = self.hold_for(rt, sender);
-        enter_held(&mut *hold.guard, sender, Event::Path(Path { client, up }))
-    }
-
-    /// Marks whether callbacks reach this client, as `mark_path` does, in the hold of the lock in which it finds the client
-    /// live and called back so. Elsewhere it marks nothing, and returns no number.
-    pub fn mark_called<R: Wait>(
-        &self,
-        rt: &R,
-        sender: &mut Sender<N>,
-        client: u32,
-        callback: &Callback,
-        up: bool,
-    ) -> Result<Option<u32>, CoreError>
-        ensures count { IfOk result (λ marked. IfSome marked
-            (λ number. sender.new ≡ with_mark sender.old)) }
-        ensures uncounted { OnErr result (sender.new ≡ sender.old) }
-        ensures other { result ≡ Ok None → (sender.new ≡ sender.old) × ((held : HeldView)
-            × SenderMayFind N.start sender.old held
-            × (callback_of client held.server ≡ Some callback.now → ⊥)) }
-        ensures marks { IfOk result (λ marked. IfSome marked (λ number. (held : HeldView)
-            × SenderMayFind N.start sender.old held
-            × (callback_of client held.server ≡ Some callback.now)
-            × ((new : Server) × Enters held.server new (entries.Path (path_of client up)) number))) }
-        ensures error { IfErr result (λ e. (held : HeldView) × SenderMayFind N.start sender.old held
-            × (callback_of client held.server ≡ Some callback.now)
-            × IsNotEntered held.server (events.Path (path_of client up)) e) }
-    {
-        let mut hold = self.hold_for(rt, sender);
-        if !is_called_by(hold.guard.core(), client, callback) {
-            return Ok(None);
-        }
-        match enter_held(&mut *hold.guard, sender, Event::Path(Path { client, up })) {
-            Ok(number) => Ok(Some(number)),
-            Err(error) => Err(error),
-        }
-    }
-
-    /// Takes the first recall out of the queue, or none, without the lock. No clause tells when it takes none. It takes no
-    /// memory.
-    pub fn take<R: Wait>(&self, rt: &R, sender: &mut Sender<N>) -> Option<Recall>
-        ensures some { IfSome result (λ r. sender.new ≡ with_taken r sender.old) }
-        ensures none { IfNone result (sender.new ≡ sender.old) }
-    {
-        self.queue.take(rt, &mut sender.pass)
-    }
-
-    /// How a live client is called back, as a copy, if there is such a client. It fails only where memory is refused for
-    /// the copy. No clause says that the lock guarded the value that answers, but that it may have.
-    pub fn callback<R: Wait>(
-        &self,
-        rt: &R,
-        sender: &mut Sender<N>,
-        client: u32,
-    ) -> Result<Option<Callback>, AllocError>
-        ensures found { IfOk result (λ found. (held : HeldView)
-            × SenderMayFind N.start sender.old held × (found ≡ callback_of client held.server)) }
-        ensures sender { sender.new ≡ sender.old }
-    {
-        let hold = self.hold_for(rt, sender);
-        match hold.guard.core().callback(client) {
-            Some(callback) => Ok(Some(callback.clone()?)),
-            None => Ok(None),
-        }
-    }
-
-    /// Whether a live client is called back so. No clause says that the lock guarded the value that answers, but that it
-    /// may have.
-    pub fn is_called_by<R: Wait>(
-        &self,
-        rt: &R,
-        sender: &mut Sender<N>,
-        client: u32,
-        callback: &Callback,
-    ) -> bool
-        ensures called { (held : HeldView) × SenderMayFind N.start sender.old held
-            × (IsTrue result ↔ (callback_of client held.server ≡ Some callback.now)) }
-        ensures sender { sender.new ≡ sender.old }
-    {
-        let hold = self.hold_for(rt, sender);
-        is_called_by(hold.guard.core(), client, callback)
-    }
-
-    /// Whether a client has the delegation that the stateid names, no matter its seqid. No clause says that the lock
-    /// guarded the value that answers, but that it may have.
-    pub fn has_delegation<R: Wait>(&self, rt: &R, sender: &mut Sender<N>, stateid: Stateid) -> bool
-        ensures has { (held : HeldView) × SenderMayFind N.start sender.old held
-            × (result ≡ has_delegation stateid held.server) }
-        ensures sender { sender.new ≡ sender.old }
-    {
-        let hold = self.hold_for(rt, sender);
-        hold.guard.core().has_delegation(stateid)
-    }
-
-    /// A copy of what the record of a live client has of whose path to its callbacks nothing is known: of the client with
-    /// the least number above this one, if there is one. It fails only where memory is refused for the copy. No clause
-    /// says that the lock guarded the value that answers, but that it may have.
-    pub fn probe<R: Wait>(
-        &self,
-        rt: &R,
-        sender: &mut Sender<N>,
-        after: u32,
-    ) -> Result<Option<ClientState>, AllocError>
-        ensures found { IfOk result (λ found. (held : HeldView)
-            × SenderMayFind N.start sender.old held
-            × IsNextUnknown after held.server.stored.clients found) }
-        ensures sender { sender.new ≡ sender.old }
-    {
-        let hold = self.hold_for(rt, sender);
-        match hold.guard.core().probe(after) {
-            Some(client) => Ok(Some(client.clone()?)),
-            None => Ok(None),
-        }
-    }
-
     /// The core, once all threads have ended. `receipts` has for each seat those that it was given, in order, and all
     /// seats are handed in, in the order of their places. What was taken from the queue begins the recalls of the core's
     /// journal, in order, each once. No renewal that was answered to a seat is later than the journal's end of its client
-    /// allows.
+    /// allows, and none came after an end that the seat saw. The journal made live whom a seat renewed, and ended whose lease
+    /// a seat found closed, or made live a later client of its slot.
     pub fn end(
         self,
         receipts: &[Vec<Receipt>],
@@ -438,6 +326,8 @@ impl<N: Naming> Shared<N> {
         ensures taken { (rest : List Recall)
             × AreRecallsOf result.journal (sender.taken ++ rest) }
         ensures in_time { AllInTime result.journal.lease result.journal.entries seats.items }
+        ensures heeded { AllHeeded seats.items }
+        ensures borne_out { JournalBearsOut result seats.items }
     {
         let Shared {
             words,
@@ -477,16 +367,6 @@ impl<N: Naming> Shared<N> {
     }
 }
 
-// Whether the live client with this number is called back so.
-fn is_called_by(core: &Core, client: u32, callback: &Callback) -> bool
-    ensures { IsTrue result ↔ (callback_of client core.now ≡ Some callback.now) }
-{
-    match core.callback(client) {
-        Some(found) => *found == *callback,
-        None => false,
-    }
-}
-
 // A fresh seat for each worker, in the order of their places, with one of these at the lease words.
 fn new_seats<N: Naming>(
     alloc: Global,
@@ -497,8 +377,7 @@ fn new_seats<N: Naming>(
     lease_seats: Vec<LeaseSeat>,
 ) -> Result<Vec<Seat<N>>, AllocError>
     requires roll { roll.now.shared.table_id ≡ N.run.roll }
-    requires count { vec_len lease_seats ≡ workers }
-    requires leases { All (λ seat. seat ≡ worker_at N.run.words) lease_seats.items }
+    requires leases { AreWorkerSeats N.run.words workers lease_seats.items }
     requires writer { IsOf N.run.roll writer.old × (writer.old.me ≡ (writer_of [], [])) }
     requires rest { (rest.old.parts ≡ workers) × (rest.old.amount ≡ 0) }
     ensures writer { IfOk result (λ s. IsOf N.run.roll writer.new
@@ -527,7 +406,7 @@ fn new_seat<N: Naming>(
     requires roll { roll.now.shared.table_id ≡ N.run.roll }
     requires writer { IsOf N.run.roll writer.old × (writer.old.me ≡ (writer_of [], [])) }
     requires rest { (rest.old.amount ≡ 0) × (0 < rest.old.parts) }
-    requires leases { leases ≡ worker_at N.run.words }
+    requires leases { leases ≡ worker_at N.run.words place }
     ensures writer { IsOf N.run.roll writer.new × (writer.new.me ≡ (writer_of [], [])) }
     ensures rest { (rest.new.parts + 1 ≡ rest.old.parts) × (rest.new.amount ≡ 0) }
     ensures seat { result ≡ fresh N.run.words place }
@@ -554,9 +433,11 @@ fn meet_each<N: Naming>(
     requires roll { roll.now.shared.table_id ≡ N.run.roll }
     requires words { words.now ≡ N.run.words }
     requires writer { IsOf N.run.roll writer.old × IsWriter writer.old }
-    requires keeper { FitsTable keeper.old N.run.words }
+    requires keeper { IsKeeperAt N.run.words N.run.workers keeper.old }
     ensures begin { AllBegin seats.items (list_of writer.old) }
     ensures met { AllMet N.run.words.lease keeper.old.view.own seats.items }
+    ensures heeded { AllHeeded seats.items }
+    ensures borne_out { AllBorneOut (keeper_deeds keeper.old.view.own) seats.items }
     ensures parts { rest.new.parts ≡ rest.old.parts + length seats.items }
     ensures amount { rest.new.amount ≡ rest.old.amount + given_in seats.items }
 {
@@ -569,6 +450,7 @@ fn meet_each<N: Naming>(
             mut leases,
         } = seat;
         meet(roll, writer, &mut token);
+        leases.heed();
         words.confer(keeper, &mut leases, 0);
         rest.merge(share);
     }

@@ -9,9 +9,7 @@ use Rattle.nfs_words.specs.Sitting.{Words}
 use Rattle.nfs_threads.specs.Worker.{AreEndsOf, Linking, receipts_back, seats_back, seats_of}
 use Rattle.nfs_threads.specs.declared.worker_end.WorkerEnd.{WorkerEnd}
 use Rattle.nfs_threads.proofs.Parts.{has_parts}
-
-some_is : {A : Type 0} (x y : A) → Some x ≡ Some y → x ≡ y
-some_is x y same = cc
+use Rattle.nfs_threads.proofs.Rest.{some_is}
 
 -- These are a seat and its receipts that came back from the place k; the seat that went there has the same place.
 pub record CameBack (seats : List SeatView) (k : ℕ) (seat : SeatView) (receipts : List Receipt) : Type 0 where

@@ -5,4 +5,6 @@ pub mod Each
 pub mod Workers
 pub mod Kept
 pub mod Rest
-pub mod Accounts
+pub mod Shifts
+pub mod Renewals
+pub mod Called

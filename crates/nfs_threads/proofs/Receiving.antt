@@ -1,7 +1,7 @@
 -- What a call at a seat says of the receipt that it gave.
-use Rattle.std.proofs.Common.{◌≡◌, ◌∙◌, Option, Some, None, sym}
+use Rattle.std.proofs.Common.{◌≡◌, Option, Some, None}
 use Rattle.std.specs.Prelude.{◌≢◌, ◌↔◌, IfSome, IsNone}
-use Rattle.nfs_shared.specs.Seats.{Gives, SeatView, with_leases}
+use Rattle.nfs_shared.specs.Seats.{Gives, SeatView}
 use Rattle.nfs_shared.specs.declared.receipt.Receipt.{Receipt}
 use Rattle.nfs_state.specs.Entries.{resource}
 use Rattle.nfs_state.specs.declared.request.Request.{Request}
@@ -18,8 +18,3 @@ received request answer None receipt old new is refused entry gives = absurd cc
 received request answer (Some r) receipt old new is refused entry gives =
     let same : r ≡ receipt = cc in
     rw (← same) ((λ same. cc (refused.1 same)), entry, gives)
-
--- what the seat was before the call is what it was at first, but for what it knows of leases
-pub renewed_before : (old first mid new : SeatView) → old ≡ first → mid ≡ with_leases old mid.leases → new.leases ≡ mid.leases → mid ≡ with_leases first new.leases
-renewed_before old first mid new same renewed looks =
-    renewed ∙ (λ i. with_leases (same i) (sym looks i))

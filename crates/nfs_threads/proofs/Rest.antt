@@ -1,8 +1,11 @@
 -- Lists.
-use Rattle.std.proofs.Common.{◌≡◌, suc, List, [], ◌∷◌, ◌++◌, refl, subst}
+use Rattle.std.proofs.Common.{◌≡◌, suc, List, [], ◌∷◌, ◌++◌, Some, refl, subst}
 use Rattle.std.specs.List.{AllByRecursion}
 use Rattle.nfs_threads.specs.Worker.{AreUnused, seats_of}
 use Rattle.nfs_shared.specs.Seats.{SeatView}
+
+pub some_is : {A : Type 0} (x y : A) → Some x ≡ Some y → x ≡ y
+some_is x y same = cc
 
 -- P holds of one element more
 pub all_and_one : {X : Type 0} (P : X → Type 0) (xs : List X) (x : X) → AllByRecursion P xs → P x → AllByRecursion P (xs ++ x ∷ [])

@@ -19,12 +19,6 @@ kept_unused seat none = record {
   given = sym none;
 }
 
--- where no seat of some links was given anything, the first was not, and no other
-pub unused_rest : {L : Type 0} (links left : List (L × SeatView)) (link : L × SeatView) → links ≡ link ∷ left → AreUnused (seats_of links)
-    → (link.1.receipts.given ≡ 0) × AreUnused (seats_of left)
-unused_rest links left link same unused =
-    let here = subst (λ l. AreUnused (seats_of l)) same unused in (here 0 link.1 refl, λ k seat at. here (suc k) seat at)
-
 -- one more worker has begun
 pub one_more_begun : {N L D C : Type 0} (linking : Linking L D C) (tree : Files) (links left rest : List (L × SeatView)) (link : L × SeatView) (workers : List (Worker N L D C)) (worker : Worker N L D C)
     → left ≡ link ∷ rest

@@ -6,5 +6,7 @@ pub mod Sockets
 pub mod Uptimes
 pub mod Links
 pub mod Run
+pub mod Renewals
 pub mod Rooms
 pub mod Parts
+pub mod Calling

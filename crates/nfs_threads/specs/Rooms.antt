@@ -1,22 +1,16 @@
 -- Lists that are made before they are filled.
 use Rattle.std.specs.Prelude.{◌≡◌, ℕ, ◌≤◌, [], vec_capacity}
+use Rattle.std.specs.Global.{Vec}
 use Rattle.nfs_threads.specs.declared.lists.Lists.{Lists}
-use Rattle.nfs_threads.specs.declared.lists.Parts.{Parts}
 
 -- nothing was put in, and there is room for so many
-pub record HaveRoom {N : Type 0} (count : ℕ) (parts : Parts N) : Type 0 where
-  pub no_shifts : parts.shifts.items ≡ []
-  pub no_seats : parts.seats.items ≡ []
-  pub no_receipts : parts.receipts.items ≡ []
-  pub shifts : count ≤ vec_capacity parts.shifts
-  pub seats : count ≤ vec_capacity parts.seats
-  pub receipts : count ≤ vec_capacity parts.receipts
+abbrev pub HasRoom : {A : Type 0} → ℕ → Vec A → Type 0
+HasRoom count list = (list.items ≡ []) × (count ≤ vec_capacity list)
 
-pub record AllHaveRoom {N R W : Type 0} (count : ℕ) (lists : Lists N R W) : Type 0 where
-  pub no_links : lists.links.items ≡ []
-  pub no_ends : lists.spare.items ≡ []
-  pub no_accounts : lists.accounts.items ≡ []
-  pub links : count ≤ vec_capacity lists.links
-  pub ends : count ≤ vec_capacity lists.spare
-  pub accounts : count ≤ vec_capacity lists.accounts
-  pub parts : HaveRoom count lists.parts
+-- that of each list of a run
+pub record HaveRoom {N R W : Type 0} (count : ℕ) (lists : Lists N R W) : Type 0 where
+  pub links : HasRoom count lists.links
+  pub spare : HasRoom count lists.spare
+  pub shifts : HasRoom count lists.shifts
+  pub seats : HasRoom count lists.seats
+  pub receipts : HasRoom count lists.receipts

@@ -7,6 +7,9 @@ use Rattle.nfs_tree.specs.Tree.{Files}
 use Rattle.nfs_threads.specs.declared.connection_end.ConnectionEnd.{ConnectionEnd}
 use Rattle.nfs_threads.specs.declared.shift.Shift.{Shift}
 use Rattle.nfs_threads.specs.declared.worker_end.WorkerEnd.{WorkerEnd}
+use Rattle.nfs_threads.specs.declared.links.Links.{Ghosts as OfLinks}
+use Rattle.nfs_server.specs.declared.clock.Clock.{Ghosts as OfClock}
+use Rattle.nfs_server.specs.declared.duplex.Duplex.{Ghosts as OfDuplex}
 use Rattle.nfs_server.specs.declared.serve_error.ServeError.TheVariants as errors
 use Rattle.nfs_server.specs.Connection.{HasCourse, scene}
 use Rattle.nfs_server.specs.Device.{Device}
@@ -26,16 +29,16 @@ pub record Linking (L D C : Type 0) : Type 1 where
   pub write_failures : D → ℕ
   pub tells : C → ℕ → C → Type 0
 
-abbrev pub linking : {L D C : Type 0} → Exported → (L → D → C → L → Type 0) → (L → L → Type 0) → Device D
-    → (D → ℕ) → (D → ℕ) → (C → ℕ → C → Type 0) → Linking L D C
-linking served opens stops device read_failures write_failures tells = record {
+-- that of links, from what their trait, that of their devices and that of their clocks have
+abbrev pub linking : {L D C : Type 0} → OfLinks L D C → OfDuplex D → OfClock C → Exported → Linking L D C
+linking links duplex clock served = record {
   served = served;
-  opens = opens;
-  stops = stops;
-  device = device;
-  read_failures = read_failures;
-  write_failures = write_failures;
-  tells = tells;
+  opens = links.opens;
+  stops = links.stops;
+  device = duplex.device;
+  read_failures = duplex.read_failures;
+  write_failures = duplex.write_failures;
+  tells = clock.tells;
 }
 
 -- where a worker stands between two connections

@@ -6,7 +6,7 @@ ghost use Rattle.nfs_server.specs.Serves.{served_by};
 use nfs_core::Moment;
 use nfs_leases::{Renewal, renewal_answer};
 use nfs_server::Service;
-use nfs_shared::{Hold, Naming, Receipt, Seat, Shared, call_held};
+use nfs_shared::{Hold, Naming, Receipt, Seat, Shared};
 use nfs_state::Request;
 use nfs_tree::Profile;
 use nfs_xdr::{ClientId, OpResult};
@@ -120,11 +120,8 @@ impl<'a, N: Naming, R: Wait> Service for Desk<'a, N, R> {
     }
 
     fn call(&mut self, request: Request) -> OpResult {
-        // The lease is renewed before the lock is waited for, unless the batch has it already.
-        self.shared
-            .renew_named(&mut self.seat, &request.op, request.moment);
-        let hold = hold_in(&mut self.hold, self.rt, self.shared);
-        let (answer, receipt) = call_held(&mut *hold.guard, &mut self.seat, request);
+        let (hold, seat) = (&mut self.hold, &mut self.seat);
+        let (answer, receipt) = self.shared.call_in(self.rt, hold, seat, request);
         let_go(&mut self.hold, self.is_batch);
         if let Some(receipt) = receipt {
             self.receipts.push_reserved(receipt);
@@ -138,22 +135,6 @@ impl<'a, N: Naming, R: Wait> Service for Desk<'a, N, R> {
         let answer = OpResult::Renew(renewal_answer(is_open));
         answer.fits();
         answer
-    }
-}
-
-// The hold in which an operation other than RENEW is answered: that of the batch, which takes the lock at the first
-// such operation.
-fn hold_in<'h, 'a, N: Naming, R: Wait>(
-    hold: &'h mut Option<Hold<'a, 'a, N, R>>,
-    rt: &'a R,
-    shared: &'a Shared<N>,
-) -> &'h mut Hold<'a, 'a, N, R> {
-    if hold.is_none() {
-        *hold = Some(shared.hold(rt));
-    }
-    match hold {
-        Some(hold) => hold,
-        None => unreachable!(),
     }
 }
 

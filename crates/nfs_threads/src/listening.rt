@@ -1,40 +1,32 @@
-ghost use Rattle.std.specs.Prelude.{◌≡◌, ◌≤◌, [], ℕ, IfErr, IfOk, IsFalse, length, map, vec_capacity, vec_len};
+ghost use Rattle.std.specs.Prelude.{◌≡◌, ◌≤◌, [], ℕ, IfErr, IfOk, IsFalse, length, vec_capacity, vec_len};
 ghost use Rattle.std.specs.List.{AllByRecursion};
-ghost use Rattle.nfs_core.specs.Safe.{IsSafe};
-ghost use Rattle.nfs_core.specs.Server.{IsLawful};
 ghost use Rattle.nfs_server.specs.Serves.{served_by};
+ghost use Rattle.nfs_threads.specs.Calling.{HasCalled, unused};
 ghost use Rattle.nfs_threads.specs.Links.{tcp};
-ghost use Rattle.nfs_threads.specs.Rooms.{HaveRoom};
-ghost use Rattle.nfs_threads.specs.Run.{IsRun, receipts_by_worker};
+ghost use Rattle.nfs_threads.specs.Run.{IsRun};
 ghost use Rattle.nfs_threads.specs.declared.tcp_links.Entrance.TheVariants as entrances;
 ghost use Rattle.nfs_threads.specs.declared.tcp_links.TcpLinks.{TcpLinks};
 ghost use Rattle.nfs_threads.specs.declared.watcher.Nobody.{Nobody};
 ghost use Rattle.nfs_owners.specs.Registry.{is_live};
-ghost use Rattle.nfs_threads.specs.Worker.{AreEndsOf, AreUnused, receipts_back, seats_back, seats_of};
-ghost use Rattle.nfs_shared.specs.Ends.{AllApart, AllInTime, AllStand, AreKept, receipts_in};
-ghost use Rattle.nfs_shared.specs.Naming.{CanBegin, start_of};
-ghost use Rattle.nfs_shared.specs.Receipts.{calls_in};
-ghost use Rattle.nfs_state.specs.Stored.{meaning};
+ghost use Rattle.nfs_threads.specs.Worker.{AreEndsOf, AreUnused, seats_of};
+ghost use Rattle.nfs_shared.specs.Naming.{CanBegin};
 
 use crate::bell::Bell;
-use crate::calling::call_back_until;
-use crate::lists::{Lists, Parts};
+use crate::calling::{CallingPromise, call_back_until};
+use crate::lists::Lists;
 use crate::sweeping::sweep_until;
 use crate::tcp_links::Entrance;
 use crate::watcher::Nobody;
-use crate::{
-    Door, RunEnd, Shift, TcpLinks, Watcher, WorkerAccount, WorkerEnd, serve_all,
-    workers_keep_receipts,
-};
+use crate::{Door, RunEnd, TcpLinks, Watcher, WorkerEnd, serve_all, workers_keep_receipts};
 use nfs_core::Core;
-use nfs_shared::{Naming, Opened, Receipt, Seat, Sender, Shared, SharedParts, Sweeper};
+use nfs_shared::{Naming, Opened, Seat, Sender, Shared, SharedParts, Sweeper};
 use nfs_tree::Tree;
 use std::alloc::Global;
 use std::marker::Brand;
 use std::net::{Net, TcpListener, TcpStream};
 use std::sync::Wait;
 use std::thread;
-use std::thread::Threads;
+use std::thread::{Scope, Threads};
 use std::time::{Clock as Timer, Duration};
 
 /// Serves the next connections that come to the listener, as many as `connections` says, each in a thread of its own,
@@ -55,7 +47,7 @@ pub fn serve_on<R: Threads + Wait + Timer + Net<Listener = TcpListener, Stream =
     requires nodes { core.journal.nodes ≡ tree.now.nodes }
     ensures served { IfOk result (λ r. (links : TcpLinks R Nobody)
         × (links.entrance ≡ entrances.Listener listener.entry)
-        × IsRun links tree.now connections core r.core r.workers.items) }
+        × IsRun links tree.now connections core r) }
     ensures back { IfErr result (λ back. back ≡ core) }
 {
     let Ok(opened) = Opened::new(alloc, core.journal().lease(), connections) else {
@@ -87,7 +79,7 @@ pub fn serve_through<
     requires nodes { core.journal.nodes ≡ tree.now.nodes }
     ensures served { IfOk result (λ r. (links : TcpLinks R W)
         × (links.entrance ≡ entrances.Door door.entry)
-        × IsRun links tree.now door.now.workers core r.core r.workers.items) }
+        × IsRun links tree.now door.now.workers core r) }
     ensures back { IfErr result (λ back. back ≡ core) }
 {
     let workers = door.workers();
@@ -140,14 +132,13 @@ fn run<
     requires beginning { CanBegin N.run N.start opened core }
     requires count { opened.workers ≡ connections }
     requires nodes { core.journal.nodes ≡ setting.now.tree.now.nodes }
-    ensures served { IfOk result
-        (λ r. IsRun links.now setting.now.tree.now connections core r.core r.workers.items) }
+    ensures served { IfOk result (IsRun links.now setting.now.tree.now connections core) }
     ensures back { IfErr result (λ back. back ≡ core) }
 {
     let Ok(lists) = Lists::<N, R, W>::new(setting.alloc, connections as usize) else {
         return Err(core);
     };
-    let parts_of_run = match Shared::<N>::new(setting.alloc, opened, core) {
+    let parts = match Shared::<N>::new(setting.alloc, opened, core) {
         Ok(parts) => parts,
         Err(core) => return Err(core),
     };
@@ -156,21 +147,25 @@ fn run<
         seats,
         sweeper,
         sender,
-    } = parts_of_run;
+    } = parts;
     let Lists {
         links: mut all,
         spare,
-        parts,
-        accounts,
+        mut shifts,
+        seats: mut seats_back,
+        mut receipts,
     } = lists;
     link_all(links, seats, &mut all);
     let helpers = Helpers { sweeper, sender };
     let (ends, helpers, has_helpers) = serve_helped(setting, &shared, helpers, all, spare);
     workers_keep_receipts::<N, TcpLinks<'_, R, W>>();
-    let (core, workers) = end(shared, helpers, ends, parts, accounts);
+    WorkerEnd::split(ends, &mut shifts, &mut seats_back, &mut receipts);
+    let Helpers { sweeper, sender } = helpers;
+    let core = shared.end(receipts.as_slice(), seats_back, sweeper, sender);
     Ok(RunEnd {
         core,
-        workers,
+        shifts,
+        receipts,
         has_helpers,
     })
 }
@@ -192,8 +187,7 @@ fn link_all<'a, N: Naming, R, W>(
 }
 
 // Serves the links, while one more thread sweeps and another one calls clients back; tells these two the end, and says
-// whether both were made. What one was to do that can't be made is asked for once the end is told, so it comes back with
-// nothing done. What the workers give back is put into `spare` if they can't begin.
+// whether both were made. What the workers give back is put into `spare` if they can't begin.
 fn serve_helped<
     N: Naming + Send + Sync,
     R: Threads + Wait + Timer + Net<Listener = TcpListener, Stream = TcpStream> + Sync,
@@ -209,38 +203,75 @@ fn serve_helped<
     requires unused { AreUnused (seats_of links.items) }
     requires empty { spare.items ≡ [] }
     requires room { length links.items ≤ vec_capacity spare }
-    ensures { AreEndsOf (tcp (served_by N.start)) setting.now.tree.now links.entry.items
+    requires untaken { helpers.sender ≡ unused }
+    ensures ends { AreEndsOf (tcp (served_by N.start)) setting.now.tree.now links.entry.items
         result.0.items }
+    ensures called { HasCalled N.start result.1.sender }
 {
     thread::scope(
         thread::scope_env(),
         setting.rt,
         |scope| -> (Vec<WorkerEnd<N>>, Helpers<N>, bool)
             requires { (N.start.nodes ≡ setting.now.tree.now.nodes) × AreUnused (seats_of links.items)
-                × (spare.items ≡ []) × (length links.items ≤ vec_capacity spare) }
-            ensures { AreEndsOf (tcp (served_by N.start)) setting.entry.now.tree.now
+                × (spare.items ≡ []) × (length links.items ≤ vec_capacity spare)
+                × (helpers.sender ≡ unused) }
+            ensures ends { AreEndsOf (tcp (served_by N.start)) setting.entry.now.tree.now
                 links.entry.items result.0.items }
-        {
-            let Helpers { sweeper, sender } = helpers;
-            let sweeping = scope.spawn(move || sweep_until(setting, shared, sweeper));
-            let calling = scope.spawn(move || call_back_until(setting, shared, sender));
-            let all = match serve_all(setting.alloc, setting.rt, shared, setting.tree, links) {
-                Ok(all) => all,
-                Err(links) => refuse_all(setting.alloc, setting.tree, links, spare),
-            };
-            setting.bell.ring(setting.rt);
-            let has_helpers = sweeping.is_ok() && calling.is_ok();
-            let sweeper = match sweeping {
-                Ok(handle) => handle.join(setting.rt),
-                Err(back) => (back.value)(),
-            };
-            let sender = match calling {
-                Ok(handle) => handle.join(setting.rt),
-                Err(back) => (back.value)(),
-            };
-            (all, Helpers { sweeper, sender }, has_helpers)
-        },
+            ensures called { HasCalled N.start result.1.sender }
+        { serve_beside(scope, setting, shared, helpers, links, spare) },
     )
+}
+
+// The same in a scope of threads. What a thread was to do that can't be made is done once the end is told, so it comes
+// back with nothing done. The promise stands in here and not in the closure above, since a closure that is passed on may
+// not hold a type with a promise of a type parameter.
+fn serve_beside<
+    's,
+    E,
+    N: Naming + Send + Sync + 's,
+    R: Threads + Wait + Timer + Net<Listener = TcpListener, Stream = TcpStream> + Sync + 's,
+    W: Watcher + Sync + 's,
+>(
+    scope: &Scope<'s, E>,
+    setting: &'s Setting<'s, R, W>,
+    shared: &'s Shared<N>,
+    helpers: Helpers<N>,
+    links: Vec<(TcpLinks<'_, R, W>, Seat<N>)>,
+    spare: Vec<WorkerEnd<N>>,
+) -> (Vec<WorkerEnd<N>>, Helpers<N>, bool)
+    requires nodes { N.start.nodes ≡ setting.now.tree.now.nodes }
+    requires unused { AreUnused (seats_of links.items) }
+    requires empty { spare.items ≡ [] }
+    requires room { length links.items ≤ vec_capacity spare }
+    requires untaken { helpers.sender ≡ unused }
+    ensures ends { AreEndsOf (tcp (served_by N.start)) setting.now.tree.now links.entry.items
+        result.0.items }
+    ensures called { HasCalled N.start result.1.sender }
+{
+    let Helpers { sweeper, sender } = helpers;
+    let sweeping = scope.spawn(move || sweep_until(setting, shared, sweeper));
+    let calling = scope.spawn_with(
+        CallingPromise::<N>::new(),
+        move || -> Sender<N>
+            requires { sender ≡ unused }
+            ensures { HasCalled N.start result }
+        { call_back_until(setting, shared, sender) },
+    );
+    let all = match serve_all(setting.alloc, setting.rt, shared, setting.tree, links) {
+        Ok(all) => all,
+        Err(links) => refuse_all(setting.alloc, setting.tree, links, spare),
+    };
+    setting.bell.ring(setting.rt);
+    let has_helpers = sweeping.is_ok() && calling.is_ok();
+    let sweeper = match sweeping {
+        Ok(handle) => handle.join(setting.rt),
+        Err(back) => (back.value)(),
+    };
+    let sender = match calling {
+        Ok(handle) => handle.join(setting.rt),
+        Err(back) => (back.value)(),
+    };
+    (all, Helpers { sweeper, sender }, has_helpers)
 }
 
 // The links get no worker, as memory is refused: none is served, and the seats come back.
@@ -258,64 +289,6 @@ fn refuse_all<N: Naming, R, W>(
     let mut all = spare;
     for (_, seat) in links {
         all.push_reserved(WorkerEnd::without_connections(alloc, seat));
-    }
-    all
-}
-
-// The core at the end, and what each worker did.
-fn end<N: Naming>(
-    shared: Shared<N>,
-    helpers: Helpers<N>,
-    all: Vec<WorkerEnd<N>>,
-    mut parts: Parts<N>,
-    accounts: Vec<WorkerAccount>,
-) -> (Core, Vec<WorkerAccount>)
-    requires seats { length (seats_back all.items) ≡ N.run.workers }
-    requires kept { AreKept (seats_back all.items) (receipts_back all.items) }
-    requires parts { HaveRoom (length all.items) parts }
-    requires none { accounts.items ≡ [] }
-    requires room { length all.items ≤ vec_capacity accounts }
-    ensures start { start_of result.0.journal ≡ N.start }
-    ensures lawful { IsLawful result.0 }
-    ensures safe { IsSafe (meaning result.0.stored) }
-    ensures stand { AllStand result.0.journal.entries (receipts_back all.items) }
-    ensures apart { AllApart (receipts_back all.items) }
-    ensures counted { calls_in result.0.journal.entries ≡ receipts_in (receipts_back all.items) }
-    ensures in_time { AllInTime result.0.journal.lease result.0.journal.entries
-        (seats_back all.items) }
-    ensures shifts { map (λ a. a.shift) result.1.items ≡ map (λ e. e.shift) all.items }
-    ensures receipts { receipts_by_worker result.1.items ≡ receipts_back all.items }
-{
-    parts.take(all);
-    let Parts {
-        shifts,
-        seats,
-        receipts,
-    } = parts;
-    let Helpers { sweeper, sender } = helpers;
-    let core = shared.end(receipts.as_slice(), seats, sweeper, sender);
-    (core, pair(shifts, receipts, accounts))
-}
-
-// Each shift with the receipts at its place.
-fn pair(
-    shifts: Vec<Shift>,
-    receipts: Vec<Vec<Receipt>>,
-    accounts: Vec<WorkerAccount>,
-) -> Vec<WorkerAccount>
-    requires count { vec_len shifts ≡ vec_len receipts }
-    requires empty { accounts.items ≡ [] }
-    requires room { vec_len receipts ≤ vec_capacity accounts }
-    ensures shifts { map (λ a. a.shift) result.items ≡ shifts.items }
-    ensures receipts { receipts_by_worker result.items ≡ map (λ v. v.items) receipts.items }
-{
-    let mut all = accounts;
-    let mut shifts = shifts.into_iter();
-    for receipts in receipts {
-        let Some(shift) = shifts.next() else {
-            unreachable!()
-        };
-        all.push_reserved(WorkerAccount { shift, receipts });
     }
     all
 }

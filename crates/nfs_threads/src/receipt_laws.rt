@@ -30,12 +30,6 @@ pub fn receipts_are_questions<D: Duplex, R: Source, W: Sink, C: Clock>()
 /// part is what its connection's questions gain.
 pub fn receipts_by_connection<N: Naming, L: Links>()
     ensures { (tree : Files) (links : L) (seat : SeatView) (end : WorkerEnd N)
-        → IsEndOf
-        (linking (served_by N.start) L.opens L.stops L.Device.device L.Device.read_failures
-        L.Device.write_failures L.Clock.tells)
-        tree links seat end
-        → HasParts
-        (linking (served_by N.start) L.opens L.stops L.Device.device L.Device.read_failures
-        L.Device.write_failures L.Clock.tells)
-        tree links seat end }
+        → IsEndOf (linking L.Links L.Device.Duplex L.Clock.Clock (served_by N.start)) tree links seat end
+        → HasParts (linking L.Links L.Device.Duplex L.Clock.Clock (served_by N.start)) tree links seat end }
 {}

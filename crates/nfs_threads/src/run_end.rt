@@ -1,5 +1,6 @@
-use crate::WorkerAccount;
+use crate::Shift;
 use nfs_core::Core;
+use nfs_shared::Receipt;
 
 /// What a run of connections leaves.
 #[derive(Drop)]
@@ -7,7 +8,9 @@ pub struct RunEnd {
     /// The core that they shared, with its journal.
     pub core: Core,
     /// What each worker served, in the order of their seats.
-    pub workers: Vec<WorkerAccount>,
+    pub shifts: Vec<Shift>,
+    /// The receipts of each worker, at the same place, for the entries that its calls made, in the order of the calls.
+    pub receipts: Vec<Vec<Receipt>>,
     /// Whether one thread swept leases meanwhile, and another one called clients back. What no thread could be made for
     /// wasn't done.
     pub has_helpers: bool,

@@ -29,9 +29,7 @@ pub fn serve_all<N: Naming + Send + Sync, L: Links + Drop + Send, R: Threads + W
     requires tree { N.start.nodes ≡ tree.now.nodes }
     requires unused { AreUnused (seats_of links.items) }
     ensures ends { IfOk result (λ ends. AreEndsOf
-        (linking (served_by N.start) L.opens L.stops L.Device.device L.Device.read_failures
-        L.Device.write_failures L.Clock.tells)
-        tree.now links.items ends.items) }
+        (linking L.Links L.Device.Duplex L.Clock.Clock (served_by N.start)) tree.now links.items ends.items) }
     ensures back { IfErr result (λ back. back ≡ links) }
 {
     let Ok(flags) = clear_flags(alloc, links.len()) else {
@@ -51,8 +49,7 @@ pub fn serve_all<N: Naming + Send + Sync, L: Links + Drop + Send, R: Threads + W
             requires { (length flags.now ≡ vec_len links) × (N.start.nodes ≡ common.now.tree.now.nodes)
                 × AreUnused (seats_of links.items) }
             ensures ends { IfOk result (λ ends. AreEndsOf
-                (linking (served_by N.start) L.opens L.stops L.Device.device L.Device.read_failures
-                L.Device.write_failures L.Clock.tells)
+                (linking L.Links L.Device.Duplex L.Clock.Clock (served_by N.start))
                 common.entry.now.tree.now links.items ends.items) }
             ensures back { IfErr result (λ back. back ≡ links) }
         { serve_in(scope, common, flags, links) },
@@ -78,8 +75,7 @@ fn serve_in<
     requires tree { N.start.nodes ≡ common.now.tree.now.nodes }
     requires unused { AreUnused (seats_of links.items) }
     ensures ends { IfOk result (λ ends. AreEndsOf
-        (linking (served_by N.start) L.opens L.stops L.Device.device L.Device.read_failures
-        L.Device.write_failures L.Clock.tells)
+        (linking L.Links L.Device.Duplex L.Clock.Clock (served_by N.start))
         common.now.tree.now links.items ends.items) }
     ensures back { IfErr result (λ back. back ≡ links) }
 {
@@ -120,13 +116,9 @@ fn finish_all<N: Naming, L: Links, R: Threads>(
     requires empty { ends.old.items ≡ [] }
     requires room { vec_len workers ≤ vec_capacity ends.old }
     ensures { (tree : Files) (links : List (L × SeatView))
-        → AreWorkers
-        (linking (served_by N.start) L.opens L.stops L.Device.device L.Device.read_failures
-        L.Device.write_failures L.Clock.tells)
+        → AreWorkers (linking L.Links L.Device.Duplex L.Clock.Clock (served_by N.start))
         tree links workers.items
-        → AreEndsOf
-        (linking (served_by N.start) L.opens L.stops L.Device.device L.Device.read_failures
-        L.Device.write_failures L.Clock.tells)
+        → AreEndsOf (linking L.Links L.Device.Duplex L.Clock.Clock (served_by N.start))
         tree links ends.new.items }
 {
     for worker in workers {

@@ -1,6 +1,8 @@
 use crate::Peer;
+use nfs_callbacks::Fault;
 use nfs_core::Core;
 use nfs_server::ServeError;
+use nfs_xdr::Callback;
 
 /// Watches a run while it goes on. What it does changes nothing of the run.
 pub trait Watcher {
@@ -12,6 +14,12 @@ pub trait Watcher {
 
     /// Is told, once, that the system gave an error in place of a connection.
     fn tell_refusal(&self);
+
+    /// Is told why a call to this client, at this address, failed, so that its callback path is down.
+    fn tell_path_down(&self, client: u32, callback: &Callback, fault: Fault);
+
+    /// Is told, once for a call, that it has had no reply from this client for five seconds. The call goes on.
+    fn tell_no_reply(&self, client: u32, callback: &Callback);
 
     /// Looks at the core, about once a second, while the lock is held. Returns whether there is something to write down,
     /// and with it another look at once.
@@ -31,6 +39,10 @@ impl Watcher for Nobody {
     fn tell_full(&self, _workers: u32) {}
 
     fn tell_refusal(&self) {}
+
+    fn tell_path_down(&self, _client: u32, _callback: &Callback, _fault: Fault) {}
+
+    fn tell_no_reply(&self, _client: u32, _callback: &Callback) {}
 
     fn look(&self, _core: &Core) -> bool {
         false

@@ -31,9 +31,7 @@ pub(crate) struct ServicePromise<N: Naming, L> {
 }
 
 impl<N: Naming, L: Links> Promise<WorkerEnd<N>> for ServicePromise<N, L> {
-    ghost kept_by = { λ p end. IsEndOf
-        (linking (served_by N.start) L.opens L.stops L.Device.device L.Device.read_failures
-        L.Device.write_failures L.Clock.tells)
+    ghost kept_by = { λ p end. IsEndOf (linking L.Links L.Device.Duplex L.Clock.Clock (served_by N.start))
         p.tree.value p.links.value p.seat.value end };
 }
 
@@ -47,9 +45,7 @@ pub(crate) fn work<N: Naming, L: Links + Drop, R: Wait>(
 ) -> WorkerEnd<N>
     requires tree { N.start.nodes ≡ common.now.tree.now.nodes }
     requires unused { seat.receipts.given ≡ 0 }
-    ensures { IsEndOf
-        (linking (served_by N.start) L.opens L.stops L.Device.device L.Device.read_failures
-        L.Device.write_failures L.Clock.tells)
+    ensures { IsEndOf (linking L.Links L.Device.Duplex L.Clock.Clock (served_by N.start))
         common.now.tree.now links seat result }
 {
     let mut desk = Desk::new(common.alloc, common.rt, common.shared, seat);
@@ -75,9 +71,7 @@ fn serve_each<N: Naming, L: Links, R: Wait>(
 ) -> Result<(), AllocError>
     requires tree { N.start.nodes ≡ common.now.tree.now.nodes }
     requires empty { connections.old.items ≡ [] }
-    ensures connections { HasServed
-        (linking (served_by N.start) L.opens L.stops L.Device.device L.Device.read_failures
-        L.Device.write_failures L.Clock.tells)
+    ensures connections { HasServed (linking L.Links L.Device.Duplex L.Clock.Clock (served_by N.start))
         common.now.tree.now (stand links.old desk.old) connections.new.items result
         (stand links.new desk.new) }
     ensures refused { IsTrue refused → connections.new.items ≡ [] }

@@ -1,4 +1,5 @@
-ghost use Rattle.std.specs.Prelude.{◌≡◌, [], IfErr, IfOk, IsErr, map};
+ghost use Rattle.std.specs.Prelude.{◌≡◌, [], IsErr, length, map};
+ghost use Rattle.nfs_threads.specs.Rooms.{HasRoom};
 ghost use Rattle.nfs_threads.specs.Worker.{receipts_back, seats_back};
 
 use crate::Shift;
@@ -31,30 +32,29 @@ impl<N: Naming> WorkerEnd<N> {
         }
     }
 
-    /// The receipts of each worker and their seats, as `Shared::end` takes them. If memory is refused, all comes back.
+    /// Puts what each of these workers gave back into the list of its kind, in order.
     pub fn split(
-        alloc: Global,
         all: Vec<WorkerEnd<N>>,
-    ) -> Result<(Vec<Vec<Receipt>>, Vec<Seat<N>>), Vec<WorkerEnd<N>>>
-        ensures receipts { IfOk result (λ r. map (λ v. v.items) r.0.items ≡ receipts_back all.items) }
-        ensures seats { IfOk result (λ r. r.1.items ≡ seats_back all.items) }
-        ensures back { IfErr result (λ back. back ≡ all) }
+        shifts: &mut Vec<Shift>,
+        seats: &mut Vec<Seat<N>>,
+        receipts: &mut Vec<Vec<Receipt>>,
+    )
+        requires shifts { HasRoom (length all.items) shifts.old }
+        requires seats { HasRoom (length all.items) seats.old }
+        requires receipts { HasRoom (length all.items) receipts.old }
+        ensures shifts { shifts.new.items ≡ map (λ e. e.shift) all.items }
+        ensures seats { seats.new.items ≡ seats_back all.items }
+        ensures receipts { map (λ v. v.items) receipts.new.items ≡ receipts_back all.items }
     {
-        let Ok(mut receipts) = Vec::with_capacity(alloc, all.len()) else {
-            return Err(all);
-        };
-        let Ok(mut seats) = Vec::with_capacity(alloc, all.len()) else {
-            return Err(all);
-        };
         for end in all {
             let WorkerEnd {
-                shift: _,
+                shift,
                 seat,
                 receipts: given,
             } = end;
-            receipts.push_reserved(given);
+            shifts.push_reserved(shift);
             seats.push_reserved(seat);
+            receipts.push_reserved(given);
         }
-        Ok((receipts, seats))
     }
 }

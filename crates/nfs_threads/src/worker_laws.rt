@@ -16,9 +16,6 @@ pub fn workers_keep_receipts<N: Naming, L: Links>()
     ensures { (tree : Files) (words : Words) (count : ℕ) (links : List (L × SeatView))
         (ends : List (WorkerEnd N))
         → AreFresh words count (seats_of links)
-        → AreEndsOf
-        (linking (served_by N.start) L.opens L.stops L.Device.device L.Device.read_failures
-        L.Device.write_failures L.Clock.tells)
-        tree links ends
+        → AreEndsOf (linking L.Links L.Device.Duplex L.Clock.Clock (served_by N.start)) tree links ends
         → (length (seats_back ends) ≡ count) × AreKept (seats_back ends) (receipts_back ends) }
 {}

@@ -36,9 +36,7 @@ pub(crate) fn begin<
 ) -> Worker<N, L>
     requires tree { N.start.nodes ≡ common.now.tree.now.nodes }
     requires unused { seat.receipts.given ≡ 0 }
-    ensures { IsWorker
-        (linking (served_by N.start) L.opens L.stops L.Device.device L.Device.read_failures
-        L.Device.write_failures L.Clock.tells)
+    ensures { IsWorker (linking L.Links L.Device.Duplex L.Clock.Clock (served_by N.start))
         common.now.tree.now links seat result }
 {
     let promise = ServicePromise {
@@ -50,9 +48,7 @@ pub(crate) fn begin<
         promise,
         move || -> WorkerEnd<N>
             requires { (N.start.nodes ≡ common.now.tree.now.nodes) × (seat.receipts.given ≡ 0) }
-            ensures { IsEndOf
-                (linking (served_by N.start) L.opens L.stops L.Device.device L.Device.read_failures
-                L.Device.write_failures L.Clock.tells)
+            ensures { IsEndOf (linking L.Links L.Device.Duplex L.Clock.Clock (served_by N.start))
                 common.entry.now.tree.now links seat result }
         { work(common, refused, links, seat) },
     );
@@ -68,14 +64,8 @@ pub(crate) fn begin<
 /// Waits for the end of a worker.
 pub(crate) fn finish<N: Naming, L: Links, R: Threads>(rt: &R, worker: Worker<N, L>) -> WorkerEnd<N>
     ensures { (tree : Files) (links : L) (seat : SeatView)
-        → IsWorker
-        (linking (served_by N.start) L.opens L.stops L.Device.device L.Device.read_failures
-        L.Device.write_failures L.Clock.tells)
-        tree links seat worker
-        → IsEndOf
-        (linking (served_by N.start) L.opens L.stops L.Device.device L.Device.read_failures
-        L.Device.write_failures L.Clock.tells)
-        tree links seat result }
+        → IsWorker (linking L.Links L.Device.Duplex L.Clock.Clock (served_by N.start)) tree links seat worker
+        → IsEndOf (linking L.Links L.Device.Duplex L.Clock.Clock (served_by N.start)) tree links seat result }
 {
     match worker {
         Worker::Begun(handle) => handle.join(rt),

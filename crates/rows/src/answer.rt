@@ -57,7 +57,7 @@ impl Answer {
         self.put_word(swept.refused)?;
         self.put_word(swept.revoked)?;
         self.put_word(swept.forgotten)?;
-        self.put_word(swept.stopped as u32)
+        self.put_word(swept.stopped.is_some() as u32)
     }
 
     /// Why a path wasn't marked, or 0.

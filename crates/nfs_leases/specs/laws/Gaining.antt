@@ -1,7 +1,8 @@
 -- What a journal gains, and then gains beside.
-use Rattle.std.proofs.Common.{◌≡◌, ℕ, Bool, true, false, List, [], ◌∷◌, ◌++◌, refl, sym, ap, subst, ◌∙◌, append_assoc}
+use Rattle.std.proofs.Common.{◌≡◌, ℕ, List, [], ◌∷◌, ◌++◌, Option, None, Some, refl, sym, ap, subst, ◌∙◌, append_assoc}
 use Rattle.nfs_core.specs.Lawful as lawful
 use Rattle.nfs_core.specs.Server.{Server}
+use Rattle.nfs_core.specs.declared.core_error.CoreError.{CoreError}
 use Rattle.nfs_forms.specs.declared.open_owner.OpenOwner.{OpenOwner}
 use Rattle.nfs_leases.specs.BookEvent.{BookEvent}
 use Rattle.nfs_leases.specs.Sweeps.{ForgetsUnless, LeasedServer, Sweeps, entries_of_sweep, forgettings}
@@ -52,12 +53,12 @@ gains_more more others old mid new h k = record {
 }
 
 -- the last part of a sweep
-pub gains_of_forgettings : (halted : Bool) (now : ℕ) (owners : List OpenOwner) (stopped : Bool) (old new : Server)
+pub gains_of_forgettings : (halted : Option CoreError) (now : ℕ) (owners : List OpenOwner) (stopped : Option CoreError) (old new : Server)
     → ForgetsUnless halted now owners stopped old new → Gains (forgettings now owners) old new
-gains_of_forgettings true now owners stopped old new forgets =
+gains_of_forgettings (Some error) now owners stopped old new forgets =
     subst (λ (os : List OpenOwner). Gains (forgettings now os) old new) (sym forgets.0)
     (subst (λ (s : Server). Gains [] old s) (sym forgets.2) (gains_none old))
-gains_of_forgettings false now owners stopped old new forgets = forgets.entries
+gains_of_forgettings None now owners stopped old new forgets = forgets.entries
 
 -- In a sweep the journal gains the ends of clients, then those of delegations, and then those of open owners.
 pub gains_of_sweep : {Book : Type 0} (happens : Book → BookEvent → Book → Type 0) (now : ℕ) (old : LeasedServer Book)

@@ -3,7 +3,7 @@ use Rattle.std.proofs.Common.{[], ◌∷◌, ◌++◌, Option, refl, sym, subst,
 use Rattle.nfs_core.specs.Events.{IsForgottenFrom, NoneIsDue}
 use Rattle.nfs_core.specs.Server.{Server}
 use Rattle.nfs_core.specs.declared.forgotten.Forgotten.{Forgotten}
-use Rattle.nfs_leases.proofs.ForgottenOwners.{due_alike, forgets_more, forgets_none, none_before_first}
+use Rattle.nfs_leases.proofs.ForgottenOwners.{due_alike, forgets_more, forgets_none, none_before_first, stops}
 use Rattle.nfs_leases.proofs.forgetting.forget_idle.Goals as goal
 
 pub loop-forgotten-init : goal.loop-forgotten-init
@@ -41,6 +41,15 @@ returns-in-Ok-None-clause-due c =
     subst (λ (o : Option Forgotten). IsForgottenFrom c.loop-forgotten.core c.forget_from.new.self c.args.now o)
     c.in-Ok-None.field-0-is c.in-Ok-None.ensures.forgotten in
     λ none. subst (λ (s : Server). NoneIsDue s c.args.now) (sym same) (i.2.due none)
+
+pub returns-in-Err-clause-forgets : goal.returns-in-Err-clause-forgets
+returns-in-Err-clause-forgets c =
+    let i = c.loop-forgotten.invariant in (
+      i.0,
+      i.1,
+      stops c.args.now i.0 c.in-Err.error c.args.core.now c.loop-forgotten.core c.forget_from.new.self i.2
+          c.in-Err.ensures.same c.in-Err.ensures.error,
+    )
 
 pub returns-in-Err-clause-due : goal.returns-in-Err-clause-due
 returns-in-Err-clause-due c =

@@ -64,7 +64,7 @@ returns-in-Err-clause-revokes c =
     let i = c.loop-count.invariant in (
       i.0,
       i.1,
-      stops c.args.now i.0 c.in-Err.field-0 c.args.core.now c.loop-count.core c.revoke.new.self i.2
+      stops c.args.now i.0 c.in-Err.error c.args.core.now c.loop-count.core c.revoke.new.self i.2
           c.in-Err.ensures.same c.in-Err.ensures.error,
     )
 

@@ -5,7 +5,7 @@ use Rattle.nfs_core.specs.Entered.{Answers, IsEntered, number_entered}
 use Rattle.nfs_core.specs.Recalls.{RecallsLeft}
 use Rattle.nfs_core.specs.Server.{Enters, Server}
 use Rattle.nfs_core.specs.declared.entered.Entered.{Entered}
-use Rattle.nfs_shared.proofs.Deeds.{all_happen_fits, deeds_of_call, deeds_same}
+use Rattle.nfs_shared.proofs.Deeds.{all_happen_keeper, all_happen_renew_none, change_renew_none, deeds_of_call, deeds_same}
 use Rattle.nfs_shared.proofs.Giving.{above_all, counted, last_entry, one_call}
 use Rattle.nfs_shared.proofs.Holding.{KeepsRules, held_call}
 use Rattle.nfs_shared.proofs.RecallsOut.{queued_kept, queued_same}
@@ -14,6 +14,7 @@ use Rattle.nfs_shared.proofs.Telling.{told_from}
 use Rattle.nfs_shared.proofs.held.call_held.Goals as goal
 use Rattle.nfs_leases.specs.BookEvent.{AllHappen}
 use Rattle.nfs_leases.specs.BookOf.{events_entered, events_of_change}
+use Rattle.nfs_shared.specs.Deeds.{RenewNone}
 use Rattle.nfs_shared.specs.Held.{HeldView}
 use Rattle.nfs_shared.specs.Naming.{start_of}
 use Rattle.nfs_shared.specs.Receipts.{calls_in, receipts_of, others_in}
@@ -25,7 +26,7 @@ use Rattle.nfs_tree.specs.Profiles.{has_entry}
 use Rattle.nfs_state.specs.declared.entry.Call.{Call}
 use Rattle.nfs_state.specs.declared.entry.Entry.{Entry}
 use Rattle.nfs_state.specs.declared.entry.Entry.TheVariants as entries
-use Rattle.nfs_words.specs.Calls.{FitsTable}
+use Rattle.nfs_words.specs.Calls.{IsKeeperAt}
 use Rattle.nfs_words.specs.Desk.{Happens}
 use Rattle.nfs_words.specs.Sitting.{Sitting}
 
@@ -89,6 +90,7 @@ invariant_of-held-in-Some g c =
       places = held.register.places.items;
       receipts = list_of held.register.writer;
       put = held.put.recalls;
+      known_taken = held.put.known;
       hand = held.hand;
     } in
     let new : HeldView = record {
@@ -97,6 +99,7 @@ invariant_of-held-in-Some g c =
       places = c.give-receipt.new.register.places.items;
       receipts = list_of c.give-receipt.new.register.writer;
       put = held.put.recalls;
+      known_taken = held.put.known;
       hand = held.hand;
     } in
     let happen : AllHappen Happens old.leases (events_of_change c.in-Some.entered.live request.moment) new.leases =
@@ -106,11 +109,13 @@ invariant_of-held-in-Some g c =
       safe = c.lawful_is_safe.ensures.safe _ _ called.ensures.lawful;
       agrees = called.new.leased.agrees;
       deeds = deeds_of_call old.server new.server call c.in-Some.entered old.leases new.leases c.held.invariant.0.deeds entered happen;
+      renews_none = all_happen_renew_none (events_of_change c.in-Some.entered.live request.moment) (change_renew_none c.in-Some.entered.live request.moment) old.leases new.leases happen c.held.invariant.0.renews_none;
       recalls = c.recalls_are_left.ensures;
       queued =
           queued_kept c.recalls_stay.ensures.one c.recalls_stay.ensures.begin old new (entries.Call call ∷ [])
           c.held.invariant.0.recalls c.held.invariant.0.queued entered.0.1 c.recalls_are_left.ensures
-          (ap (λ (left : RecallsLeft). left.taken) entered.0.3) (refl, refl);
+          (ap (λ (left : RecallsLeft). left.taken) entered.0.3) (refl, refl, refl);
+      known = c.held.invariant.0.known;
     } in
     let tied = c.held.invariant.1 in (
       held_call old new c.in-Some.entered.number call receipt c.held.invariant.0 entered.0 keeps
@@ -129,7 +134,7 @@ invariant_of-held-in-Some g c =
       c.held.invariant.5
           ∙ sym (others_in_call held.leased.core.journal.entries call)
           ∙ ap (λ (j : History). others_in j.entries) (sym entered.0.1),
-      all_happen_fits g.N.Naming.run.words (events_of_change c.in-Some.entered.live request.moment) old.leases new.leases happen c.held.invariant.6,
+      all_happen_keeper g.N.Naming.run.words g.N.Naming.run.workers (events_of_change c.in-Some.entered.live request.moment) old.leases new.leases happen c.held.invariant.6,
       c.held.invariant.7,
     )
 
@@ -195,6 +200,7 @@ invariant_of-held g c =
       places = held.register.places.items;
       receipts = list_of held.register.writer;
       put = held.put.recalls;
+      known_taken = held.put.known;
       hand = held.hand;
     } in
     let new : HeldView = record {
@@ -203,6 +209,7 @@ invariant_of-held g c =
       places = called.new.places.items;
       receipts = list_of held.register.writer;
       put = held.put.recalls;
+      known_taken = held.put.known;
       hand = held.hand;
     } in
     let happen : new.leases ≡ old.leases =
@@ -212,8 +219,10 @@ invariant_of-held g c =
         safe = c.lawful_is_safe.ensures.safe _ _ called.ensures.lawful;
         agrees = called.new.leased.agrees;
         deeds = deeds_same old.server new.server old.leases new.leases was.deeds alike.0 alike.1 happen;
+        renews_none = subst (λ (s : Sitting). RenewNone s.view.own) (sym happen) was.renews_none;
         recalls = c.recalls_are_left.ensures;
-        queued = queued_same old new was.queued alike.0 alike.2 (refl, refl);
+        queued = queued_same old new was.queued alike.0 alike.2 (refl, refl, refl);
+        known = was.known;
         places = ap length called.ensures.places ∙ was.places ∙ ap calls_in (sym entries);
         receipts = was.receipts ∙ (λ i. receipts_of 0 (sym entries i) (sym {A = List ℕ} called.ensures.places i));
       },
@@ -222,6 +231,6 @@ invariant_of-held g c =
       c.held.invariant.3,
       c.held.invariant.4,
       c.held.invariant.5 ∙ ap others_in (sym entries),
-      subst (λ (s : Sitting). FitsTable s g.N.Naming.run.words) (sym happen) c.held.invariant.6,
+      subst (IsKeeperAt g.N.Naming.run.words g.N.Naming.run.workers) (sym happen) c.held.invariant.6,
       c.held.invariant.7,
     )

@@ -1,7 +1,7 @@
 -- A sweep enters no call: the ends of clients, then those of delegations, and then those of open owners.
 use Rattle.std.proofs.Common.{◌∙◌, ap, refl, arith}
 use Rattle.nfs_core.specs.Recalls.{RecallsLeft}
-use Rattle.nfs_shared.proofs.Deeds.{all_happen_fits, deeds_of_sweep}
+use Rattle.nfs_shared.proofs.Deeds.{all_happen_keeper, all_happen_renew_none, deeds_of_sweep, visits_renew_none}
 use Rattle.nfs_shared.proofs.Holding.{KeepsRules, held_more}
 use Rattle.nfs_shared.proofs.RecallsOut.{queued_kept}
 use Rattle.nfs_shared.proofs.Receipts.{others_in_more, sweep_no_calls}
@@ -13,6 +13,7 @@ use Rattle.nfs_shared.specs.Receipts.{others_in}
 use Rattle.nfs_leases.specs.Sweeps.{entries_of_sweep, events_of_all, leased_server}
 use Rattle.nfs_leases.specs.laws.Counting.{sweep_tally}
 use Rattle.nfs_leases.specs.laws.Gaining.{gains_of_sweep}
+use Rattle.nfs_leases.specs.laws.Visiting.{visits_look_and_close}
 use Rattle.nfs_state.specs.State.{History}
 use Rattle.nfs_words.specs.Desk.{Happens}
 
@@ -26,6 +27,7 @@ invariant_of-held g c =
       places = held.register.places.items;
       receipts = list_of held.register.writer;
       put = held.put.recalls;
+      known_taken = held.put.known;
       hand = held.hand;
     } in
     let new : HeldView = record {
@@ -34,6 +36,7 @@ invariant_of-held g c =
       places = held.register.places.items;
       receipts = list_of held.register.writer;
       put = held.put.recalls;
+      known_taken = held.put.known;
       hand = held.hand;
     } in
     let now = c.args.now in
@@ -46,11 +49,13 @@ invariant_of-held g c =
       safe = c.lawful_is_safe.ensures.safe _ _ swept.ensures.lawful;
       agrees = swept.new.self.agrees;
       deeds = deeds_of_sweep now sweeps.visits sweeps.numbers sweeps.owners old.server new.server old.leases new.leases c.held.invariant.0.deeds gains.journal gains.leads sweeps.ends.events;
+      renews_none = all_happen_renew_none (events_of_all now sweeps.visits) (visits_renew_none (events_of_all now sweeps.visits) (visits_look_and_close now sweeps.visits)) old.leases new.leases sweeps.ends.events c.held.invariant.0.renews_none;
       recalls = c.recalls_are_left.ensures;
       queued =
           queued_kept c.recalls_stay.ensures.one c.recalls_stay.ensures.begin old new more c.held.invariant.0.recalls
           c.held.invariant.0.queued gains.journal c.recalls_are_left.ensures
-          (ap (λ (left : RecallsLeft). left.taken) swept.ensures.recalls) (refl, refl);
+          (ap (λ (left : RecallsLeft). left.taken) swept.ensures.recalls) (refl, refl, refl);
+      known = c.held.invariant.0.known;
     } in (
       held_more old new more c.held.invariant.0 gains none keeps refl refl,
       c.held.invariant.1,
@@ -66,6 +71,6 @@ invariant_of-held g c =
         others_in_more old.server.journal.entries more none,
         sweep_tally now sweeps.visits sweeps.numbers sweeps.owners swept.result sweeps.counts,
       ),
-      all_happen_fits g.N.Naming.run.words (events_of_all now sweeps.visits) old.leases new.leases sweeps.ends.events c.held.invariant.6,
+      all_happen_keeper g.N.Naming.run.words g.N.Naming.run.workers (events_of_all now sweeps.visits) old.leases new.leases sweeps.ends.events c.held.invariant.6,
       c.held.invariant.7,
     )

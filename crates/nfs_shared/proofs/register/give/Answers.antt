@@ -1,7 +1,8 @@
-use Rattle.std.proofs.Common.{◌∙◌, Some, refl, subst}
+use Rattle.std.proofs.Common.{◌≡◌, ◌∙◌, List, Some, refl, subst}
+use mathlib.Core.List.{IsPrefix}
 use Rattle.nfs_shared.proofs.Giving.{above_last, goes_on, last_added}
 use Rattle.nfs_shared.proofs.register.give.Goals as goal
-use Rattle.nfs_shared.specs.Roll.{list_of}
+use Rattle.nfs_shared.specs.Roll.{list_of, seen_of}
 use Rattle.nfs_shared.specs.Seats.{Gives, SeatView}
 use Rattle.nfs_shared.specs.declared.receipt.Receipt.{Receipt}
 
@@ -23,12 +24,14 @@ returns-clause-given g c =
     let receipt : Receipt = record { place = seat.place; number = c.args.number; call = c.args.call.call } in
     let whole = list_of c.args.register.now.writer in
     let signed = c.sign.ensures in
+    let begins : IsPrefix (list_of seat.token) whole = subst (λ (l : List Receipt). IsPrefix l whole) c.count_events.ensures.list signed.begins in
     let new : SeatView = record {
       place = seat.place;
       receipts = record {
         last = Some c.args.number;
         list = list_of c.sign.new.token;
         given = c.add.new.share.amount;
+        seen = seen_of c.sign.new.token;
       };
       leases = seat.leases;
     } in
@@ -36,9 +39,10 @@ returns-clause-given g c =
     (record {
       place = refl;
       same = refl;
-      above = above_last whole (list_of seat.token) c.args.number seat.last signed.begins c.requires.above c.seat.invariant.4;
+      above = above_last whole (list_of seat.token) c.args.number seat.last begins c.requires.above c.seat.invariant.4;
       last = refl;
-      list = goes_on whole (list_of seat.token) receipt (list_of c.sign.new.token) signed.begins signed.list;
+      list = goes_on whole (list_of seat.token) receipt (list_of c.sign.new.token) begins signed.list;
       given = c.add.ensures.amount;
+      seen = signed.seen ∙ c.count_events.ensures.seen;
       leases = refl;
     })

@@ -1,7 +1,8 @@
 use Rattle.std.proofs.Common.{◌≡◌, ◌+◌, Contains, length}
-use Rattle.nfs_shared.specs.Ends.{AllBegin, AllMet, given_in}
+use Rattle.nfs_shared.specs.Deeds.{keeper_deeds}
+use Rattle.nfs_shared.specs.Ends.{AllBegin, AllBorneOut, AllHeeded, AllMet, given_in}
 use Rattle.nfs_shared.specs.Roll.{IsOf, list_of}
-use Rattle.nfs_words.specs.Calls.{FitsTable}
+use Rattle.nfs_words.specs.Calls.{IsKeeperAt}
 use Rattle.nfs_words.specs.declared.event.Event.{Event}
 use Rattle.nfs_shared.proofs.shared.meet_each.Given as goal
 
@@ -11,7 +12,10 @@ invariant-loop-seat g l = record {
   ends : (goal.iterator-loop-seat g).is_finite l.seat-iterator;
   table : IsOf g.N.Naming.run.roll l.writer;
   writer : l.writer.me ≡ l.initial.writer.me;
-  fits : FitsTable l.keeper g.N.Naming.run.words;
+  keeper : IsKeeperAt g.N.Naming.run.words g.N.Naming.run.workers l.keeper;
+  deeds : keeper_deeds l.keeper.view.own ≡ keeper_deeds l.initial.keeper.view.own;
+  heeded : AllHeeded l.yielded;
+  borne_out : AllBorneOut (keeper_deeds l.initial.keeper.view.own) l.yielded;
   more : (e : Event) → Contains l.initial.keeper.view.own e → Contains l.keeper.view.own e;
   begin : AllBegin l.yielded (list_of l.initial.writer);
   met : AllMet g.N.Naming.run.words.lease l.initial.keeper.view.own l.yielded;

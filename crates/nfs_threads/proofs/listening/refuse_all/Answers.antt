@@ -1,6 +1,6 @@
 use Rattle.std.proofs.Common.{rules}
 use Rattle.std.specs.Vec.Iter.{into_iter_items}
-use Rattle.nfs_threads.proofs.Accounts.{is_refused, one_more_end}
+use Rattle.nfs_threads.proofs.Shifts.{is_refused, one_more_end}
 use Rattle.nfs_threads.proofs.Rest.{unused_rest}
 use Rattle.nfs_server.specs.Serves.{served_by}
 use Rattle.nfs_threads.specs.Links.{tcp}

@@ -8,7 +8,7 @@ use Rattle.nfs_server.specs.Serves.{served_by}
 
 pub loop-worker-preserved : goal.loop-worker-preserved
 loop-worker-preserved g c =
-    let e = (linking (served_by g.N.Naming.start) g.L.Links.opens g.L.Links.stops g.L.Device.Duplex.device g.L.Device.Duplex.read_failures g.L.Device.Duplex.write_failures g.L.Clock.Clock.tells) in
+    let e = (linking g.L.Links g.L.Device.Duplex g.L.Clock.Clock (served_by g.N.Naming.start)) in
     let steps = c.in-Some.ensures.steps in record {
       can = tt;
       finite = tt;
@@ -22,5 +22,5 @@ loop-worker-preserved g c =
 
 pub returns : goal.returns
 returns g c tree links are =
-    all_done (linking (served_by g.N.Naming.start) g.L.Links.opens g.L.Links.stops g.L.Device.Duplex.device g.L.Device.Duplex.read_failures g.L.Device.Duplex.write_failures g.L.Clock.Clock.tells) tree
+    all_done (linking g.L.Links g.L.Device.Duplex g.L.Clock.Clock (served_by g.N.Naming.start)) tree
     links (into_iter_items c.loop-worker.worker-iterator) c.loop-worker.ends.items (c.loop-worker.invariant.completes tree links are) (omega (arith, c.loop-worker.invariant.count, c.in-None.ensures.steps.0))

@@ -17,6 +17,6 @@ invariant-loop-worker g l = record {
   count : length (into_iter_items l.worker-iterator) ≡ into_iter_len l.worker-iterator;
   room : vec_len l.ends + into_iter_len l.worker-iterator ≤ vec_capacity l.ends;
   completes : (tree : Files) (links : List (g.row.L.Denot × SeatView))
-      → AreWorkers (linking (served_by g.N.Naming.start) g.L.Links.opens g.L.Links.stops g.L.Device.Duplex.device g.L.Device.Duplex.read_failures g.L.Device.Duplex.write_failures g.L.Clock.Clock.tells) tree links l.fn.workers.items
-      → Completes (linking (served_by g.N.Naming.start) g.L.Links.opens g.L.Links.stops g.L.Device.Duplex.device g.L.Device.Duplex.read_failures g.L.Device.Duplex.write_failures g.L.Clock.Clock.tells) tree links (into_iter_items l.worker-iterator) l.ends.items;
+      → AreWorkers (linking g.L.Links g.L.Device.Duplex g.L.Clock.Clock (served_by g.N.Naming.start)) tree links l.fn.workers.items
+      → Completes (linking g.L.Links g.L.Device.Duplex g.L.Clock.Clock (served_by g.N.Naming.start)) tree links (into_iter_items l.worker-iterator) l.ends.items;
 }

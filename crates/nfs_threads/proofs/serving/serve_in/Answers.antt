@@ -1,7 +1,8 @@
 use Rattle.std.proofs.Common.{List, length, rules, ap, arith}
 use Rattle.std.specs.Vec.Iter.{into_iter_items}
 use Rattle.nfs_threads.specs.Worker.{linking}
-use Rattle.nfs_threads.proofs.Workers.{all_begun, one_more_begun, unused_rest}
+use Rattle.nfs_threads.proofs.Rest.{unused_rest}
+use Rattle.nfs_threads.proofs.Workers.{all_begun, one_more_begun}
 use Rattle.nfs_threads.proofs.serving.serve_in.Goals as goal
 use Rattle.nfs_server.specs.Serves.{served_by}
 
@@ -20,7 +21,7 @@ loop-link-preserved g c =
       count = omega (arith, c.loop-link.invariant.count, ap (λ (l : List _). length l) steps.0, steps.1);
       all = search rules;
       room = search rules;
-      completes = rw c.push_reserved.ensures.items (one_more_begun (linking (served_by g.N.Naming.start) g.L.Links.opens g.L.Links.stops g.L.Device.Duplex.device g.L.Device.Duplex.read_failures g.L.Device.Duplex.write_failures g.L.Clock.Clock.tells) c.args.common.now.tree.now
+      completes = rw c.push_reserved.ensures.items (one_more_begun (linking g.L.Links g.L.Device.Duplex g.L.Clock.Clock (served_by g.N.Naming.start)) c.args.common.now.tree.now
           c.args.links.items (into_iter_items c.loop-link.link-iterator) (into_iter_items c.next.new.self) (c.in-Some.link, c.in-Some.seat) c.loop-link.workers.items c.begin.result
           steps.0 c.loop-link.invariant.completes c.begin.ensures);
     }
@@ -28,5 +29,5 @@ loop-link-preserved g c =
 pub returns-clause-ends : goal.returns-clause-ends
 returns-clause-ends g c =
     c.finish_all.ensures c.args.common.now.tree.now c.args.links.items
-    (all_begun (linking (served_by g.N.Naming.start) g.L.Links.opens g.L.Links.stops g.L.Device.Duplex.device g.L.Device.Duplex.read_failures g.L.Device.Duplex.write_failures g.L.Clock.Clock.tells) c.args.common.now.tree.now
+    (all_begun (linking g.L.Links g.L.Device.Duplex g.L.Clock.Clock (served_by g.N.Naming.start)) c.args.common.now.tree.now
     c.args.links.items (into_iter_items c.loop-link.link-iterator) c.loop-link.workers.items c.loop-link.invariant.completes (omega (arith, c.loop-link.invariant.count, c.in-None.ensures.steps.0)))

@@ -17,6 +17,6 @@ invariant-loop-link g l = record {
   all : vec_len l.workers + into_iter_len l.link-iterator ≡ vec_len l.fn.links;
   room : vec_len l.workers + into_iter_len l.link-iterator ≤ vec_capacity l.workers;
   completes : (more : List _)
-      → AreWorkers (linking (served_by g.N.Naming.start) g.L.Links.opens g.L.Links.stops g.L.Device.Duplex.device g.L.Device.Duplex.read_failures g.L.Device.Duplex.write_failures g.L.Clock.Clock.tells) l.common.tree.now (into_iter_items l.link-iterator) more
-      → AreWorkers (linking (served_by g.N.Naming.start) g.L.Links.opens g.L.Links.stops g.L.Device.Duplex.device g.L.Device.Duplex.read_failures g.L.Device.Duplex.write_failures g.L.Clock.Clock.tells) l.common.tree.now l.fn.links.items (l.workers.items ++ more);
+      → AreWorkers (linking g.L.Links g.L.Device.Duplex g.L.Clock.Clock (served_by g.N.Naming.start)) l.common.tree.now (into_iter_items l.link-iterator) more
+      → AreWorkers (linking g.L.Links g.L.Device.Duplex g.L.Clock.Clock (served_by g.N.Naming.start)) l.common.tree.now l.fn.links.items (l.workers.items ++ more);
 }

@@ -5,7 +5,7 @@ use Rattle.nfs_threads.proofs.worker.serve_each.Goals as goal
 use Rattle.nfs_server.specs.Serves.{served_by}
 
 pub loop-preserved : goal.loop-preserved
-loop-preserved g c = rw c.push_reserved.ensures.items (rw c.make_room.ensures.list (one_more_served (linking (served_by g.N.Naming.start) g.L.Links.opens g.L.Links.stops g.L.Device.Duplex.device g.L.Device.Duplex.read_failures g.L.Device.Duplex.write_failures g.L.Clock.Clock.tells)
+loop-preserved g c = rw c.push_reserved.ensures.items (rw c.make_room.ensures.list (one_more_served (linking g.L.Links g.L.Device.Duplex g.L.Clock.Clock (served_by g.N.Naming.start))
     c.args.common.now.tree.now (stand c.args.links.now c.args.desk.now) c.loop.connections.items (stand c.loop.links c.loop.desk)
     (record { result = c.serve-result.result; first = c.count-first.result }) (stand c.next-in-loop.new.self c.serve-result.new.service) c.loop.invariant
     (record {
@@ -23,7 +23,7 @@ loop-preserved g c = rw c.push_reserved.ensures.items (rw c.make_room.ensures.li
 pub returns-in_err-make_room-clause-connections : goal.returns-in_err-make_room-clause-connections
 returns-in_err-make_room-clause-connections g c = (
   stand c.loop.links c.loop.desk,
-  rw c.make_room.ensures.list (all_served (linking (served_by g.N.Naming.start) g.L.Links.opens g.L.Links.stops g.L.Device.Duplex.device g.L.Device.Duplex.read_failures g.L.Device.Duplex.write_failures g.L.Clock.Clock.tells) c.args.common.now.tree.now (stand c.args.links.now c.args.desk.now) c.loop.connections.items (stand c.loop.links c.loop.desk) c.loop.invariant),
+  rw c.make_room.ensures.list (all_served (linking g.L.Links g.L.Device.Duplex g.L.Clock.Clock (served_by g.N.Naming.start)) c.args.common.now.tree.now (stand c.args.links.now c.args.desk.now) c.loop.connections.items (stand c.loop.links c.loop.desk) c.loop.invariant),
   search rules,
   search rules,
 )
@@ -31,7 +31,7 @@ returns-in_err-make_room-clause-connections g c = (
 pub returns-then-not-branch-clause-connections : goal.returns-then-not-branch-clause-connections
 returns-then-not-branch-clause-connections g c = (
   stand c.loop.links c.loop.desk,
-  rw c.make_room.ensures.list (all_served (linking (served_by g.N.Naming.start) g.L.Links.opens g.L.Links.stops g.L.Device.Duplex.device g.L.Device.Duplex.read_failures g.L.Device.Duplex.write_failures g.L.Clock.Clock.tells) c.args.common.now.tree.now (stand c.args.links.now c.args.desk.now) c.loop.connections.items (stand c.loop.links c.loop.desk) c.loop.invariant),
+  rw c.make_room.ensures.list (all_served (linking g.L.Links g.L.Device.Duplex g.L.Clock.Clock (served_by g.N.Naming.start)) c.args.common.now.tree.now (stand c.args.links.now c.args.desk.now) c.loop.connections.items (stand c.loop.links c.loop.desk) c.loop.invariant),
   search rules,
   search rules,
 )
@@ -39,7 +39,7 @@ returns-then-not-branch-clause-connections g c = (
 pub returns-in_default-next-clause-connections : goal.returns-in_default-next-clause-connections
 returns-in_default-next-clause-connections g c = (
   stand c.loop.links c.loop.desk,
-  rw c.make_room.ensures.list (all_served (linking (served_by g.N.Naming.start) g.L.Links.opens g.L.Links.stops g.L.Device.Duplex.device g.L.Device.Duplex.read_failures g.L.Device.Duplex.write_failures g.L.Clock.Clock.tells) c.args.common.now.tree.now (stand c.args.links.now c.args.desk.now) c.loop.connections.items (stand c.loop.links c.loop.desk) c.loop.invariant),
+  rw c.make_room.ensures.list (all_served (linking g.L.Links g.L.Device.Duplex g.L.Clock.Clock (served_by g.N.Naming.start)) c.args.common.now.tree.now (stand c.args.links.now c.args.desk.now) c.loop.connections.items (stand c.loop.links c.loop.desk) c.loop.invariant),
   search rules,
   search rules,
 )
@@ -47,7 +47,7 @@ returns-in_default-next-clause-connections g c = (
 pub returns-then-refused-clause-connections : goal.returns-then-refused-clause-connections
 returns-then-refused-clause-connections g c = (
   stand c.args.links.now c.args.desk.now,
-  none_served (linking (served_by g.N.Naming.start) g.L.Links.opens g.L.Links.stops g.L.Device.Duplex.device g.L.Device.Duplex.read_failures g.L.Device.Duplex.write_failures g.L.Clock.Clock.tells) c.args.common.now.tree.now (stand c.args.links.now c.args.desk.now) c.args.connections.now.items c.requires.empty,
+  none_served (linking g.L.Links g.L.Device.Duplex g.L.Clock.Clock (served_by g.N.Naming.start)) c.args.common.now.tree.now (stand c.args.links.now c.args.desk.now) c.args.connections.now.items c.requires.empty,
   refl,
   refl,
 )

@@ -5,5 +5,5 @@ use Rattle.nfs_server.specs.Serves.{served_by}
 
 abbrev pub invariant-loop : goal.invariant-loop
 invariant-loop g l =
-    Completes (linking (served_by g.N.Naming.start) g.L.Links.opens g.L.Links.stops g.L.Device.Duplex.device g.L.Device.Duplex.read_failures g.L.Device.Duplex.write_failures g.L.Clock.Clock.tells)
+    Completes (linking g.L.Links g.L.Device.Duplex g.L.Clock.Clock (served_by g.N.Naming.start))
     l.common.tree.now (stand l.fn.links l.fn.desk) l.connections.items (stand l.links l.desk)

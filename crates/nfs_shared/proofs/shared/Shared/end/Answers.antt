@@ -6,14 +6,15 @@ use Rattle.nfs_shared.proofs.shared.Shared.end.Goals as goal
 use Rattle.nfs_core.specs.Recalls.{AreRecallsOf}
 use Rattle.nfs_core.specs.Server.{Server}
 use Rattle.nfs_rpc.specs.declared.recall.Recall.{Recall}
-use Rattle.nfs_shared.specs.Ends.{AllBegin, AllInTime, AllMet, AllStand}
+use Rattle.nfs_shared.specs.Deeds.{AreDeedsOf, keeper_deeds}
+use Rattle.nfs_shared.specs.Ends.{AllBegin, AllBorneOut, AllInTime, AllMet, AllStand}
 use Rattle.nfs_shared.specs.Held.{waiting}
 use Rattle.nfs_shared.specs.Receipts.{calls_in, others_in}
 use Rattle.nfs_shared.specs.Roll.{list_of}
 use Rattle.nfs_shared.specs.Sender.{SenderView}
 use Rattle.nfs_shared.specs.Sweeper.{SweeperView}
 use Rattle.nfs_state.specs.Stored.{meaning}
-use Rattle.nfs_words.specs.Calls.{FitsTable}
+use Rattle.nfs_words.specs.Calls.{IsKeeperAt}
 use Rattle.nfs_words.specs.Sitting.{Sitting}
 
 pub returns-clause-stand : goal.returns-clause-stand
@@ -71,16 +72,27 @@ returns-clause-others g c =
 
 pub meet_each-requires-clause-keeper : goal.meet_each-requires-clause-keeper
 meet_each-requires-clause-keeper g c =
-    subst (λ (s : Sitting). FitsTable s g.N.Naming.run.words) (sym (c.into_parts-keeper.ensures.seat ∙ c.into_parts-core.ensures.book)) c.held.invariant.6
+    subst (IsKeeperAt g.N.Naming.run.words g.N.Naming.run.workers) (sym (c.into_parts-keeper.ensures.seat ∙ c.into_parts-core.ensures.book)) c.held.invariant.6
 
 -- each seat met the keeper's, whose closings are the journal's ends of clients
 pub returns-clause-in_time : goal.returns-clause-in_time
 returns-clause-in_time g c =
     let held = c.held.inside in
     let keeper = held.leased.book in
-    let lease : g.N.Naming.run.words.lease ≡ held.leased.core.journal.lease = sym c.held.invariant.6.1 ∙ c.held.invariant.0.agrees.lasts in
+    let lease : g.N.Naming.run.words.lease ≡ held.leased.core.journal.lease = sym c.held.invariant.6.0.1 ∙ c.held.invariant.0.agrees.lasts in
     let same = c.into_parts-keeper.ensures.seat ∙ c.into_parts-core.ensures.book in
     let met = subst (λ (s : Sitting). AllMet g.N.Naming.run.words.lease s.view.own c.args.seats.items) same c.meet_each.ensures.met in
     let of_journal = subst (λ (n : ℕ). AllMet n keeper.view.own c.args.seats.items) lease met in
     subst (λ (s : Server). AllInTime s.journal.lease s.journal.entries c.args.seats.items) (sym c.into_parts-core.ensures.core)
     (all_in_time held.leased.core.journal.lease keeper.view.own held.leased.core.journal (meaning held.leased.core.stored) c.args.seats.items c.held.invariant.0.deeds of_journal)
+
+-- the keeper's deeds bear out what the seats found, and are the journal's
+pub returns-clause-borne_out : goal.returns-clause-borne_out
+returns-clause-borne_out g c =
+    let held = c.held.inside in
+    let keeper = held.leased.book in
+    let same = c.into_parts-keeper.ensures.seat ∙ c.into_parts-core.ensures.book in (
+      keeper_deeds keeper.view.own,
+      subst (λ (s : Server). AreDeedsOf s.journal (meaning s.stored) (keeper_deeds keeper.view.own)) (sym c.into_parts-core.ensures.core) c.held.invariant.0.deeds,
+      subst (λ (s : Sitting). AllBorneOut (keeper_deeds s.view.own) c.args.seats.items) same c.meet_each.ensures.borne_out,
+    )

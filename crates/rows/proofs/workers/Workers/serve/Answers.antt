@@ -5,4 +5,4 @@ use Rattle.nfs_server.specs.Serves.{served_by}
 
 pub returns : goal.returns
 returns g c =
-    served (linking (served_by g.N.Naming.start) g.L.Links.opens g.L.Links.stops g.L.Device.Duplex.device g.L.Device.Duplex.read_failures g.L.Device.Duplex.write_failures g.L.Clock.Clock.tells) c.args.self.now.tree.now c.args.links.items c.in-Ok.ends.items c.receipts_by_connection.ensures c.in-Ok.ensures.ends
+    served (linking g.L.Links g.L.Device.Duplex g.L.Clock.Clock (served_by g.N.Naming.start)) c.args.self.now.tree.now c.args.links.items c.in-Ok.ends.items c.receipts_by_connection.ensures c.in-Ok.ensures.ends
