@@ -1,9 +1,10 @@
 #!/bin/sh
-# ci_job.sh JOURNAL COMMAND..: a job that tests a client three times against one server. In the words of COMMAND {host}
-# and {port} stand for the server's address. The job ends at the first client that fails, and all three have a minute.
+# ci_job.sh JOURNAL COMMAND..: a job that tests a client three times against one server. In COMMAND {host} and {port}
+# are replaced by the server's address. The job ends at the first client that fails, and all three together have a
+# minute.
 #
-# The status is the client's. If that is 0, it is 1 if the verdict on the client has an error, if no call on the state
-# came, or if the server was at fault. The journal is left in the file JOURNAL.
+# The status is the client's. If that is 0, the status is 1 if the verdict on the client has an error, if no call on the
+# state came, or if the server was at fault. The file JOURNAL has the journal afterwards.
 set -u
 top=$(cd "$(dirname "$0")/.." && pwd)
 journal=$1

@@ -1,10 +1,10 @@
-/* A client by libnfs's raw layer, which sends just what it is handed and shows just what comes back:
+/* A client with libnfs's raw layer, which sends exactly what it is given, and shows exactly what is answered:
 
        gcc -o /tmp/libnfs_client samples/libnfs_client.c -lnfs
        /tmp/libnfs_client 127.0.0.1 20490
 
    It calls NULL, then a COMPOUND of PUTROOTFH, LOOKUP "a" and GETATTR, then one of SETCLIENTID, and prints a line for
-   each. The status is 0 where all three were answered. */
+   each. The status is 0 if all three were answered. */
 #include <arpa/inet.h>
 #include <poll.h>
 #include <stdio.h>

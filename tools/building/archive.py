@@ -17,9 +17,9 @@ COMMANDS = [f"tools/{name}" for name in ("between", "explain", "judge", "listen_
                                          "send_rows", "show_journal", "model/check_rows.py", "model/journal.py",
                                          "model/once.py", "model/serve.py")]
 # Files, and folders with all that is in them.
-OTHERS = ["start", "README.md", "CHANGELOG.md", "docs/CLAIMS.md", "docs/CLIENTS.md", "docs/JOURNAL.md",
-          "docs/PROGRAM.md", "docs/RULES.md", "docs/verdict.schema.json", "tools/model/README.md", "samples/*",
-          "crates/rows/README.md", "crates/rows/INDEX", "crates/rows/data/*"]
+OTHERS = ["start", "README.md", "CHANGELOG.md", "docs/CLAIMS.md", "docs/CLIENTS.md", "docs/GLOSSARY.md",
+          "docs/JOURNAL.md", "docs/PROGRAM.md", "docs/RULES.md", "docs/verdict.schema.json",
+          "tools/model/README.md", "samples/*", "crates/rows/README.md", "crates/rows/INDEX", "crates/rows/data/*"]
 PROGRAM, RELEASE, PROOF = "nfs4state", "RELEASE", "PROOF"
 # The most bytes that an archive may have.
 LIMIT = 2 << 20
@@ -29,16 +29,16 @@ commit: {commit}
 kit: {kit}
 program: {program}
 
-This is nfs4state {version}. Its program, `nfs4state`, was proved by the toolchain above, from the sources of the commit
-above; the libraries below it may be those that the gate had proved from the same sources. It was then linked statically
-for Linux on x86-64. `program` is its SHA-256. PROOF tells what the toolchain said of each crate. docs/CLAIMS.md says
-what is proved, and what is trusted.
+This is nfs4state {version}. The toolchain above proved its program, `nfs4state`, from the sources of the commit
+above. The libraries below the program may be those that the gate proved from the same sources. The program was then
+linked statically for Linux on x86-64. `program` is the program's SHA-256. PROOF has what the toolchain said of each
+crate. docs/CLAIMS.md says what is proved, and what is trusted.
 {note}
 The owner of nfs4state has given no licence yet.
 """
 PACKED_AGAIN = """
-Since release {program_version} no source of the program has changed: the program is that of release {program_version},
-and says so.
+No source of the program has changed since release {program_version}.
+So the program is that of release {program_version}, and its `--version` says so.
 """
 
 

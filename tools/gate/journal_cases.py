@@ -456,7 +456,7 @@ def broken_entries() -> Iterator[Broken]:
     yield "revoked past the last moment", put(Revoke(1, MOMENT_LIMIT)), limit
     yield "a path marked 2", put(Path(1, 2)), "a number that isn't 0 to 1"
     yield "flavor 2", put(first._replace(principal=(2, 0))), "a number that isn't 0 to 1"
-    yield "uid 1 behind AUTH_NONE", put(first._replace(principal=(0, 1))), "a uid behind AUTH_NONE"
+    yield "uid 1 after AUTH_NONE", put(first._replace(principal=(0, 1))), "a uid after AUTH_NONE"
     yield "an absent handle with a node", with_words(data, begin + 24, 1), "a node without a filehandle"
     yield "handle present 2", with_words(data, begin + 20, 2), "a number that isn't 0 to 1"
     yield "a node outside the tree", put(first._replace(filehandle=5)), "a node that isn't there"

@@ -7,8 +7,8 @@ of tools, or src, specs, proofs or wrong; and those that end with .rt, .antt, .p
 or folder, or the end of one. NAME, FILE, CRATE and `*` stand for any name. What is in a folder `out` isn't looked for.
 
 Names stand in backticks, with nothing beside. Of `Core::apply` the last two are a type or trait with its function, a
-file with its, or an enumeration with its variant. A name with a capital and a small letter is defined in the sources,
-or imported there from elsewhere. So is one with an underscore, but on the pages for whoever writes a client, which name
+file or a crate with its, or an enumeration with its variant. A name with a capital and a small letter is defined in the
+sources, or imported there from elsewhere. So is one with an underscore, but on the pages for whoever writes a client, which name
 functions of other programs; and a word of small letters on those that say where something is to be changed. Elsewhere
 that may be a word of anything, and words of capitals are the protocol's.
 
@@ -27,14 +27,6 @@ from modulefinder import ModuleFinder
 
 from clause_index import crates, functions_of, items_in, sources_of
 from nfs4.served import TOP
-
-BUDGETS = {
-    "README.md": 1080, "docs/CLAIMS.md": 4700, "docs/CLIENTS.md": 4620, "docs/CONTRACTS.md": 1500,
-    "docs/CONTRIBUTING.md": 2200, "docs/DECISIONS.md": 4000, "docs/JOURNAL.md": 1350, "docs/MAP.md": 2500,
-    "docs/MEASURED.md": 1200, "docs/PROGRAM.md": 2200, "docs/RULES.md": 7000, "crates/rows/README.md": 2200,
-    "tools/model/README.md": 900, "tools/bench/README.md": 600}
-# Of each other page of a crate, of these together, and of all pages but those of tools.
-CRATE, ALL_CRATES, ALL = 180, 3900, 38_000
 
 PAGE = re.compile(r"README\.md|docs/\w+\.md|(?:crates|tools)/\w+/README\.md")
 FOR_CLIENTS = re.compile(r"README\.md|docs/(?:CLIENTS|PROGRAM|RULES|JOURNAL)\.md|crates/rows/README\.md")
@@ -124,7 +116,8 @@ class Sources:
             self.take(path)
         for source in (source for crate in crates() for source in sources_of(crate)):
             for function in functions_of(source):
-                self.pairs |= {(function.owner, function.name), (source.file.stem, function.name)}
+                owners = function.owner, source.file.stem, source.crate
+                self.pairs |= {(owner, function.name) for owner in owners}
             for item in items_in(source.code, 0, len(source.code)):
                 variants = re.findall(r"^ {4}(\w+)", source.code[item.block:item.end], re.M)
                 self.pairs |= {(item.name, variant) for variant in variants if item.kind == "enum"}
@@ -255,16 +248,13 @@ def pages() -> list[Page]:
     return [Page(path, read(path)) for path in files() if PAGE.fullmatch(path)]
 
 
+def helps() -> dict[str, str]:
+    """The help of each command in Python, without that of its options: what its file begins with."""
+    commands = [path for path in files() if path.startswith("tools/") and is_python(path)
+                and os.access(os.path.join(TOP, path), os.X_OK)]
+    return {path: ast.get_docstring(ast.parse(read(path))) or "" for path in commands}
+
+
 def words_of(found: list[Page]) -> int:
     """The words of all pages but those of tools."""
     return sum(len(page.text.split()) for page in found if not page.path.startswith("tools/"))
-
-
-def above_budget(found: list[Page]) -> list[str]:
-    """The pages, and the sums, that have more words than they may."""
-    counts = {page.path: len(page.text.split()) for page in found}
-    crate = {path: count for path, count in counts.items() if path.startswith("crates/") and path not in BUDGETS}
-    bounds = [(path, count, BUDGETS.get(path, CRATE)) for path, count in counts.items()]
-    bounds += [("the crates' pages", sum(crate.values()), ALL_CRATES), ("all pages", words_of(found), ALL)]
-    faults = [f"{name}: {count:,} words, above {bound:,}" for name, count, bound in bounds if count > bound]
-    return faults + [f"{path}: no such page, which has a budget" for path in BUDGETS if path not in counts]

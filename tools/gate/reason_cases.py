@@ -24,7 +24,7 @@ LOCK_X = 'lock state of file "/a" by lock owner "x" of client 1'
 OPEN_BY_A = 'OPEN by open owner "A" of client 1'
 NO_HANDLE = "no filehandle is current: no operation before it in its COMPOUND made one so", "COMPOUND"
 NO_FILE = 'directory "/" has no "e"', "OPEN"
-OLD = "state 1 has seqid 2 since entry 3 (OPEN_CONFIRM), and the stateid has the earlier 1", STATEIDS
+OLD = "state 1 has seqid 2 since entry 3 (OPEN_CONFIRM), but the stateid has the earlier 1", STATEIDS
 
 
 class Story:
@@ -50,7 +50,7 @@ class Story:
     def repeat(self, number: int, whose: str | None = None, because: Because = None) -> None:
         """The call of this entry once more; where it is said whose, it has to have the answer that was kept of it."""
         if whose is not None:
-            self.again[self.server.entries] = f"{whose} is the request of entry {number} again"
+            self.again[self.server.entries] = f"{whose} is a replay of entry {number}"
         call = self.server.recorded[number]
         self.call(call.opnum, call.arguments, because, call.filehandle, call.principal)
 
@@ -131,18 +131,18 @@ def stateids() -> Story:
     """Each cause of BAD_STATEID, and the other verdicts."""
     story = begun()
     story.lock_first(3, state(1, 2), 1)
-    story.close(4, Stateid(0, 0, 0, 0), ("all bits of the stateid are zero, and it names no state", STATEIDS))
-    story.close(4, Stateid(*[LAST] * 4), ("all bits of the stateid are one, and it names no state", STATEIDS))
-    story.close(4, state(1, 2, epoch=2), ("the stateid is of epoch 2, and this server's is 1", STATEIDS))
+    story.close(4, Stateid(0, 0, 0, 0), ("all bits of the stateid are zero, so it names no state", STATEIDS))
+    story.close(4, Stateid(*[LAST] * 4), ("all bits of the stateid are one, so it names no state", STATEIDS))
+    story.close(4, state(1, 2, epoch=2), ("the stateid has epoch 2, but this server has epoch 1", STATEIDS))
     story.close(4, state(1, 2, client=5), ("the stateid is one of client 5, which was never given", STATEIDS))
     story.close(4, state(7, 2), ("state 7 was never given", OWNERS))
     kind = f"the stateid is that of state 1, an {OPEN_A}; a lock state is wanted here, such as state 2"
     story.unlock(4, state(1, 2), (kind, STATEIDS))
     kind = f"the stateid is that of state 2, a {LOCK_X}; an open is wanted here, such as state 1"
     story.close(2, state(2), (kind, STATEIDS))
-    place = f'the stateid is that of state 1, an {OPEN_A}, and the current filehandle that of file "/b"'
+    place = f'the stateid is that of state 1, an {OPEN_A}, but the current filehandle is that of file "/b"'
     story.close(4, state(1, 2), (place, STATEIDS), OTHER_FILE)
-    later = "state 1 has seqid 2 since entry 3 (OPEN_CONFIRM), and the stateid has the later 3"
+    later = "state 1 has seqid 2 since entry 3 (OPEN_CONFIRM), but the stateid has the later 3"
     story.close(4, state(1, 3), (later, STATEIDS))
     story.close(4, state(1), OLD)
     story.confirm(5, state(1, 2), ('open owner "A" of client 1 is confirmed since entry 3', "OPEN_CONFIRM"))
@@ -157,16 +157,16 @@ def ends() -> Story:
     story.close(5, state(1, 2), (f"state 1, an {OPEN_A}, was ended by entry 5 (CLOSE)", STATEIDS))
     story.unlock(2, state(2), (f"state 2, a {LOCK_X}, was ended by entry 5 (CLOSE)", OWNERS))
     story.open(1, owner=b"B")
-    unconfirmed = ('open owner "B" of client 1 isn\'t confirmed: it has opened the file in entry 8, and no '
+    unconfirmed = ('open owner "B" of client 1 isn\'t confirmed: it has opened the file in entry 8, but no '
                    "OPEN_CONFIRM has followed")
     story.close(2, state(3), (unconfirmed, STATEIDS))
     story.open(9, owner=b"B", name=b"b")
     anew = ('state 3, an open of file "/a" by open owner "B" of client 1, was ended by entry 10 (OPEN), which '
-            "started its owner anew")
+            "restarted its owner")
     story.confirm(10, state(3), (anew, OWNERS))
     story.introduce(b"c2")
     story.confirm_client(2, 2)
-    story.close(1, state(4, client=2), ("state 4 was given to client 1, and the stateid is one of client 2", OWNERS))
+    story.close(1, state(4, client=2), ("state 4 was given to client 1, but the stateid names client 2", OWNERS))
     return story
 
 
@@ -183,29 +183,29 @@ def clients() -> Story:
     story.open(1, ("client 4 was never given", CLIENT_IDS), client=4)
     story.open(1, ("client 514 (slot 2, third) was never given", CLIENT_IDS), client=514)
     story.close(1, state(1, client=512), ("the stateid is one of client 512, which was never given", STATEIDS))
-    story.open(1, ("the clientid is of epoch 2, and this server's is 1", CLIENT_IDS), epoch=2)
-    replaced = ('confirm value 2 is that of entry 4 (SETCLIENTID), and entry 6 gave the id "c2" the value 3',
+    story.open(1, ("the clientid has epoch 2, but this server has epoch 1", CLIENT_IDS), epoch=2)
+    replaced = ('confirm verifier 2 is that of entry 4 (SETCLIENTID), but entry 6 gave the id "c2" confirm verifier 3',
                 "SETCLIENTID_CONFIRM")
     story.confirm_client(2, 2, replaced)
-    story.confirm_client(258, 9, ("confirm value 9 was never given", "SETCLIENTID_CONFIRM"))
-    story.confirm_client(258, 1, ("entry 0 (SETCLIENTID) gave confirm value 1 to client 1", "SETCLIENTID_CONFIRM"))
-    other = "entry 6 (SETCLIENTID) came from AUTH_NONE, and its confirmation from AUTH_SYS 500"
+    story.confirm_client(258, 9, ("confirm verifier 9 was never given", "SETCLIENTID_CONFIRM"))
+    story.confirm_client(258, 1, ("entry 0 (SETCLIENTID) gave confirm verifier 1 to client 1", "SETCLIENTID_CONFIRM"))
+    other = "entry 6 (SETCLIENTID) came from AUTH_NONE, but its confirmation from AUTH_SYS 500"
     story.confirm_client(258, 3, (other, "SETCLIENTID_CONFIRM"), SOMEBODY)
     used = (f'the id "c1" is that of client 1, by AUTH_NONE, which has state: state 1, an {OPEN_A}, since entry 2 '
             "(OPEN)")
     story.introduce(verifier=2, because=(used, "SETCLIENTID"), principal=SOMEBODY)
     story.introduce(verifier=2)
     story.confirm_client(3, 4)
-    gone = "client 1 was removed by entry 19 (SETCLIENTID_CONFIRM), as client 3 took its place"
+    gone = "client 1 was removed by entry 19 (SETCLIENTID_CONFIRM), because client 3 took its place"
     story.open(3, (gone, CLIENT_IDS))
     story.close(3, state(1, 2), (gone, STATEIDS))
     story.confirm_client(1, 1, (gone, "SETCLIENTID_CONFIRM"))
     story.introduce(verifier=3)
     story.confirm_client(257, 5)
-    gone = "client 3 was removed by entry 24 (SETCLIENTID_CONFIRM), as client 257 (slot 1, second) took its place"
+    gone = "client 3 was removed by entry 24 (SETCLIENTID_CONFIRM), because client 257 (slot 1, second) took its place"
     story.open(3, (gone, CLIENT_IDS), client=3)
     story.expire(257)
-    over = "client 257 (slot 1, second) was removed by entry 26, as its lease was over"
+    over = "client 257 (slot 1, second) was removed by entry 26, because its lease had expired"
     story.close(3, state(1, 2, client=257), (over, STATEIDS))
     released = ReleaseLockowner(LockOwner(1, 257, b"x"))
     story.call(Opnum.RELEASE_LOCKOWNER, released, (over, CLIENT_IDS), None)
@@ -222,9 +222,10 @@ def records_that_give_way() -> Story:
     for number in range(2, 256):
         story.introduce(b"c%d" % number)
     story.introduce(b"late")
-    yielded = "the record of entry 3 (SETCLIENTID) gave way to the client of entry 257"
+    yielded = "the record of entry 3 (SETCLIENTID) was dropped for the client of entry 257"
     story.confirm_client(2, 3, (yielded, "SETCLIENTID_CONFIRM"))
-    never = ("client 2, which entry 3 (SETCLIENTID) gave, was never confirmed, and gave way to the client of entry 257",
+    never = ("client 2, which entry 3 (SETCLIENTID) gave, was never confirmed, and was dropped for the client of entry "
+             "257",
              CLIENT_IDS)
     story.open(1, never, client=2)
     # Who gave way comes again, and takes the place of the next one.
@@ -245,25 +246,25 @@ def records_that_give_way() -> Story:
 def sequence_ids() -> Story:
     """Also requests that come again, whose answers are given again."""
     story = begun()
-    due = '3 is the next sequence id of open owner "A" of client 1, after entry 3 (OPEN_CONFIRM), and '
+    due = '3 is the next sequence id of open owner "A" of client 1, after entry 3 (OPEN_CONFIRM), but '
     story.close(4, state(1, 2), (due + "4 came", OWNERS))
     story.close(2, state(1), (due + "2 came: that of the entry itself, with another operation", OWNERS))
     itself = due + "2 came: that of the entry itself, with "
     story.confirm(2, state(1, 2), (itself + "another stateid", OWNERS))
     story.confirm(2, state(1), (itself + "another current filehandle", OWNERS), OTHER_FILE)
     story.open(3, NO_FILE, name=b"e")
-    again = "it is the request of entry 8 (OPEN) again, and gets the kept answer; the cause then: "
+    again = "it is a replay of entry 8 (OPEN), and gets the stored reply; the cause then: "
     story.repeat(8, OPEN_BY_A, (again + NO_FILE[0], OWNERS))
     story.lock_first(4, state(1, 2), 7)
-    due = '8 is the next sequence id of lock owner "x" of client 1, after entry 10 (LOCK), and '
+    due = '8 is the next sequence id of lock owner "x" of client 1, after entry 10 (LOCK), but '
     story.unlock(7, state(2), (due + "7 came: that of the entry itself, with another operation", OWNERS))
-    has_state = ('it comes as a new lock owner, and lock owner "x" of client 1 has state 2 on the file since entry '
+    has_state = ('it names a new lock owner, but lock owner "x" of client 1 has state 2 on the file since entry '
                  "10 (LOCK)")
     story.lock_first(5, state(1, 2), 8, (has_state, "LOCK"))
     story.open(5, name=b"b")
     uncounted = "the lock_seqid is 5; entry 12 (LOCK) had 8, and NFS4ERR_BAD_SEQID doesn't count"
     story.lock_first(6, state(3), 5, (due + uncounted, "LOCK"), filehandle=OTHER_FILE)
-    other = "the lock owner has the clientid 1 2, and the open is one of client 1"
+    other = "the lock owner has the clientid 1 2, but the open is one of client 1"
     story.lock_first(6, state(3), 5, (other, "LOCK"), LockOwner(1, 2, b"x"), filehandle=OTHER_FILE)
     return story
 
@@ -292,7 +293,7 @@ def kept_answers() -> Story:
     story.repeat(14, 'LOCKU by lock owner "x" of client 1')
     # Entries 16 to 19: a refusal is kept as well, and a CLOSE though the open is gone.
     story.open(6, NO_FILE, name=b"e")
-    again = "it is the request of entry 16 (OPEN) again, and gets the kept answer; the cause then: "
+    again = "it is a replay of entry 16 (OPEN), and gets the stored reply; the cause then: "
     story.repeat(16, OPEN_BY_A, (again + NO_FILE[0], OWNERS))
     story.close(7, state(1, 4))
     story.repeat(18, 'CLOSE by open owner "A" of client 1')
@@ -307,7 +308,7 @@ def no_kept_answers() -> Story:
     story.read(state(1, 2))
     story.repeat(5)
     story.open(3, access=1)
-    due = '4 is the next sequence id of open owner "A" of client 1, after entry 7 (OPEN), and 2 came'
+    due = '4 is the next sequence id of open owner "A" of client 1, after entry 7 (OPEN), but 2 came'
     story.repeat(3, None, (due, OWNERS))
     # A refusal that doesn't count: 9 and 10.
     story.repeat(8, None, (due, OWNERS))
@@ -333,23 +334,23 @@ def opens() -> Story:
     story = begun()
     refused: tuple[tuple[str, dict[str, Any]], ...] = (
         (NO_HANDLE[0], {"directory": None}),
-        ("it reclaims (CLAIM_PREVIOUS), and no run keeps anything of the one before", {"claim": Claim(1, None, 0)}),
+        ("it reclaims (CLAIM_PREVIOUS), but no state outlives a run of the server", {"claim": Claim(1, None, 0)}),
         ("CLAIM_DELEGATE_PREV isn't supported", {"claim": Claim(3, b"a", None)}),
-        ("the access is 0, and has to be 1 to 3", {"access": 0}),
-        ("the deny is 4, and 3 is the most", {"deny": 4}),
-        ('the current filehandle is that of file "/a", and no directory\'s', {"directory": FILE}),
+        ("the access is 0, but has to be 1 to 3", {"access": 0}),
+        ("the deny is 4, but has to be 0 to 3", {"deny": 4}),
+        ('the current filehandle is that of file "/a", which is no directory', {"directory": FILE}),
         ("the name is empty", {"name": b""}),
-        ("the name has 256 bytes, and 255 are the most", {"name": b"n" * 256}),
+        ("the name has 256 bytes, but at most 255 are allowed", {"name": b"n" * 256}),
         ('directory "/d" has no "a"', {"directory": DIRECTORY}),
-        ('directory "/" has no "e", and no file can be created', {"name": b"e", "how": Openhow(1, 0, ((), b""))}),
+        ('directory "/" has no "e", and this server creates no files', {"name": b"e", "how": Openhow(1, 0, ((), b""))}),
         ('the name is that of directory "/d"', {"name": b"d"}),
-        ('file "/a" is there, and GUARDED4 creates a new one', {"how": Openhow(1, 1, ((), b""))}),
-        ('file "/a" is there, and EXCLUSIVE4 creates a new one', {"how": Openhow(1, 2, bytes(8))}))
+        ('file "/a" exists already, but GUARDED4 creates a new file', {"how": Openhow(1, 1, ((), b""))}),
+        ('file "/a" exists already, but EXCLUSIVE4 creates a new file', {"how": Openhow(1, 2, bytes(8))}))
     seqid = 3
     for text, asked in refused:
         story.open(seqid, NO_HANDLE if text in NO_HANDLE else (text, "OPEN"), **asked)
         seqid += text not in NO_HANDLE
-    other = "of the delegation's stateid: the stateid is of epoch 3, and this server's is 1"
+    other = "of the delegation's stateid: the stateid has epoch 3, but this server has epoch 1"
     story.open(seqid, (other, STATEIDS), claim=Claim(2, b"a", state(1, epoch=3)))
     other = f"of the delegation's stateid: the stateid is that of state 1, an {OPEN_A}; a delegation is wanted here"
     story.open(seqid, (other, STATEIDS), claim=Claim(2, b"a", state(1)))
@@ -369,7 +370,7 @@ def shares() -> Story:
             "READ, which this OPEN denies, since entry 2")
     story.open(1, (both, share), b"B", 3, 1)
     downgrade = OpenDowngrade(state(1, 4), 5, 1, 0)
-    pairs = "access 1 and deny 0 are no union of pairs that the open has kept of its OPENs: 1 and 1, 1 and 2, 3 and 0"
+    pairs = "access 1 and deny 0 are no union of pairs with which the open was opened: 1 and 1, 1 and 2, 3 and 0"
     story.call(Opnum.OPEN_DOWNGRADE, downgrade, (pairs, "OPEN_DOWNGRADE"))
     story.open(1, owner=b"C", name=b"b", access=2, deny=1)
     unconfirmed = ('open owner "C" of client 1 denies READ of file "/b" since entry 10 (it isn\'t confirmed, which '
@@ -392,17 +393,17 @@ def many_shares() -> Story:
 
 def locks() -> Story:
     story = begun()
-    reclaims = "it reclaims, and no lock outlives a run"
+    reclaims = "it reclaims, but no lock outlives a run of the server"
     story.lock_first(3, state(1, 2), 1, (reclaims, "LOCK"), reclaim=1)
     story.lock_first(4, state(1, 2), 1, ("a length of 0 names no bytes", RANGES), length=0)
     far = f"offset 2 and length {ALL - 1} add up to more than 2^64 - 1"
     story.lock_first(5, state(1, 2), 1, (far, RANGES), offset=2, length=ALL - 1)
     story.lock_first(6, state(1, 2), 1)
-    held = ('lock owner "x" of client 1 holds bytes 0 to 9 of file "/a" for writing, by state 2, which was changed '
+    held = ('lock owner "x" of client 1 holds bytes 0 to 9 of file "/a" for writing, in state 2, which was changed '
             "last by entry 7 (LOCK)")
     story.lock_first(7, state(1, 2), 1, (held, RANGES), LockOwner(1, 1, b"y"), 1)
     story.call(Opnum.LOCKT, Lockt(1, 9, 1, LockOwner(1, 1, b"y")), (held, RANGES))
-    later = "state 2 has seqid 1 since entry 7 (LOCK), and the stateid has the later 2"
+    later = "state 2 has seqid 1 since entry 7 (LOCK), but the stateid has the later 2"
     story.lock_next(2, state(2, 2), (later, STATEIDS))
     held = 'lock owner "x" of client 1 holds bytes of file "/a" (state 2)'
     released = ReleaseLockowner(LockOwner(1, 1, b"x"))
@@ -410,14 +411,14 @@ def locks() -> Story:
     story.unlock(2, state(2))
     story.unlock(3, state(2, 2), ("a length of 0 names no bytes", RANGES), 0)
     story.call(Opnum.LOCK, Lock(1, 0, 5, ALL, KnownLocker(state(2, 2), 4)))
-    held = ('lock owner "x" of client 1 holds the bytes from 5 on of file "/a" for reading, by state 2, which was '
+    held = ('lock owner "x" of client 1 holds the bytes from 5 on of file "/a" for reading, in state 2, which was '
             "changed last by entry 14 (LOCK)")
     story.call(Opnum.LOCKT, Lockt(2, 0, ALL, LockOwner(1, 1, b"y")), (held, RANGES))
-    place = 'the current filehandle is that of directory "/d", and no file\'s'
+    place = 'the current filehandle is that of directory "/d", which is no file'
     story.call(Opnum.LOCKT, Lockt(1, 0, 1, LockOwner(1, 1, b"y")), (place, "LOCKT"), DIRECTORY)
     story.open(8, owner=b"A", access=1, name=b"b")
-    mode = ('the lock takes access to WRITE, and state 3, an open of file "/b" by open owner "A" of client 1, has '
-            "access to READ alone")
+    mode = ('the lock needs access to WRITE, but state 3, an open of file "/b" by open owner "A" of client 1, has '
+            "access only to READ")
     story.lock_first(9, state(3), 5, (mode, "LOCK"), filehandle=OTHER_FILE)
     return story
 
@@ -435,10 +436,10 @@ def owners_that_are_forgotten() -> Story:
     story.read(state(1, 2), (closed, STATEIDS))
     story.introduce(b"c2")
     story.confirm_client(2, 2)
-    story.close(3, state(1, 2, client=2), ("state 1 was given to client 1, and the stateid is one of client 2", OWNERS))
+    story.close(3, state(1, 2, client=2), ("state 1 was given to client 1, but the stateid names client 2", OWNERS))
     # Entries 12 to 16: it comes again, by another open.
     story.open(7)
-    unconfirmed = ('open owner "A" of client 1 isn\'t confirmed: it has opened the file in entry 12, and no '
+    unconfirmed = ('open owner "A" of client 1 isn\'t confirmed: it has opened the file in entry 12, but no '
                    "OPEN_CONFIRM has followed")
     story.close(8, state(2), (unconfirmed, STATEIDS))
     story.close(3, state(1, 2), ended)

@@ -46,7 +46,7 @@ def ending_wanted(places, length, count):
         return f"the file ends inside entry {whole}, of which it has {length - places[whole]} bytes"
     if whole == count:
         return None
-    place = f"behind entry {whole - 1}" if whole else "before its first entry"
+    place = f"after entry {whole - 1}" if whole else "before its first entry"
     return f"the file ends {place}" + (f", and says that it has {count}" if count else "")
 
 
@@ -117,8 +117,8 @@ LINES = [
     "OPEN NFS4_OK 1 1 257 1 1 u64:0 u64:0 6 0 0", "OPEN_CONFIRM NFS4_OK 2 1 257 1",
     "OPEN NFS4_OK 3 1 257 1 1 u64:0 u64:0 4 0 1 1 1 257 2 0 0 0 0 0  # gives client 257 (slot 1, second) state 2, a "
     "delegation for reading",
-    "the path of client 257 (slot 1, second) is marked down",
-    "DELEGRETURN NFS4_OK  # client 257 (slot 1, second) gives state 2 back",
+    "the callback path of client 257 (slot 1, second) is marked down",
+    "DELEGRETURN NFS4_OK  # client 257 (slot 1, second) returns state 2",
     "client 257 (slot 1, second) expires, seen at 0, now 91",
 ]
 
@@ -239,7 +239,7 @@ LISTED = [
     '2: moment 0, AUTH_NONE, file "/a": SETATTR 0 0 0 0 1 16 8 0x00000000 0x00000000 -> SETATTR NFS4_OK 1 16',
     '3: moment 0, AUTH_NONE, file "/a": SETATTR 0 0 0 0 2 0 2 4 0x00000180 -> SETATTR NFS4ERR_ROFS 0']
 NOT_LISTED = {1: "    attribute 54 (time_modify_set) can only be set (RULES: GETATTR; RFC 7530, 5.5)",
-              3: "    attribute 33 (mode) stays what it is for good (RULES: SETATTR; RFC 7530, 16.32)"}
+              3: "    attribute 33 (mode) never changes (RULES: SETATTR; RFC 7530, 16.32)"}
 
 
 def test_for_clients(put, tmp_path):
@@ -279,7 +279,7 @@ def test_data(put):
     path = put("data", journal_bytes(server.journal()))
     expect_tool("show_journal", ["--words", path], lines)
     expect_tool("show_journal", ["--words", "--whole", path], whole)
-    many = " bytes add up to {}, and a file has 65536 at most (RULES: WRITE; RFC 7530, 16.36)"
+    many = " bytes add up to {}, but a file has at most 65536 bytes (RULES: WRITE; RFC 7530, 16.36)"
     reasons = ["    offset 0 and 70000" + many.format(70000), "    offset 4294967296 and 66" + many.format(2**32 + 66)]
     for words, of in (([], lines), (["--whole"], whole)):
         expect_tool("explain", ["--words", *words, path], [of[2], reasons[0], of[3], reasons[1]])
@@ -292,7 +292,8 @@ def test_explained(put):
     stale = client._replace(answer=client.answer._replace(status=10022))
     journal = confirmed._replace(entries=[*confirmed.entries, ends, stale])
     lines = [shown(journal)[4],
-             "    client 1 was removed by entry 3, as its lease was over (RULES: SETCLIENTID_CONFIRM; RFC 7530, 9.5)"]
+             "    client 1 was removed by entry 3, because its lease had expired (RULES: SETCLIENTID_CONFIRM; RFC 7530, "
+             "9.5)"]
     expect_tool("explain", [put("refused", journal_bytes(journal))], lines)
     expect_tool("explain", [put("refused.part", beginning_of(journal) + u32(1))],
                 lines + ["the file ends inside entry 5, of which it has 4 bytes"])
@@ -304,16 +305,16 @@ def test_explained(put):
 
 
 def test_again(put):
-    """The entries that have kept answers, alone, also of a beginning; and none."""
+    """Only the entries that are replays, also of a beginning; and none."""
     journal = kept_answers().server.journal()
     owners = 'open owner "A"', 'lock owner "x"'
-    opener, locker = (f"by {owner} of client 1 is the request of entry" for owner in owners)
-    lines = [f"3: OPEN {opener} 2 again", f"5: OPEN_CONFIRM {opener} 4 again", f"8: OPEN_DOWNGRADE {opener} 7 again",
-             f"9: OPEN_DOWNGRADE {opener} 7 again", f"11: LOCK {opener} 10 again", f"13: LOCK {locker} 12 again",
-             f"15: LOCKU {locker} 14 again", f"17: OPEN {opener} 16 again", f"19: CLOSE {opener} 18 again"]
+    opener, locker = (f"by {owner} of client 1 is a replay of entry" for owner in owners)
+    lines = [f"3: OPEN {opener} 2", f"5: OPEN_CONFIRM {opener} 4", f"8: OPEN_DOWNGRADE {opener} 7",
+             f"9: OPEN_DOWNGRADE {opener} 7", f"11: LOCK {opener} 10", f"13: LOCK {locker} 12",
+             f"15: LOCKU {locker} 14", f"17: OPEN {opener} 16", f"19: CLOSE {opener} 18"]
     expect_tool("explain", ["--again", put("again", journal_bytes(journal))], lines)
     expect_tool("explain", ["--again", put("again.part", beginning_of(journal)[:places_of(journal)[9]])],
-                lines[:3] + ["the file ends behind entry 8"])
+                lines[:3] + ["the file ends after entry 8"])
     expect_tool("explain", ["--again", put("none again", journal_bytes(sample()))], [])
 
 
@@ -372,7 +373,7 @@ ENDS = {
     "ended, under clients": (sample_for_clients, replace_by(sample_for_clients), [None], ""),
     "removed": (sample, remove, [INSIDE], GONE), "renamed": (sample, rename, [INSIDE], GONE),
     "interrupted": (sample, interrupt, [INSIDE], ""),
-    "written to its end": (sample, write_rest, [None, f"the file ends behind entry {LAST_ENTRY}"], GONE)}
+    "written to its end": (sample, write_rest, [None, f"the file ends after entry {LAST_ENTRY}"], GONE)}
 
 
 @pytest.mark.parametrize("name", ENDS)

@@ -252,7 +252,7 @@ def test_answer_again(server):
     """The answer in the server's place is kept: the same request gets it again, behind the operations before it, which
     are run again; and another request with its sequence id is BAD_SEQID."""
     with relayed(server, "answer DELAY LOCK 2", status=1, wrong=[r"doesn't move on: LOCK"],
-                 told=[r"^1: answered \S*BAD_SEQID in the server's place$", "the kept answer"]) as (client, relay, _):
+                 told=[r"^1: answered \S*BAD_SEQID in the server's place$", "the stored reply"]) as (client, relay, _):
         client.begin()
         lock = client.at_file(client.next_lock_words(2))
         before = len(relay.heard)
@@ -309,7 +309,7 @@ def test_fault_before(server):
     """Where an operation before it isn't OK, that reply is given, and the fault waits. Results have the form that RFC
     7531 gives them."""
     with relayed(server, "answer DELAY READ 1", "answer GRACE SETATTR 1",
-                 told=["given as it is; the fault waits$", r"\b[23] faults, 0 wrong"]) as (client, relay, _):
+                 told=["passed on unchanged; the fault waits$", r"\b[23] faults, 0 wrong"]) as (client, relay, _):
         client.begin()
         expect("READ of no file", status_of(client, words(PUTFH) + opaque(b"nfh1none"), client.read_words())[1], 1)
         expect("READ", status_of(client, *client.at_file(client.read_words())), (DELAY, 2))
@@ -426,7 +426,7 @@ def test_results(is_wrong):
             peer.send(compound(number, words(SETATTR) + ARGUMENTS[SETATTR][0], *asked, last))
             peer.receive()
     wrong = [rf"^WRONG \d+: answered \S*OK, another answer than \S*OK{KEPT}"] * (len(found) if is_wrong else 0)
-    told = [] if is_wrong else ["the kept answer", rf"\b{len(found)} faults, 0 wrong"]
+    told = [] if is_wrong else ["the stored reply", rf"\b{len(found)} faults, 0 wrong"]
     between.expect_told(int(is_wrong), wrong, told)
 
 
@@ -667,13 +667,14 @@ def test_long_records():
             with Peer(between.address) as peer:
                 peer.send(begin)
                 expect("the end of its connection", peer.receive(), b"")
-    between.expect_told(told=[f"^connection {number}: closed, as its client sends a record of more than {LIMIT} bytes$"
+    between.expect_told(told=[f"^connection {number}: closed, because its client sends a record of more than {LIMIT} "
+                              "bytes$"
                               for number in (2, 3)])
     with Listener(lambda heard: heard.send(words(0x80000000 + LIMIT + 1))) as server, \
             Between(server.address) as between, Peer(between.address) as peer:
         peer.send(call(1, NULL))
         expect("the end of its connection", peer.receive(), b"")
-    between.expect_told(told=[f"^connection 1: closed, as its server sends a record of more than {LIMIT} bytes$"])
+    between.expect_told(told=[f"^connection 1: closed, because its server sends a record of more than {LIMIT} bytes$"])
 
 
 def test_many_connections():
@@ -696,7 +697,7 @@ def test_many_connections():
         expect("one that comes later", time.monotonic() < until, True)
         for peer in peers:
             peer.socket.close()
-    between.expect_told(told=["^a connection is closed, as there are 256$", rf"\b{MOST + 1} connections, "])
+    between.expect_told(told=["^a connection is closed, because 256 are open$", rf"\b{MOST + 1} connections, "])
 
 
 def test_as_it_is():
@@ -720,4 +721,4 @@ def test_nobody_there():
         bound.bind(("127.0.0.1", 0))
         with Between(bound.getsockname()) as between, Peer(between.address) as peer:
             expect("the end of a connection", peer.receive(), b"")
-    between.expect_told(told=[r"^a connection is closed, as 127\.0\.0\.1:\d+ isn't reached$"])
+    between.expect_told(told=[r"^a connection is closed, because 127\.0\.0\.1:\d+ can't be reached$"])

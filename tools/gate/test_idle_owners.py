@@ -124,7 +124,7 @@ def test_locks_held(command, path_of):
     calls = [entry.opnum for entry in journal.entries if getattr(entry, "principal", None)]
     lock = journal.entries.index(next(it for it in journal.entries if getattr(it, "opnum", None) == LOCK))
     expect("the calls behind the LOCK", calls[calls.index(LOCK) + 1:], [CLOSE, CLOSE, LOCKU, CLOSE])
-    held = (f'lock owner "{client.locker.decode()}" of client 1 holds bytes 1000 to 1009 of file "/a" for writing, by '
+    held = (f'lock owner "{client.locker.decode()}" of client 1 holds bytes 1000 to 1009 of file "/a" for writing, in '
             f"state 2, which was changed last by entry {lock} (LOCK)")
     lines = tool("explain", path)[1::2]
     expect("the reason", lines[0], f"    {held} (RULES: CLOSE; RFC 7530, 16.2)")

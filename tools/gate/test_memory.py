@@ -123,7 +123,8 @@ def expect_end(served):
     """It ends with its input: its lines."""
     if served.program.stdin is not None:
         served.end_input()
-    status, output, errors = served.end()
+    # A journal of some hundred MiB takes its time on a busy disk.
+    status, output, errors = served.end(3 * PATIENCE)
     if (status, output) != (0, b""):
         raise Wrong(f"it ends with {status}, and with these lines at last: {errors[-2000:].decode()}")
     return Lines(errors)

@@ -222,14 +222,14 @@ def test_lines():
     assert named_line_of(unknown, tree).endswith(" -> 7 NFS4ERR_NOTSUPP")
     returned = call_of(Opnum.DELEGRETURN, u32(1, 1, 2, 3), Answer(Opnum.DELEGRETURN, Status.OK, b""), 1)
     assert named_line_of(returned, tree).endswith(
-        "DELEGRETURN deleg_stateid=1:1:2:3 -> NFS4_OK  # client 2 gives state 3 back")
+        "DELEGRETURN deleg_stateid=1:1:2:3 -> NFS4_OK  # client 2 returns state 3")
 
 
 def test_other_entries():
     assert [named_line_of(entry, Tree()) for entry in (
         Expire(1, 2, 93), Revoke(7, 100), Path(1, 0), Forget(OpenOwner(1, 257, b"\0A"), 9))] == [
             "client 1 expires, seen at 2, now 93", "the delegation of state 7 is revoked, now 100",
-            "the path of client 1 is marked down",
+            "the callback path of client 1 is marked down",
             r'open owner "\x00A" of client 257 (slot 1, second) is forgotten, now 9']
 
 
@@ -266,8 +266,8 @@ def delays():
 
 # The ends of the lines from entry 9 on.
 SAID = ["-> NFS4ERR_DELAY  # a delegation conflicts", "-> NFS4ERR_DELAY  # a delegation conflicts",
-        "-> NFS4ERR_DELAY  # a delegation conflicts", "-> NFS4ERR_DELAY  # the kept answer of entry 11",
-        "-> NFS4_OK  # client 1 gives state 4 back", "-> NFS4ERR_DELAY  # the kept answer of entry 11"]
+        "-> NFS4ERR_DELAY  # a delegation conflicts", "-> NFS4ERR_DELAY  # the stored reply of entry 11",
+        "-> NFS4_OK  # client 1 returns state 4", "-> NFS4ERR_DELAY  # the stored reply of entry 11"]
 
 
 @pytest.mark.parametrize("words", [[], ["--words"]])

@@ -1,9 +1,11 @@
-"""What the pages say is there (`tools/check_pages`), each fault of a page that is made up is told, and the numbers of the
-repository are told."""
+"""What the pages say is there, and their sentences are as they should be (`tools/check_pages`). Each fault of a made-up
+page is found. The numbers of the repository are printed."""
 import pytest
 
 from gate.numbers import told
-from gate.pages import BUDGETS, CRATE, Page, Sources, above_budget, faults_of, pages
+from gate.pages import Page, Sources, faults_of, helps, pages
+from gate.sentences import (EXCEPTIONS, GLOSSARY, counted, faults_of_all, items_of, sentences_of, unused,
+                            wrong_sentences, wrong_words)
 
 pytestmark = pytest.mark.quick
 
@@ -52,8 +54,19 @@ def test_pages(sources, tell):
     tell(f"{len(found)} pages, {sum(len(page.spans) for page in found):,} words in backticks")
 
 
-def test_budgets():
-    faults = above_budget(pages())
+def test_sentences(tell):
+    used, texts = set(), {page.path: page.text for page in pages()}
+    faults = faults_of_all(texts, used) + unused(used)
+    assert not faults, "\n".join(faults)
+    counts = [counted(text) for text in texts.values()]
+    tell(f"{sum(it.sentences for it in counts):,} sentences, of {sum(it.words for it in counts):,} words")
+
+
+def test_helps():
+    """The help of each command of tools is written as the pages are."""
+    used = set()
+    faults = [f"{path}:{line}: {fault}" for path, text in helps().items()
+              for line, fault in [*wrong_sentences(path, text, used), *wrong_words(path, text, used)]]
     assert not faults, "\n".join(faults)
 
 
@@ -72,12 +85,51 @@ def test_made_up(sources):
     assert faults_of(page, sources) == ["docs/CLIENTS.md:1: the name IsRuledd"]
 
 
-def test_made_up_budgets():
-    counts = BUDGETS | {"crates/nfs_core/README.md": CRATE, "crates/xdr/README.md": CRATE + 1}
-    made = [Page(path, "word " * (count + (path == PATH))) for path, count in counts.items()]
-    assert above_budget(made) == [f"{PATH}: 2,501 words, above 2,500", "crates/xdr/README.md: 181 words, above 180"]
-    crates = [Page(f"crates/number_{number}/README.md", "word " * CRATE) for number in range(30)]
-    assert above_budget(made[:4] + crates) == ["the crates' pages: 5,400 words, above 3,900"] + [
-        f"{path}: no such page, which has a budget" for path in list(BUDGETS)[4:]]
-    made[-1] = Page("crates/xdr/README.md", "word " * 100)
-    assert above_budget(made + crates[:20])[1:] == ["all pages: 38,431 words, above 38,000"]
+LONG = "Word " + "word " * 29
+# The text of a page, and its sentences as (line, words).
+SENTENCES = {
+    "One two. Three `four five. Six` and\nseven, e.g. eight; nine: ten.": [(1, 2), (1, 8)],
+    "Is it so? (Yes!) \"No.\" *Or* 3.5 - of 9.1.": [(1, 3), (1, 1), (1, 1), (1, 4)],
+    "# A heading of words\n\n- an item\n  goes on\n- another. With two\n  1. nested\n\n  A paragraph.": [
+        (3, 4), (5, 1), (5, 2), (6, 1), (8, 2)],
+    "> A quotation\n> goes on.\n\n[A link](to/a.page#part) of four.": [(1, 4), (4, 4)],
+    "| A head | two |\n|---|:--|\n| a cell. Of two `a | b` | |": [(1, 2), (1, 1), (3, 2), (3, 3)],
+    "Code:\n\n    $ one two three\n    four\n\n```\nfive six\n```\nAnd so on.": [(1, 1), (9, 3)],
+    "- item\n\n      code in it\n\n- with - a dash": [(1, 1), (5, 3)]}
+# The same, and the faults of its sentences.
+ILL_WRITTEN = {
+    f"Yes. {LONG}more.": ["1: a sentence of 31 words: Word word word word word word word word .."],
+    f"- {LONG}\n- {LONG}\n\n| {LONG} | {LONG}more |": [
+        "4: a sentence of 31 words: Word word word word word word word word .."],
+    "Right.\n\nIt comes\nBehind it, and `behind`, behind-hand.": ["3: the word 'Behind': after"],
+    "It called the\nclient back; a lock in its way.": [
+        "1: the word 'called the client back': recalled, sends a callback", "1: the word 'in its way': conflicts with"],
+    "It lets go of a growth.": ["1: the word 'growth': allocation", "1: the word 'lets go': cancels"],
+    "A call of a client goes back. An understanding, behindhand, of standard input that misunderstood.": [],
+    "A seat. A [seat](#seats).": ["1: 'seat' isn't linked at its first use"],
+    "A [seat](../docs/GLOSSARY.md). Seats.": [],
+    "A *seat* is a place, and a **mutant** a wrong body. `seat`": [],
+    "# Seats\n\n[its place](seats.md); *so* the seat *is*": ["3: 'seat' isn't linked at its first use"]}
+
+
+def test_made_up_sentences():
+    for text, expected in SENTENCES.items():
+        found = [sentence for item in items_of(text) for sentence in sentences_of(item)]
+        assert [(it.line, it.words) for it in found] == expected, text
+    for text, faults in ILL_WRITTEN.items():
+        assert faults_of_all({PATH: text}, set()) == [f"{PATH}:{fault}" for fault in faults], text
+    assert faults_of_all({GLOSSARY: "A seat."}, set()) == []
+
+
+def test_exceptions():
+    one, used = EXCEPTIONS[0], set()
+    assert faults_of_all({one.page or PATH: f"> {LONG}{one.words}, behind it"}, used) == []
+    assert used == {one}
+    assert unused(used) == [f"no page needs the exception {it.words!r} any more" for it in EXCEPTIONS[1:]]
+    assert all(it.reason for it in EXCEPTIONS)
+
+
+def test_counts():
+    assert counted(f"Two words. {LONG}more") == (33, 2, 1)
+    assert counted(f"Two words. {LONG}more").mean == 16.5
+    assert counted("# Nothing\n").mean == 0

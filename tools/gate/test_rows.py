@@ -277,7 +277,7 @@ PROGRAMS = {
     "no memory": ("#!/bin/sh\necho rows: out of memory >&2; exit 2\n", (2, "rows: out of memory\n"), ()),
     "ended": ("#!/bin/sh\nexit 7\n", (2, "rows: the program ends with status 7: \n"), ()),
     "other journal": (OTHER_JOURNAL.format(python=sys.executable, program=PROGRAM),
-                      (1, "{row}:1: NULL\n    the journal isn't the one that is left where no state is shared\n"
+                      (1, "{row}:1: NULL\n    the journal differs from that of a run without shared state\n"
                        "1 rows in 1 files: 1 failed, 0 files not read\n"), ("--shared",))}
 
 

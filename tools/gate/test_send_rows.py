@@ -219,7 +219,7 @@ WRONG = [
     0 1 0
   want compound 1 NFS4_OK""", "call 1: status of the COMPOUND wanted NFS4_OK, got NFS4ERR_MINOR_VERS_MISMATCH\n"),
     ("send bytes\n    0x80040001 1\n  want null 1", "call 1: the connection ends without a reply\n"),
-    ("send null 1\n  want null 1\n  want null 2", "    behind the last call: no reply\n"),
+    ("send null 1\n  want null 1\n  want null 2", "    after the last call: no reply\n"),
 ]
 RIGHT = """row it passes
   send null 1
@@ -261,7 +261,7 @@ def test_unwanted(port, file_of):
     path = file_of("unwanted.rows", "row of a reply\n  send null 1\n  want nothing\n")
     came = (send_named(port, path) for _ in range(TIMES))
     status, said = next((got for got in came if got[0] != 0), (0, ""))
-    assert status == 1 and "    behind the last call: a reply that isn't wanted\n" in said
+    assert status == 1 and "    after the last call: a reply that isn't wanted\n" in said
 
 
 REFUSED = {
@@ -294,7 +294,7 @@ def test_plain(port, file_of):
     assert send("127.0.0.1", port, path) == (0, "1 rows: 0 failed\n")
     status, said = send("127.0.0.1", port, path)
     assert status == 1
-    assert "    call 1, SETCLIENTID: confirm value wanted 1, got 2\n      word  wanted    got\n" in said
+    assert "    call 1, SETCLIENTID: confirm verifier wanted 1, got 2\n      word  wanted    got\n" in said
 
 
 OTHER_BYTE = "row of another reply\n  rule None.\n  send null 7\n  want null 8\n"

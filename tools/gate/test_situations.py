@@ -440,7 +440,7 @@ def test_listing():
     assert lines[::3] == [f"{it.name} (RFC 7530, {it.section})" for it in SITUATIONS.values()]
     place = lines.index("share-denied (RFC 7530, 9.9)")
     assert lines[place + 1:place + 3] == [
-        "    OPEN is refused by SHARE_DENIED, as an open of another owner conflicts.",
+        "    OPEN is refused by SHARE_DENIED, because an open of another owner conflicts.",
         "    crates/rows/data/share.rows, row the deny of an open meets the access of an OPEN"]
 
 
@@ -449,8 +449,9 @@ def test_required():
     names = ["lock-split", "share-denied", "lock-merged", "lock-merged"]
     assert [it.name for it in missing(names, COUNTS)] == ["lock-merged"]
     assert require(names, COUNTS) == [
-        "lock-merged (RFC 7530, 16.10.5) was required, and no client met it: LOCK joins its bytes to others that the "
-        "owner holds in the same mode. An example: crates/rows/data/lock.rows, row locks that touch"]
+        "lock-merged (RFC 7530, 16.10.5) was required, and no client met it: LOCK adds bytes to others that the "
+        "owner holds in the same mode: the ranges become one. An example: crates/rows/data/lock.rows, row locks that "
+        "touch"]
     assert require(names[:2], COUNTS) == []
 
 

@@ -285,7 +285,7 @@ def test_command_that_hears_no_signal(tree):
        "and BADXDR no entry") for name in ("FOO", "RESOURCE", "NFS4ERR_BADXDR")),
     (["--with", "best"], "--with best: proved, release, unproved or model"), (["--port"], "--port is no option: see "
      "start --help"), (["--journal"], "--journal wants a value"), (["--seconds", "x"], "--seconds x: a number of seconds"),
-    (["--build", "--test"], "--test: only one of --build, --prove and --test"), (["--"], "a command has to come behind --"),
+    (["--build", "--test"], "--test: only one of --build, --prove and --test"), (["--"], "a command has to follow --"),
     (["--tree", "/nonexistent"], "--tree /nonexistent: there is no such file, or it can't be read")])
 def test_wrong_words(tree, words, line):
     assert tree.run(*words) == (2, "", f"start: {line}\n")
@@ -293,7 +293,7 @@ def test_wrong_words(tree, words, line):
 
 def test_journal_that_can_not_be_written(tree):
     status, _, lines = tree.run("--journal", "/nonexistent/run.journal", "--", *ROW)
-    assert status == 1 and "start: the server ended by a fault\n" in lines and "start: there is no journal\n" in lines
+    assert status == 1 and "start: the server ended with a fault\n" in lines and "start: there is no journal\n" in lines
 
 
 def test_unlawful_journal(tree):

@@ -64,14 +64,14 @@ class Circumstances(Watcher):
             self.add((owner, own[0].state), number, one)
 
     def note_reclaim(self, number: int, entry: Call, reason: Reason) -> None:
-        text = "the client reclaims, and this server has no grace period"
+        text = "the client reclaims, but this server has no grace period"
         self.add(None, number, Repeated("reclaim-without-grace", client_of(entry, self.server), text))
 
     def note_stale(self, number: int, entry: Call, reason: Reason) -> None:
         if isinstance(reason.facts, EpochFacts) and not is_made_up(reason):
             given, expected = reason.facts.given, reason.facts.expected
             named = "clientid" if reason.facts.stateid is None else "stateid"
-            text = f"a {named} is of epoch {given}, and this run of the server has epoch {expected}"
+            text = f"a {named} has epoch {given}, but this run of the server has epoch {expected}"
             self.add((named, given), number, Repeated("stale-from-another-run", client_of(entry, self.server), text))
 
     def note_callback(self, number: int, entry: Call) -> None:
@@ -88,7 +88,7 @@ class Circumstances(Watcher):
 def unusable_words(callback: Callback) -> str:
     named = f"the callback has netid {name_words(callback.netid)} and address {name_words(callback.address)}"
     if callback.netid != b"tcp":
-        return f"{named}; this server makes callbacks over tcp with IPv4 alone"
+        return f"{named}; this server makes callbacks only over tcp with IPv4"
     return f"{named}, which isn't of the form h1.h2.h3.h4.p1.p2 with a port above 0"
 
 

@@ -23,7 +23,7 @@ def options_of(text: str) -> argparse.ArgumentParser:
                                      formatter_class=argparse.RawDescriptionHelpFormatter)
     parser.add_argument("--warnings", action="store_true", help="let warnings count as errors do")
     parser.add_argument("--allow", action="append", default=[], type=allowance, metavar="FINDING[=CLIENT]",
-                        help="leave a finding out, of all clients or of one; behind `=` nothing for `of no client`")
+                        help="leave a finding out, of all clients or of one; nothing after `=` means `of no client`")
     parser.add_argument("--require", action="append", default=[], type=situation_name, metavar="SITUATION",
                         help="make it an error if no client met this situation")
     parser.add_argument("--tried", action="store_true", help="also print how often each client met each situation")

@@ -44,7 +44,7 @@ ERRORS = (
      "A right client keeps the stateids of opens, locks and delegations apart, and sends the kind that the operation "
      "takes."),
     ("stateid-of-other-file", "9.1.4",
-     "A right client keeps a stateid with its file, and sends it with that file's filehandle alone."),
+     "A right client keeps a stateid with its file, and sends it only with that file's filehandle."),
     ("stateid-unknown", "9.1.4",
      "A right client sends stateids as the server answered them, with all of their bytes, and makes up none."),
     ("stateid-closed", "9.1.4",
@@ -63,12 +63,12 @@ ERRORS = (
      "A right client sends the same sequence id again after the errors that section 9.1.7 lists, BAD_STATEID among "
      "them."),
     ("sequence-id-kept-after-counted-refusal", "9.1.7",
-     "A right client adds one to the sequence id after each answer but the errors that section 9.1.7 lists."),
+     "A right client adds one to the sequence id after each answer, except the errors that section 9.1.7 lists."),
     ("other-request-with-last-id", "9.1.7",
      "A right client sends a request again unchanged, and gives each new request of an owner the next sequence id."),
     ("new-lock-owner-again", "16.10",
-     "A right client sends new_lock_owner in the first LOCK of an owner on a file alone, and the lock stateid in later "
-     "ones."),
+     "A right client sends new_lock_owner only in an owner's first LOCK on a file, and the lock stateid in later "
+     "LOCKs."),
     ("sequence-id-skipped", "9.1.7",
      "A right client adds exactly one to the sequence id for each request of the owner that counts."),
     ("sequence-id-reused", "9.1.7",
@@ -77,7 +77,7 @@ ERRORS = (
      "A right client renews its lease in time, by RENEW with its present clientid or by any use of its stateids."),
     ("continues-with-dead-clientid", "9.6.2, 9.6.3",
      "A right client sends SETCLIENTID and its confirmation after EXPIRED or STALE_CLIENTID; then it opens and locks "
-     "anew."),
+     "again."),
     ("delegation-not-returned", "10.4.6",
      "A right client answers CB_RECALL, writes back what it has changed, and sends DELEGRETURN within the lease."),
     ("read-without-access", "9.1.6",
@@ -87,7 +87,7 @@ ERRORS = (
     ("lock-without-access", "9.1.6",
      "A right client takes a READ lock by an open with access to READ, and a WRITE lock by one with access to WRITE."),
     ("write-beyond-delegation", "10.4",
-     "A right client writes by a delegation for writing alone, and opens for WRITE where it has one for reading."),
+     "A right client writes only by a delegation for writing. With one for reading it opens the file for WRITE."),
     ("close-with-locks", "16.2",
      "A right client sends LOCKU for all locks of an open before it sends CLOSE."),
     ("release-of-held-lock-owner", "16.37",
@@ -106,11 +106,11 @@ ERRORS = (
 )
 WARNINGS = (
     ("open-left", "9.10",
-     "A right client sends CLOSE for each open before it ends or begins anew."),
+     "A right client sends CLOSE for each open before it ends or restarts."),
     ("lock-left", "9.10",
-     "A right client sends LOCKU for each lock before it closes the file, ends or begins anew."),
+     "A right client sends LOCKU for each lock before it closes the file, ends or restarts."),
     ("delegation-left", "16.6",
-     "A right client sends DELEGRETURN for each delegation before it ends or begins anew."),
+     "A right client sends DELEGRETURN for each delegation before it ends or restarts."),
     ("lock-owner-left", "16.37",
      "A client that doesn't need a lock owner any more can free it by RELEASE_LOCKOWNER."),
     ("lock-dropped-by-close", "16.2",
@@ -125,7 +125,7 @@ WARNINGS = (
      "A right client keeps its callback service reachable as long as it has delegations, and answers CB_RECALL at "
      "once."),
     ("reclaim-without-grace", "9.6.2",
-     "A right client reclaims only after a restart of the server; it takes NO_GRACE for an answer and opens anew."),
+     "A right client reclaims only after a restart of the server; after NO_GRACE it opens the file again."),
     ("stale-from-another-run", "9.6.2",
      "A right client takes STALE_CLIENTID or STALE_STATEID for a restart of the server, and sends SETCLIENTID."),
     ("callback-address-unusable", "16.33",

@@ -203,7 +203,7 @@ class DeadClientids(Watcher):
         client = id_of(clientid, self.server)
         newer = None if client is None else self.confirmed.get(client)
         if newer is not None and self.given[newer[0]] > self.given[clientid[1]]:
-            text = (f"entry {newer[1]} confirmed {client_words(newer[0])} for this id, and the client goes on by "
+            text = (f"entry {newer[1]} confirmed {client_words(newer[0])} for this id, but the client goes on by "
                     f"{client_words(clientid[1])}, which is dead")
             self.add(clientid, Continued(client, text, (newer[1],)), number)
             if entry.opnum in TRANSFERS and entry.moment - self.server.recorded[newer[1]].moment < PATIENCE:
@@ -226,7 +226,7 @@ class DeadClientids(Watcher):
     def dead_words(self, since: Dead) -> str:
         told = self.server.recorded[since.told]
         status = STATUS_NAMES[told.answer.status]
-        return (f"{self.sentences.entry(since.told)} was answered {status} at {since.moment}, and the client goes on "
+        return (f"{self.sentences.entry(since.told)} was answered {status} at {since.moment}, but the client goes on "
                 f"by the dead clientid {PATIENCE} moments later or more, without a SETCLIENTID")
 
     def add(self, clientid: tuple[int, int], one: Continued, number: int) -> None:

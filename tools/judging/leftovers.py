@@ -46,7 +46,7 @@ class Leftovers(Watcher):
         if isinstance(entry.arguments, SetclientidConfirm):
             replaced = self.replaced_by(entry.arguments)
             if replaced is not None:
-                self.found += self.left_by(replaced, (number,), "as the client begins anew")
+                self.found += self.left_by(replaced, (number,), "when the client restarts")
         elif isinstance(entry.arguments, Close):
             self.found += self.dropped_by(number, entry)
 

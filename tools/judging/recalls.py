@@ -81,7 +81,7 @@ class Recalls(Watcher):
                 it.marked = self.server.moment
         if not entry.is_up and self.path == UP and unanswered:
             what = self.states_words(it.state for it in unanswered)
-            text = f"the path of the client was up, and is marked down while a recall isn't answered: {what}"
+            text = f"the callback path of the client was up, and is marked down while a recall isn't answered: {what}"
             recalls = self.recall_entries(unanswered)
             warning = found("recall-not-answered", unanswered[0].client, (number,), text, recalls)
             self.found.update((it.state, warning) for it in unanswered)
@@ -96,11 +96,11 @@ class Recalls(Watcher):
     def note_revocation(self, number: int, it: Recalled) -> None:
         others = (self.server.begun[it.state], self.server.recalled[it.state])
         if self.has_arrived(it):
-            text = f"{self.recall_words(it)}; it wasn't given back, and entry {number} revoked it"
+            text = f"{self.recall_words(it)}; it wasn't returned, and entry {number} revoked it"
             self.found[it.state] = found("delegation-not-returned", it.client, (number,), text, others)
         elif it.state not in self.found:
             text = (f"{self.sentences.state(it.state)}, was recalled by {self.sentences.entry(others[1])}; no mark of "
-                    f"the path says that the recall arrived, and entry {number} revoked it")
+                    f"the callback path says that the recall arrived, and entry {number} revoked it")
             self.found[it.state] = found("recall-not-answered", it.client, (number,), text, others)
 
     def recall_words(self, it: Recalled) -> str:
@@ -138,7 +138,7 @@ class Recalls(Watcher):
             return
         (first, since), (last, until) = it.delays[0], it.delays[-1]
         text = (f"{self.recall_words(it)}; another client met DELAY for it from {since} (entry {first}) to {until} "
-                f"(entry {last}), and it isn't given back at the end of the journal")
+                f"(entry {last}), and it isn't returned at the end of the journal")
         entries = tuple(number for number, _ in it.delays)
         severity = None if self.is_whole else Severity.WARNING
         yield found("delegation-not-returned", it.client, (), text, (self.server.begun[it.state], *entries), severity)

@@ -86,5 +86,5 @@ def again_words(entries: tuple[int, ...]) -> str:
     """How often a fault was met behind its first entry."""
     if len(entries) == 1:
         return ""
-    return f"; and once more, in entry {entries[1]}" if len(entries) == 2 else (
+    return f"; and again, in entry {entries[1]}" if len(entries) == 2 else (
         f"; and {len(entries) - 1} more times, the last in entry {entries[-1]}")

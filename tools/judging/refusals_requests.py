@@ -71,7 +71,7 @@ class OfRequests(Finder):
             yield self.fault(name, refused, reason, doubt)
         elif reason.kind in (Kind.CLIENT_EXPIRED, Kind.CLIENT_REPLACED) and not self.was_given(asked):
             found = self.fault(name, refused, reason)
-            yield replace(found, text=f"{found.text}, and never had confirm value {asked.confirm}")
+            yield replace(found, text=f"{found.text}, and never had confirm verifier {asked.confirm}")
 
     def of_replaced_value(self, refused: Refused, reason: Reason) -> Iterator[Fault]:
         """The value of a SETCLIENTID that a later one of its id replaced. That may be a copy of it, as a reply was

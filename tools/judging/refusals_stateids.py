@@ -106,5 +106,5 @@ def made_up_words(refused: Refused, reason: Reason) -> str:
     facts = reason.facts
     assert isinstance(facts, EpochFacts)
     bits = "one" if facts.given else "zero"
-    what = "the clientid" if facts.stateid is None else "the stateid behind its seqid"
+    what = "the clientid" if facts.stateid is None else "the stateid after its seqid"
     return f"{answer_words(refused.call)}: all bits of {what} are {bits}, and no server gives such"

@@ -85,7 +85,7 @@ class SequenceIds(Finder):
             return found
         key, copies = request_of(refused.call), self.memory.late_copies
         copies[key] = copies.get(key, 0) + 1
-        text = f"{found.text}; it is the request of entry {self.memory.counted[key]} again"
+        text = f"{found.text}; it is the request of entry {self.memory.counted[key]}, sent again"
         doubt = "it may be a copy that came late" if copies[key] == 1 else ""
         return replace(found, key=key, text=text, doubt=doubt)
 
@@ -111,7 +111,7 @@ class SequenceIds(Finder):
         """With the entry of the owner that counted last, and those behind it that don't count."""
         which = "lock_seqid" if reason.kind == Kind.LOCK_SEQID_OTHER else "sequence id"
         due = f"{facts.expected} is the next sequence id of {owner_words(facts.owner)}, after {self.entry(facts.entry)}"
-        text = f"{answer_words(refused.call)}: {due}, and the {which} is {facts.given}{more}"
+        text = f"{answer_words(refused.call)}: {due}, but the {which} is {facts.given}{more}"
         others = facts.entry, *(it.entry for it in self.uncounted(facts))
         key = key_of(facts.owner), facts.entry, facts.given
         return replace(fault(name, refused, reason, text), key=key, others=others)

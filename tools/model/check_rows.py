@@ -1,8 +1,8 @@
 #!/usr/bin/env python3
-"""check_rows.py FOLDER|FILE.rows..: runs rows through the model, and compares its replies with those that the rows want.
+"""Runs rows through the model, and compares its replies with the replies that the rows want.
 
-The status is 1 where a row differs, or a file can't be read; and where a row without orders would get something else
-from a server that finds nobody at the callback addresses: over TCP it calls there at any time."""
+The status is 1 if a row differs, or if a file can't be read. A row without orders must also get the same replies from
+a server that reaches nobody at the callback addresses: over TCP it may send callbacks at any time."""
 import argparse
 import sys
 

@@ -158,7 +158,7 @@ def answer_bytes(answer: Answer) -> bytes:
 def read_principal(reader: StrictReader) -> Principal:
     flavor, uid = reader.one_of(2), reader.u32()
     if flavor == wire.AUTH_NONE and uid != 0:
-        raise NotJournal("a uid behind AUTH_NONE")
+        raise NotJournal("a uid after AUTH_NONE")
     return flavor, uid
 
 

@@ -34,7 +34,7 @@ class Events:
             yield self.end_words(found, entry)
         if isinstance(entry, Path) and self.path is not None:
             was, since = self.path
-            yield f"the path of {client_words(entry.client)} was {was} since {self.server.entry_words(since)}"
+            yield f"the callback path of {client_words(entry.client)} was {was} since {self.server.entry_words(since)}"
 
     def ended(self) -> list[Delegation]:
         """The delegations that the entry ended."""
@@ -53,16 +53,16 @@ class Events:
         client, delegation = client_words(found.client), self.delegation_words(found)
         if begun == number:
             return f"{client} gets {delegation}"
-        return f"{client} is told again of {delegation}, which entry {begun} gave it"
+        return f"{client} gets {delegation} again, which entry {begun} granted"
 
     def end_words(self, found: Delegation, entry: Entry) -> str:
         """How a delegation ends by the entry."""
         client, delegation = client_words(found.client), self.delegation_words(found)
-        ended = f"{client} gives back {delegation}"
+        ended = f"{client} returns {delegation}"
         if isinstance(entry, Revoke):
-            ended = f"{client} loses {delegation}, as it is revoked"
+            ended = f"{client} loses {delegation}, because it is revoked"
         elif not self.server.is_live(found.client):
-            ended = f"{client} loses {delegation}, as the client is removed"
+            ended = f"{client} loses {delegation}, because the client is removed"
         since = self.server.recalled.get(found.number)
         if since is None:
             return f"{ended}; it wasn't recalled"

@@ -1,21 +1,26 @@
 #!/usr/bin/env python3
-"""fuzz.py [PROGRAM] [--seed N] [--changes N] [--calls N] [--jobs N] [--ids N] [--profile WORD]: random calls to a built
-`rows`, and between them orders: sweeps, marks of paths, revocations, owners that are forgotten, and recalls that are
-taken. Replies, outcomes and the journal are compared with the model's, until so many LOCKs and LOCKUs were OK.
+"""Sends random calls to a built `rows`, and between them orders: sweeps, path marks, revocations, owners to forget,
+and recalls to take. Replies, outcomes and the journal are compared with the model's, until N LOCKs and LOCKUs were
+OK.
 
-Each run is one server and one connection. In a third of the runs most operations are LOCK, LOCKU and LOCKT, of a few
-lock owners of two clients, at the first and the last bytes; in another third most are OPEN, CLOSE and DELEGRETURN of
-three clients, which get delegations and are called back; and in the last READ and WRITE, by special stateids and by
-those of what these clients have, at the first bytes, round the size, where pages of 4,096 bytes begin and end, and at
-the most that a file has. In half of the runs a CLOSE is refused where bytes are locked; and half of them are under the
-profile "clients", unless --profile says which one all are: then there are listings too, and sizes that are set, near
-what READ and WRITE are near. The other operations with a rule come too. Each operation is made when the model comes to
-it, so that most of them name what is there by then; some are a little off, and some are an earlier one again. At a
-difference the steps that lead to it are printed as a row, without those that it needs not, and the status is 1; and so
-it is where many runs have no READ or WRITE of a case that pages have (`pages.py`).
+Each run is one server and one connection. There are three kinds of runs:
 
-With --ids clients of so many ids come, of which many aren't confirmed: with 300 all slots of clients are taken, again
-and again."""
+- most operations are LOCK, LOCKU and LOCKT, of a few lock owners of two clients, at the first and the last bytes
+- most operations are OPEN, CLOSE and DELEGRETURN of three clients, whose delegations are granted and recalled
+- most operations are READ and WRITE, with special stateids and with those of these clients
+
+READ and WRITE work at the first bytes, near the size, at the borders of pages of 4,096 bytes, and at the largest
+size. In half of the runs a CLOSE is refused while bytes are locked. Half of the runs have the profile "clients",
+unless --profile says which profile all have. Then there are listings too, and sizes that are set. The other
+operations with a rule also come.
+
+Each operation is made when the model comes to it, so that most operations name what exists by then. Some are a little
+off, and some repeat an earlier operation. At a difference the steps that lead to it are printed as a row, without
+needless steps, and the status is 1. It is also 1 if many runs have no READ or WRITE of a case that pages have
+(`pages.py`).
+
+With --ids clients of N ids come, and many aren't confirmed. With 300 all slots of clients are taken, again and
+again."""
 import argparse
 import multiprocessing
 import random
@@ -74,7 +79,7 @@ LOCKING, LENDING, WRITING = range(3)
 LENT = {1: "delegations for reading", 2: "delegations for writing"}
 WHAT = {Expire: "clients removed", Revocation: "delegations revoked", Path: "paths marked",
         Forgetting: "owners forgotten"}
-AGAIN, YIELDED, NONE_LEFT = "slots given again", "records that gave way", "newcomers without a slot"
+AGAIN, YIELDED, NONE_LEFT = "slots given again", "records that were dropped", "newcomers without a slot"
 BACK = "forgotten owners that came again"
 # In so many operations of a few clients each case of pages comes, and in so many under either profile of sizes too.
 ENOUGH, ENOUGH_OF_BOTH = 50_000, 100_000

@@ -1,10 +1,10 @@
 #!/usr/bin/env python3
-"""Audits the file of a journal. It says `lawful: K entries`, or with status 1 that the file is no
-journal, or at which entry an answer is wrong.
+"""Audits the file of a journal. It prints `lawful: K entries`. If the file is no journal, or an answer is wrong, it
+says so and at which entry, with status 1.
 
-A journal has what a server began with, and an entry for each operation on its state and each other change of it:
-docs/JOURNAL.md has the file's layout. It is lawful where each entry may come next, by the model's rules, after those
-before it. `Recorder` is a model that keeps its journal. `Growing` reads a file that is no whole journal yet."""
+A journal has what a server began with, and an entry for each operation on its state and each other change of it.
+docs/JOURNAL.md has the layout of the file. A journal is lawful if the model's rules allow each entry after the
+entries before it. `Recorder` is a model that keeps its journal. `Growing` reads a file that is no whole journal yet."""
 import argparse
 import sys
 from collections.abc import Callable, Iterator
@@ -196,7 +196,7 @@ class Growing:
             return "the file ends before its first entry"
         if self.rest:
             return f"the file ends inside entry {self.entries}, of which it has {len(self.rest)} bytes"
-        place = f"behind entry {self.entries - 1}" if self.entries else "before its first entry"
+        place = f"after entry {self.entries - 1}" if self.entries else "before its first entry"
         return f"the file ends {place}" + (f", and says that it has {self.count}" if self.count else "")
 
 

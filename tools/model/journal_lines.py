@@ -37,7 +37,7 @@ class Remarks:
         if self.replay is None or self.told is None or self.told.reason is None:
             return ""
         again = self.told.reason.again
-        return f"  # the kept answer of entry {again.entry}" if again else "  # a delegation conflicts"
+        return f"  # the stored reply of entry {again.entry}" if again else "  # a delegation conflicts"
 
     def follow(self, number: int) -> None:
         """Replays up to this entry."""

@@ -1,6 +1,6 @@
 #!/usr/bin/env python3
-"""The model in place of `nfs4state once`, with its options: records from standard input to its end, replies to standard
-output, and its journal to a file. So the other scripts can be tried without a built program."""
+"""Takes the place of `nfs4state once`, with its options. It reads records on standard input to its end, and writes
+replies to standard output and its journal to a file. So the other scripts can be tried without a built program."""
 import argparse
 import sys
 from collections.abc import Callable

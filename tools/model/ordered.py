@@ -1,12 +1,17 @@
 #!/usr/bin/env python3
-"""The model in place of the program `rows`: orders from standard input, and what came of each to standard output, by
-the layouts that driver.py has. So rows can be run, and the tools that give orders be tried, without a built program:
+"""Takes the place of the program `rows`: it reads orders on standard input, and writes what came of each to standard
+output, in the layouts of driver.py. So rows, and the tools that give orders, can be tried without a built program:
 
     tools/rows --program tools/model/ordered.py FILE.rows
 
-It takes the orders of connections one after the other, also where a state is to be shared, sweeps at each new moment
-where it is to sweep meanwhile, and never is out of memory; it doesn't look at pieces and rooms. Where the input isn't
-as it should be it ends with status 2 and `rows: invalid input`."""
+It differs from the program in four ways:
+
+- it takes the orders of connections one after the other, even if they are to share a state
+- it sweeps at each new moment, if it is to sweep meanwhile
+- it is never out of memory
+- it doesn't look at pieces and reserved memory
+
+If the input isn't as it should be, it ends with status 2 and `rows: invalid input`."""
 import os
 import sys
 from collections.abc import Callable

@@ -1,15 +1,16 @@
 #!/usr/bin/env python3
-"""The model in place of `nfs4state serve`, with its options, its lines and its statuses: a server on TCP, one for all
-connections, whose leases end. It needs nothing but Python, and gives the same replies; it isn't proved, and slow.
+"""Takes the place of `nfs4state serve`, with its options, its lines and its statuses: the independent model as a TCP
+server. It serves all connections with one state, whose leases end. It needs only Python, and gives the same replies.
+It isn't proved, and it is slow.
 
 Before the first connection it prints the address that it listens on, on standard error. It ends when so many
-connections have come and ended; or it goes on, with --until-input-ends or --until-killed. SIGTERM and Ctrl-C end it,
-too: those that are connected get the replies to what they have sent, and are let go, and the journal is written. Then
-the signal ends the process, so that its status is that of a program which does nothing for it.
+connections have come and ended, or goes on with --until-input-ends or --until-killed. SIGTERM and Ctrl-C end it, too.
+Then connected clients get the replies to what they have sent, their connections are closed, and the journal is
+written. After that the signal ends the process, so its status is that of a program that doesn't handle the signal.
 
-A run that goes on says on standard error what ended a connection otherwise than in order (`connection 17 from
-127.0.0.1:40022: input not read`), and once each what there is no more of (`no more connections: 64 of 64`). Its
-status is 1 only where the run itself had a fault, as that the journal can't be written."""
+A run that goes on says on standard error what ended a connection, unless the client closed it (`connection 17 from
+127.0.0.1:40022: input not read`). It says once what has run out (`no more connections: 64 of 64`). Its status is 1
+only if the run itself had a fault, for example if the journal can't be written."""
 import os
 import signal
 import sys

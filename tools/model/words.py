@@ -159,7 +159,7 @@ def event_line(entry: Expire | Revoke | Path | Forget) -> str:
         return f"the delegation of state {entry.state} is revoked, now {entry.now}"
     if isinstance(entry, Forget):
         return f"{owner_words(entry.owner)} is forgotten, now {entry.now}"
-    return f"the path of {client_words(entry.client)} is marked {'up' if entry.is_up else 'down'}"
+    return f"the callback path of {client_words(entry.client)} is marked {'up' if entry.is_up else 'down'}"
 
 
 def client_words(number: int) -> str:
@@ -195,5 +195,5 @@ def remark_on(call: Call) -> str:
         return f"  # {client_words(number)}" if number >= SLOTS else ""
     if (call.opnum, call.answer.status) == (Opnum.DELEGRETURN, Status.OK):
         stateid = call.arguments.stateid
-        return f"  # {client_words(stateid.client)} gives state {stateid.number} back"
+        return f"  # {client_words(stateid.client)} returns state {stateid.number}"
     return ""

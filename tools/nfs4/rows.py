@@ -40,7 +40,7 @@ FAULTS = ("input ends inside a record", "record too long", *(f"tree refused ({nu
 # Why a line can't be read.
 NO_ROW = "no row has begun: a line `row NAME` comes first"
 NO_MESSAGE = "no message has begun: a line `send ..` or `want ..` comes first"
-NO_WANT = "the row wants nothing: write `want nothing` where no reply comes"
+NO_WANT = "the row wants nothing: write `want nothing` if no reply comes"
 OPEN_QUOTE = "a text has no closing quote"
 NO_WORD = "a word is no number, no name of the protocol, no `hex:`, no `u64:` and no `N*WORD`"
 TOO_LONG = "a message above 1,048,576 bytes"
@@ -49,7 +49,7 @@ NO_XID = "a message has no xid, or a number that is none"
 NO_CREDENTIAL = "after the xid of a call only `credential FLAVOR WORDS` can follow"
 NO_END = "the line goes on after its message"
 NO_NUMBER = "a lease is 1 to 86,400 seconds, an epoch below 2^32, a moment below 2^40 - 2"
-NO_SWEEP = ("no sweep: `sweep SECONDS expired COUNT kept COUNT`, and behind it maybe `revoked COUNT`, and then "
+NO_SWEEP = ("no sweep: `sweep SECONDS expired COUNT kept COUNT`, and after it, if need be, `revoked COUNT`, and then "
             "`forgotten COUNT`")
 NO_MARK = "no mark of a path: `mark CLIENT up` or `mark CLIENT down`, and then `done` or `not live`"
 NO_REVOCATION = "no revocation: `revoke SECONDS none` or `revoke SECONDS state NUMBER`"
@@ -58,7 +58,7 @@ NO_TAKE = "no recall that is taken: `take record` with its words, of which the f
 NO_PENDING = "no number of recalls: `pending COUNT`"
 NO_PROBE = "no client to be tried: `probe CLIENT none` or `probe CLIENT client NUMBER`"
 NO_FAULT = "no fault of a connection"
-NO_SECTIONS = "no sections: `sections RFC NUMBER, SECTION, SECTION`, and behind a semicolon those of another RFC"
+NO_SECTIONS = "no sections: `sections RFC NUMBER, SECTION, SECTION`, and after a semicolon those of another RFC"
 
 
 # Which sections of which RFCs a row is by, such as `RFC 7530, 9.1.7, 16.10; RFC 5531, 9`.

@@ -127,13 +127,13 @@ class Tale:
 
     def tell_kept(self, case: Case, status: int, is_same: bool) -> None:
         """A request with the id of an answer in the server's place is answered so, too."""
-        how = ", the kept answer" if is_same else " in the server's place"
+        how = ", the stored reply" if is_same else " in the server's place"
         self.say_of(case, f"answered {name_of(STATUS_NAMES, status)}{how}")
 
     def tell_before(self, case: Case, reply: Reply) -> None:
         """An operation before one that was to be answered in the server's place isn't OK."""
         self.put_off(case)
-        self.say(f"{case.head} -> {reply.words()}: given as it is; the fault waits")
+        self.say(f"{case.head} -> {reply.words()}: passed on unchanged; the fault waits")
 
     def tell_before_kept(self, case: Case, reply: Reply) -> None:
         """An operation before one with a kept answer isn't OK."""
@@ -178,11 +178,11 @@ class Tale:
         """The owner of a case goes on with another request."""
         where = f"{since(case)}, on {link.place}"
         if case.status is None:
-            self.say_wrong(case, f"in its place comes {call.request.words()}, {where} {ORDER}")
+            self.say_wrong(case, f"another request comes instead: {call.request.words()}, {where} {ORDER}")
             return
         moved = (call.request.seqid - case.call.request.seqid) % 2**32
         if case.is_moving is None or moved == case.is_moving:
-            self.say_of(case, f"behind {case.status_words} its owner goes on with {call.request.words()}, {where}")
+            self.say_of(case, f"after {case.status_words} its owner goes on with {call.request.words()}, {where}")
         else:
             word = "moves on" if not case.is_moving else f"doesn't move on{' by one' if moved else ''}"
             self.tell_moved(case, word, call, link)
@@ -191,17 +191,17 @@ class Tale:
         """The sequence id moves on, or doesn't, and should have done the other."""
         request = case.call.request
         if case.rule.operation == request.name:
-            behind = f"behind {case.status_words} the sequence id {how}"
+            what = f"after {case.status_words} the sequence id {how}"
         else:
-            behind = f"its {request.name} wasn't run, and the sequence id {how}"
-        self.say_wrong(case, f"{behind}: {call.request.words()}, {since(case)}, on {link.place} {ORDER}")
+            what = f"its {request.name} wasn't run, but the sequence id {how}"
+        self.say_wrong(case, f"{what}: {call.request.words()}, {since(case)}, on {link.place} {ORDER}")
 
     def tell_standing(self, case: Case | None, call: Call, link: "Link") -> None:
         """A call comes again on a connection that stands."""
         if case is not None:
-            self.say_wrong(case, f"comes again on {link.place}, which stands {CONNECTION}")
+            self.say_wrong(case, f"comes again on {link.place}, which is still open {CONNECTION}")
         else:
-            self.say_wrong(None, f"{link.place}, {call.words()}: comes again on its connection, which stands "
+            self.say_wrong(None, f"{link.place}, {call.words()}: comes again on its connection, which is still open "
                                  f"{CONNECTION}")
 
     def compare(self, case: Case, call: Call, reply: Reply) -> None:
@@ -220,9 +220,9 @@ class Tale:
         if first is None or now is None:
             self.say_of(case, f"{answered}, without its {call.request.name}")
         elif first == now:
-            self.say_of(case, f"{answered}, the kept answer")
+            self.say_of(case, f"{answered}, the stored reply")
         elif self.may_be_forgotten(case, reply):
-            self.say_of(case, f"{answered}, as of an owner that is forgotten")
+            self.say_of(case, f"{answered}, as for a forgotten owner")
         else:
             self.say_wrong(case, f"{answered}, another answer than {before.words()} {KEPT}")
 

@@ -169,7 +169,8 @@ class Link:
             self.pass_end(source, other, end.args[0])
         except TooLong:
             who = "client" if (source is self.near) != self.is_callback else "server"
-            self.between.say(f"{self.place}: closed, as its {who} sends a record of more than {RECORD_LIMIT} bytes")
+            self.between.say(f"{self.place}: closed, because its {who} sends a record of more than "
+                             f"{RECORD_LIMIT} bytes")
             self.end()
         except OSError:
             self.end()
@@ -420,8 +421,9 @@ class Between:
         self.live: set[Link] = set()
         self.addresses: dict[Address, Address] = {}
         self.is_called = any(rule.is_of_callbacks for rule in rules)
-        # How many connections there are, with those that begin; and how many links there were, by whether of callbacks.
-        self.there = 0
+        # How many connections there are, with those that begin; how many were taken and haven't begun, or been closed; and
+        # how many links there were, by whether of callbacks.
+        self.there, self.beginning = 0, 0
         self.numbers = {False: 0, True: 0}
 
     def say(self, line: str) -> None:
@@ -434,13 +436,17 @@ class Between:
             return self.tale.tell_end()
 
     def settle(self, listener: socket.socket, is_left: bool) -> None:
-        """Waits for some time until each connection that has come has begun; and where callers have left, has ended."""
-        until, quiet = time.monotonic() + SETTLING, 0
-        while quiet < 2 and time.monotonic() < until:
+        """Waits until each connection that has come has begun; and where callers have left, for a second at most, until
+        each has ended."""
+        begun, quiet = time.monotonic(), 0
+        while quiet < 2:
             time.sleep(GLANCE)
             is_coming = bool(select.select([listener], [], [], 0)[0])
             with self.lock:
-                is_busy = self.there > len(self.live) or is_left and any(not link.is_callback for link in self.live)
+                is_coming = is_coming or self.beginning > 0
+                is_busy = is_left and any(not link.is_callback for link in self.live)
+            if time.monotonic() - begun > (PATIENCE if is_coming else SETTLING):
+                return
             quiet = 0 if is_coming or is_busy else quiet + 1
 
     def end_left(self, call: Call) -> None:
@@ -451,21 +457,43 @@ class Between:
 
     def listen(self, listener: socket.socket, target: Address, is_callback: bool = False) -> None:
         """Takes connections, from now on, each of which belongs to one to the target."""
+        ready = select.poll()
+        ready.register(listener, select.POLLIN)
+
         def take_all() -> None:
             while True:
                 try:
-                    near, _ = listener.accept()
-                    start(self.attend, near, target, is_callback)
+                    ready.poll()
+                    self.take(listener, target, is_callback)
                 except (OSError, RuntimeError):
                     # There are no more files or threads.
                     time.sleep(TICK)
         start(take_all)
 
+    def take(self, listener: socket.socket, target: Address, is_callback: bool) -> None:
+        """Takes the connection that waits. Under the lock it either waits or is beginning, so that `settle` sees it."""
+        with self.lock:
+            near, _ = listener.accept()
+            self.beginning += 1
+        try:
+            start(self.attend, near, target, is_callback)
+        except RuntimeError:
+            self.note_begun()
+            raise
+
+    def note_begun(self) -> None:
+        """A connection that was taken has begun, or been closed."""
+        with self.lock:
+            self.beginning -= 1
+
     def attend(self, near: socket.socket, target: Address, is_callback: bool) -> None:
         """Begins a link for a connection that was taken, unless the plan or the number of links forbids it."""
-        far = self.connect(target) if self.take_place() else None
-        if far is None or not self.join(near, far, is_callback):
-            near.close()
+        try:
+            far = self.connect(target) if self.take_place() else None
+            if far is None or not self.join(near, far, is_callback):
+                near.close()
+        finally:
+            self.note_begun()
 
     def take_place(self) -> bool:
         """Whether there may be one more connection, which has its place then."""
@@ -473,7 +501,7 @@ class Between:
             if time.monotonic() < self.away_until:
                 return False
             if self.there >= CONNECTIONS_LIMIT:
-                self.tale.say(f"a connection is closed, as there are {CONNECTIONS_LIMIT}")
+                self.tale.say(f"a connection is closed, because {CONNECTIONS_LIMIT} are open")
                 return False
             self.there += 1
             return True
@@ -490,7 +518,7 @@ class Between:
         try:
             far = socket.create_connection(target, timeout=PATIENCE)
         except OSError:
-            self.say(f"a connection is closed, as {address_text(target)} isn't reached")
+            self.say(f"a connection is closed, because {address_text(target)} can't be reached")
             self.give_place()
             return None
         far.settimeout(None)

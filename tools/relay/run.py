@@ -13,10 +13,12 @@ from relay.plan import NoRule, Rule, rules_of
 # The seconds between two looks at what ends a run, and those in which a command has to end once it is told to.
 TICK, PATIENCE = 0.02, 5
 
+USAGE = "between [--listen ADDR] --to ADDR [--plan FILE] [--rule RULE].. [--seed N] [--lease N] [-- COMMAND..]"
+
 
 def read_options(description: str) -> tuple[argparse.ArgumentParser, argparse.Namespace]:
     parser = argparse.ArgumentParser(description=description, formatter_class=argparse.RawDescriptionHelpFormatter,
-                                     usage=description.partition(": ")[0])
+                                     usage=USAGE)
     parser.add_argument("--listen", metavar="ADDR", default="127.0.0.1:0", help=argparse.SUPPRESS)
     parser.add_argument("--to", metavar="ADDR", required=True, help=argparse.SUPPRESS)
     parser.add_argument("--plan", metavar="FILE", help=argparse.SUPPRESS)

@@ -185,7 +185,7 @@ class Named(Plain):
             for name, credentials in self.clients.items():
                 # One that another principal has is refused as long as it has an open.
                 if not any([begin_anew(peer, name, credential) for credential in credentials]):
-                    return Failure("at the end a client can't begin anew", b"", b"")
+                    return Failure("at the end a client can't restart", b"", b"")
         return None
 
 
@@ -262,7 +262,7 @@ def failure_of_connection(address: tuple[str, int], connection: Connection, send
         got = behind(peer, is_to_end) if is_to_end or is_silent else b""
     if got == left:
         return None
-    return Failure("behind the last call: " + ("a reply that isn't wanted" if got else "no reply"), left, got)
+    return Failure("after the last call: " + ("a reply that isn't wanted" if got else "no reply"), left, got)
 
 
 def failure_of(address: tuple[str, int], row: Row, sender: Plain, is_to_end: bool = False) -> Failure | None:
@@ -277,5 +277,5 @@ def failure_of(address: tuple[str, int], row: Row, sender: Plain, is_to_end: boo
     try:
         ended = sender.end()
     except (NoReply, OSError) as error:
-        ended = Failure(f"at the end a client can't begin anew: {error}", b"", b"")
+        ended = Failure(f"at the end a client can't restart: {error}", b"", b"")
     return failure or ended

@@ -75,7 +75,7 @@ TEXT = Kind("text", Reader.opaque, show_bytes, False)
 MASK = Kind("mask", read_mask, show_mask, False)
 XID = Kind("xid", Reader.u32, number_word, NAMED)
 CLIENTID = Kind("clientid", lambda reader: reader.fixed(8), show_words, DISTINCT)
-CONFIRM = Kind("confirm value", lambda reader: reader.fixed(8), show_long, NAMED)
+CONFIRM = Kind("confirm verifier", lambda reader: reader.fixed(8), show_long, NAMED)
 STATEID = Kind("stateid", lambda reader: reader.fixed(12), show_words, DISTINCT)
 HANDLE = Kind("filehandle", Reader.opaque, show_words, DISTINCT)
 FILEID = Kind("fileid", Reader.u64, str, DISTINCT)
@@ -133,7 +133,7 @@ RESTS: dict[tuple[int, int], Layout] = {
     (Opnum.OPEN, Status.OK): OF_OPEN,
     (Opnum.READ, Status.OK): [("eof", NUMBER), ("data", TEXT)],
     (Opnum.WRITE, Status.OK): [("count", NUMBER), ("committed", NUMBER), ("verifier", VERIFIER)],
-    (Opnum.SETCLIENTID, Status.OK): [("clientid", CLIENTID), ("confirm value", CONFIRM)],
+    (Opnum.SETCLIENTID, Status.OK): [("clientid", CLIENTID), ("confirm verifier", CONFIRM)],
     (Opnum.SETCLIENTID, Status.CLID_INUSE): [("netid", TEXT), ("address", TEXT)],
     **{(opnum, Status.OK): OF_STATE for opnum in (Opnum.CLOSE, Opnum.LOCK, Opnum.LOCKU, Opnum.OPEN_CONFIRM,
                                                   Opnum.OPEN_DOWNGRADE)}}
@@ -160,9 +160,9 @@ def take_attributes(reader: Reader, found: list[Value]) -> None:
     asked = [32 * place + bit for place, word in enumerate(mask) for bit in range(32) if word >> bit & 1]
     for number in asked:
         kind = ATTRIBUTES.get(number, REST)
-        take(values, found, [(kind.name if kind != REST else f"attribute {number} and the bytes behind it", kind)])
+        take(values, found, [(kind.name if kind != REST else f"attribute {number} and the bytes after it", kind)])
     if values.at < len(values.data):
-        take(values, found, [("bytes behind the attributes", REST)])
+        take(values, found, [("bytes after the attributes", REST)])
 
 
 def take_listing(reader: Reader, found: list[Value]) -> None:
@@ -228,7 +228,7 @@ def values_of(record: bytes) -> Reply:
     except Unreadable:
         pass
     if reader.at < len(reader.data):
-        reply.tail.append(Value("bytes behind what can be read", REST, REST.read(reader)))
+        reply.tail.append(Value("bytes after what can be read", REST, REST.read(reader)))
     return reply
 
 

@@ -193,7 +193,7 @@ def run_shared(row: Row, **program: Any) -> list[str]:
         return lines_of(row, shared.wrong)
     alone = run(row, ALONE, PIECE, **program)
     if alone.wrong is None and alone.journal != shared.journal:
-        return ["    the journal isn't the one that is left where no state is shared"]
+        return ["    the journal differs from that of a run without shared state"]
     return lines_of(row, alone.wrong)
 
 
@@ -230,7 +230,7 @@ def lines_of_order(order: Order, got: Any) -> Iterator[str]:
 
 def lines_of_part(part: Part, got: Any, piece: int) -> Iterator[str]:
     if piece < len(part.sent):
-        yield f"    where the input comes in pieces of {piece} bytes:"
+        yield f"    with the input in pieces of {piece} bytes:"
     for whose, fault in (("wanted", part.fault), ("got", got.fault)):
         if fault is not None:
             yield f"    {whose} at the end: fault: {fault}"

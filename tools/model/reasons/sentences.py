@@ -24,7 +24,7 @@ NAMED = 3
 
 
 def sentence(reason: Reason, server: History) -> str:
-    """Why the call is refused, or gets a kept answer."""
+    """Why the call is refused, or gets a stored reply."""
     text = SENTENCES[reason.kind](Sentences(server), reason.facts)
     if reason.also is not None and reason.also.kind in BEFORE:
         text = f"{sentence(reason.also, server)}; {text}"
@@ -32,22 +32,22 @@ def sentence(reason: Reason, server: History) -> str:
 
 
 def again_words(call: Call, again: Again) -> str:
-    """A call that has a kept answer: its owner, and the entry whose answer that is."""
-    return f"{call.opnum.name} by {owner_words(again.owner)} is the request of entry {again.entry} again"
+    """A replay: its owner, and the entry whose answer it gets."""
+    return f"{call.opnum.name} by {owner_words(again.owner)} is a replay of entry {again.entry}"
 
 
 def repeated_words(reason: Reason, count: int) -> str:
     """Of a refusal that came so often, of which this is the reason of the last."""
     text = f"{count} times {STATUS_NAMES[reason.status]}"
     if isinstance(reason.facts, KeptFacts):
-        return f"{text}, the kept answer of entry {reason.facts.entry}"
+        return f"{text}, the stored reply of entry {reason.facts.entry}"
     if not isinstance(reason.facts, DelegationConflicts):
         return text
     conflicts = reason.facts.conflicts
     numbers = " and ".join(str(it.state) for it in conflicts)
     failed = [f"entry {it.marked}" for it in conflicts if it.marked is not None and not it.is_up]
-    text += f", delegation{'s' * (len(conflicts) > 1)} {numbers} not given back"
-    return text + (f", as the recall could not be delivered ({' and '.join(failed)})" if failed else "")
+    text += f", delegation{'s' * (len(conflicts) > 1)} {numbers} not returned"
+    return text + (f", because the recall could not be delivered ({' and '.join(failed)})" if failed else "")
 
 
 def listed(texts: list[str]) -> str:
@@ -88,8 +88,8 @@ class Sentences:
     def state_words(self, state: KeptState) -> str:
         place = self.place(state.file)
         if isinstance(state, Delegation):
-            lent = f"a delegation of {place} for {purpose_of(state.kind)} to {client_words(state.client)}"
-            return f"state {state.number}, {lent}"
+            granted = f"a delegation of {place} for {purpose_of(state.kind)} to {client_words(state.client)}"
+            return f"state {state.number}, {granted}"
         return f"state {state.number}, {KINDS[type(state)]} of {place} by {owner_words(state.owner)}"
 
     # Of the call.
@@ -100,16 +100,16 @@ class Sentences:
     def not_a_file(self, facts: NodeFacts) -> str:
         if facts.is_named:
             return f"the name is that of {self.place(facts.node)}"
-        return f"the current filehandle is that of {self.place(facts.node)}, and no file's"
+        return f"the current filehandle is that of {self.place(facts.node)}, which is no file"
 
     def not_a_directory(self, facts: NodeFacts) -> str:
-        return f"the current filehandle is that of {self.place(facts.node)}, and no directory's"
+        return f"the current filehandle is that of {self.place(facts.node)}, which is no directory"
 
     # Of clients.
 
     def other_epoch(self, facts: EpochFacts) -> str:
         named = "clientid" if facts.stateid is None else "stateid"
-        return f"the {named} is of epoch {facts.given}, and this server's is {facts.expected}"
+        return f"the {named} has epoch {facts.given}, but this server has epoch {facts.expected}"
 
     def client_never_given(self, facts: ClientFacts) -> str:
         client = client_words(facts.client)
@@ -117,17 +117,17 @@ class Sentences:
             f"the stateid is one of {client}, which was never given")
 
     def client_expired(self, facts: GoneClient) -> str:
-        return f"{client_words(facts.client)} was removed by entry {facts.entry}, as its lease was over"
+        return f"{client_words(facts.client)} was removed by entry {facts.entry}, because its lease had expired"
 
     def client_replaced(self, facts: GoneClient) -> str:
         assert facts.other is not None
-        return (f"{client_words(facts.client)} was removed by {self.entry(facts.entry)}, as "
+        return (f"{client_words(facts.client)} was removed by {self.entry(facts.entry)}, because "
                 f"{client_words(facts.other)} took its place")
 
     def client_never_confirmed(self, facts: UnconfirmedClient) -> str:
         text = f"{client_words(facts.client)}, which {self.entry(facts.entry)} gave, was never confirmed"
         if facts.yielded is not None:
-            return f"{text}, and gave way to the client of entry {facts.yielded}"
+            return f"{text}, and was dropped for the client of entry {facts.yielded}"
         if facts.last is None or facts.other is None:
             return text
         return f"{text}, and {self.entry(facts.last)} gave its id {client_words(facts.other)}"
@@ -136,14 +136,14 @@ class Sentences:
 
     def stateid_special(self, facts: StateidFacts) -> str:
         bits = "one" if facts.stateid.seqid else "zero"
-        return f"all bits of the stateid are {bits}, and it names no state"
+        return f"all bits of the stateid are {bits}, so it names no state"
 
     def state_never_given(self, facts: StateidFacts) -> str:
         return f"state {facts.stateid.number} was never given"
 
     def state_of_other_client(self, facts: StateFacts) -> str:
         owner = self.server.given[facts.state].client
-        return (f"state {facts.state} was given to {client_words(owner)}, and the stateid is one of "
+        return (f"state {facts.state} was given to {client_words(owner)}, but the stateid names "
                 f"{client_words(facts.stateid.client)}")
 
     def state_ended(self, facts: EndedState) -> str:
@@ -151,9 +151,9 @@ class Sentences:
         text = f"{self.state(facts.state)}, was ended by {self.entry(facts.entry)}"
         entry = self.server.recorded[facts.entry]
         if not isinstance(entry, Call):
-            return f"{text}, as it wasn't given back in time"
+            return f"{text}, because it wasn't returned in time"
         if entry.opnum == Opnum.OPEN:
-            return f"{text}, which started its owner anew"
+            return f"{text}, which restarted its owner"
         forgotten = facts.forgotten
         return text if forgotten is None else f"{text}, and its owner was forgotten by {self.entry(forgotten)}"
 
@@ -163,13 +163,13 @@ class Sentences:
         return text if facts.meant is None else f"{text}, such as state {facts.meant}"
 
     def state_of_other_file(self, facts: OtherFile) -> str:
-        naming = "the OPEN names" if facts.is_named else "the current filehandle that of"
-        return f"the stateid is that of {self.state(facts.state)}, and {naming} {self.place(facts.node)}"
+        naming = "the OPEN names" if facts.is_named else "the current filehandle is that of"
+        return f"the stateid is that of {self.state(facts.state)}, but {naming} {self.place(facts.node)}"
 
     def owner_not_confirmed(self, facts: StateFacts) -> str:
         found = self.server.given[facts.state]
         assert isinstance(found, OpenState)
-        return (f"{owner_words(found.owner)} isn't confirmed: it has opened the file in entry {facts.entry}, and no "
+        return (f"{owner_words(found.owner)} isn't confirmed: it has opened the file in entry {facts.entry}, but no "
                 "OPEN_CONFIRM has followed")
 
     def owner_confirmed(self, facts: StateFacts) -> str:
@@ -180,16 +180,16 @@ class Sentences:
     def moved(self, facts: MovedState) -> str:
         assert facts.entry is not None
         side = "earlier" if facts.stateid.seqid < facts.seqid else "later"
-        return (f"state {facts.state} has seqid {facts.seqid} since {self.entry(facts.entry)}, and the stateid has the "
+        return (f"state {facts.state} has seqid {facts.seqid} since {self.entry(facts.entry)}, but the stateid has the "
                 f"{side} {facts.stateid.seqid}")
 
     def delegation_of_other_client(self, facts: OtherClient) -> str:
-        return f"it is that of {self.state(facts.state)}, and the OPEN is one of {client_words(facts.client)}"
+        return f"it is that of {self.state(facts.state)}, but the OPEN is one of {client_words(facts.client)}"
 
     # Of owners.
 
     def kept_answer(self, facts: KeptFacts) -> str:
-        text = f"it is the request of {self.entry(facts.entry)} again, and gets the kept answer"
+        text = f"it is a replay of {self.entry(facts.entry)}, and gets the stored reply"
         if facts.before is None:
             return text
         if not isinstance(facts.before.facts, DelegationConflicts):
@@ -216,10 +216,10 @@ class Sentences:
         return f"{self.entry(it.entry)} had {it.sequence_id}, and {STATUS_NAMES[it.status]} doesn't count"
 
     def sequence_id_other(self, facts: SequenceFacts) -> str:
-        return f"{self.due(facts)}, and {facts.given} came{self.uncounted(facts)}"
+        return f"{self.due(facts)}, but {facts.given} came{self.uncounted(facts)}"
 
     def other_request_with_last_id(self, facts: SequenceFacts) -> str:
-        return f"{self.due(facts)}, and {facts.given} came{self.itself(facts)}"
+        return f"{self.due(facts)}, but {facts.given} came{self.itself(facts)}"
 
     def itself(self, facts: SequenceFacts) -> str:
         """What tells the request from the entry that has its sequence id, if it has the last one that counted."""
@@ -228,22 +228,22 @@ class Sentences:
         return f": that of the entry itself, with another {differs}" if names else ""
 
     def lock_seqid_other(self, facts: SequenceFacts) -> str:
-        return f"{self.due(facts)}, and the lock_seqid is {facts.given}{self.itself(facts)}{self.uncounted(facts)}"
+        return f"{self.due(facts)}, but the lock_seqid is {facts.given}{self.itself(facts)}{self.uncounted(facts)}"
 
     def new_lock_owner_known(self, facts: KnownLocker) -> str:
-        return (f"it comes as a new lock owner, and {owner_words(facts.owner)} has state {facts.state} on the file "
+        return (f"it names a new lock owner, but {owner_words(facts.owner)} has state {facts.state} on the file "
                 f"since {self.entry(facts.entry)}")
 
     def lock_owner_of_other_client(self, facts: OtherClient) -> str:
-        return (f"the lock owner has the clientid {facts.epoch} {facts.client}, and the open is one of client "
+        return (f"the lock owner has the clientid {facts.epoch} {facts.client}, but the open is one of client "
                 f"{facts.stateid.client}")
 
     # Of opens and delegations.
 
     def reclaim(self, facts: ReclaimFacts) -> str:
         if facts.is_lock:
-            return "it reclaims, and no lock outlives a run"
-        return "it reclaims (CLAIM_PREVIOUS), and no run keeps anything of the one before"
+            return "it reclaims, but no lock outlives a run of the server"
+        return "it reclaims (CLAIM_PREVIOUS), but no state outlives a run of the server"
 
     def claim_not_supported(self, _facts: Any) -> str:
         return "CLAIM_DELEGATE_PREV isn't supported"
@@ -252,17 +252,17 @@ class Sentences:
         return "the name is empty"
 
     def name_too_long(self, facts: NameFacts) -> str:
-        return f"the name has {len(facts.name)} bytes, and {NAME_LIMIT} are the most"
+        return f"the name has {len(facts.name)} bytes, but at most {NAME_LIMIT} are allowed"
 
     def no_such_name(self, facts: NameFacts) -> str:
         return f"{self.place(facts.directory)} has no {name_words(facts.name)}"
 
     def no_creation(self, facts: NameFacts) -> str:
-        return f"{self.no_such_name(facts)}, and no file can be created"
+        return f"{self.no_such_name(facts)}, and this server creates no files"
 
     def file_exists(self, facts: ExistingFile) -> str:
         mode = "GUARDED4" if facts.mode == GUARDED4 else "EXCLUSIVE4"
-        return f"{self.place(facts.node)} is there, and {mode} creates a new one"
+        return f"{self.place(facts.node)} exists already, but {mode} creates a new file"
 
     def share_conflict(self, facts: ShareConflicts) -> str:
         return listed([self.share_words(it) for it in facts.conflicts])
@@ -285,11 +285,11 @@ class Sentences:
         is_whole = held.kind == OPEN_DELEGATE_WRITE
         if is_special:
             operations = "READs and WRITEs" if is_whole else "WRITEs"
-            excluded = f"keeps out {operations} by a special stateid, whoever sends them"
+            excluded = f"conflicts with {operations} with a special stateid, from every client"
         elif is_whole:
-            excluded = "keeps out any open of another client"
+            excluded = "conflicts with every open of another client"
         else:
-            excluded = "keeps out opens of other clients that write or deny READ"
+            excluded = "conflicts with opens of other clients that write or deny READ"
         recalled = "is recalled now" if it.recalled is None else f"was recalled by {self.entry(it.recalled)}"
         if it.marked is not None and not it.is_up:
             recalled += f", but the recall could not be delivered (entry {it.marked})"
@@ -297,13 +297,13 @@ class Sentences:
 
     def share_invalid(self, facts: ShareFacts) -> str:
         if READ <= facts.access <= BOTH:
-            return f"the deny is {facts.deny}, and 3 is the most"
-        return f"the access is {facts.access}, and has to be 1 to 3"
+            return f"the deny is {facts.deny}, but has to be 0 to 3"
+        return f"the access is {facts.access}, but has to be 1 to 3"
 
     def downgrade_no_union(self, facts: DowngradeFacts) -> str:
         kept = ", ".join(f"{access} and {deny}" for access, deny in facts.pairs)
-        return (f"access {facts.access} and deny {facts.deny} are no union of pairs that the open has kept of its "
-                f"OPENs: {kept}")
+        return (f"access {facts.access} and deny {facts.deny} are no union of pairs with which the open was "
+                f"opened: {kept}")
 
     # Of locks.
 
@@ -317,7 +317,7 @@ class Sentences:
         """The bytes that a lock state holds, and since when."""
         held = run_words(it.run, self.place(self.server.given[it.state].file))
         more = f", the first of {it.runs} ranges" if it.runs > 1 else ""
-        return (f"{owner_words(it.owner)} holds {held}{more}, by state {it.state}, which was changed last by "
+        return (f"{owner_words(it.owner)} holds {held}{more}, in state {it.state}, which was changed last by "
                 f"{self.entry(it.entry)}")
 
     def range_invalid(self, facts: RangeFacts) -> str:
@@ -326,18 +326,18 @@ class Sentences:
         return f"offset {facts.offset} and length {facts.length} add up to more than 2^64 - 1"
 
     def access_lacking(self, facts: AccessFacts) -> str:
-        asked = f"{facts.operation} takes access to {MODES[facts.wanted]}"
+        asked = f"{facts.operation} needs access to {MODES[facts.wanted]}"
         if isinstance(self.server.given[facts.state], Delegation):
-            return f"{asked}, and the stateid is that of {self.state(facts.state)}"
-        return f"{asked}, and {self.state(facts.state)}, has access to {MODES[facts.access]} alone"
+            return f"{asked}, but the stateid is that of {self.state(facts.state)}"
+        return f"{asked}, but {self.state(facts.state)}, has access only to {MODES[facts.access]}"
 
     # Of bytes, attributes and listings.
 
     def too_large(self, facts: SizeFacts) -> str:
         if facts.offset is None:
-            return f"the size is {facts.size}, and a file has {TEXT_LIMIT} bytes at most"
-        return (f"offset {facts.offset} and {facts.size} bytes add up to {facts.offset + facts.size}, and a file has "
-                f"{TEXT_LIMIT} at most")
+            return f"the size is {facts.size}, but a file has at most {TEXT_LIMIT} bytes"
+        return (f"offset {facts.offset} and {facts.size} bytes add up to {facts.offset + facts.size}, but a file has "
+                f"at most {TEXT_LIMIT} bytes")
 
     def attributes_not_supported(self, facts: AttributeFacts) -> str:
         return f"{attribute_words(facts.numbers)} isn't supported"
@@ -349,23 +349,23 @@ class Sentences:
         return f"{attribute_words(facts.numbers)} can only be read"
 
     def attributes_fixed(self, facts: AttributeFacts) -> str:
-        return f"{attribute_words(facts.numbers)} stays what it is for good"
+        return f"{attribute_words(facts.numbers)} never changes"
 
     def values_unreadable(self, facts: ValueFacts) -> str:
         return f"the {facts.size} bytes of values are no values of {attribute_words(facts.numbers)}"
 
     def time_of_client(self, _facts: Any) -> str:
-        return "the time is a client's own, and the server takes none but its own"
+        return "the client gives a time of its own, but the server only sets its own time"
 
     def cookie_unknown(self, facts: ListingFacts) -> str:
         return f"cookie {facts.cookie} is neither 0 nor that of a child of {self.place(facts.directory)}"
 
     def verifier_other(self, facts: ListingFacts) -> str:
-        return f"the verifier is {facts.verifier.hex()}, and that of all listings is zero"
+        return f"the verifier is {facts.verifier.hex()}, but the verifier of every listing is zero"
 
     def listing_too_small(self, facts: RoomFacts) -> str:
-        what = "a listing without an entry" if facts.name is None else f"one with {name_words(facts.name)} alone"
-        return f"{what} has {facts.needed} bytes, and {facts.most} are the most here"
+        what = "a listing without an entry" if facts.name is None else f"a listing with only {name_words(facts.name)}"
+        return f"{what} has {facts.needed} bytes, but here at most {facts.most} are allowed"
 
     # Of SETCLIENTID and its confirmation.
 
@@ -375,25 +375,25 @@ class Sentences:
                 f"{self.entry(facts.entry)}")
 
     def confirmed_by_other(self, facts: PrincipalFacts) -> str:
-        return (f"{self.entry(facts.entry)} came from {principal_words(facts.principal)}, and its confirmation from "
+        return (f"{self.entry(facts.entry)} came from {principal_words(facts.principal)}, but its confirmation from "
                 f"{principal_words(facts.other)}")
 
     def confirm_never_given(self, facts: ConfirmFacts) -> str:
-        return f"confirm value {facts.confirm} was never given"
+        return f"confirm verifier {facts.confirm} was never given"
 
     def confirm_of_other_client(self, facts: ConfirmFacts) -> str:
         assert facts.entry is not None and facts.other is not None
-        return f"{self.entry(facts.entry)} gave confirm value {facts.confirm} to {client_words(facts.other)}"
+        return f"{self.entry(facts.entry)} gave confirm verifier {facts.confirm} to {client_words(facts.other)}"
 
     def confirm_gave_way(self, facts: ConfirmFacts) -> str:
         assert facts.entry is not None
-        return f"the record of {self.entry(facts.entry)} gave way to the client of entry {facts.later}"
+        return f"the record of {self.entry(facts.entry)} was dropped for the client of entry {facts.later}"
 
     def confirm_replaced(self, facts: ConfirmFacts) -> str:
         assert facts.entry is not None
         record = self.server.introductions[facts.confirm].record
-        return (f"confirm value {facts.confirm} is that of {self.entry(facts.entry)}, and entry {facts.later} gave the "
-                f"id {name_words(record.id)} the value {facts.later_confirm}")
+        return (f"confirm verifier {facts.confirm} is that of {self.entry(facts.entry)}, but entry {facts.later} gave "
+                f"the id {name_words(record.id)} confirm verifier {facts.later_confirm}")
 
 
 # The kinds whose sentences have other names than they.
