@@ -9,13 +9,16 @@ TOP = Path(__file__).resolve().parent.parent
 CRATES = TOP / "crates"
 
 # What is no code: comments, and what stands between quotes. A lifetime isn't between two.
-HIDDEN = {".rt": re.compile(r"""//[^\n]*|"(?:\\.|[^"\\])*"|'(?:\\.[^']*|[^'\\\n])'""", re.S),
-          ".antt": re.compile(r"--[^\n]*")}
+HIDDEN = {
+    ".rt": re.compile(r"""//[^\n]*|"(?:\\.|[^"\\])*"|'(?:\\.[^']*|[^'\\\n])'""", re.S),
+    ".antt": re.compile(r"--[^\n]*"),
+}
 HEAD = re.compile(
     r"(?:#!?\[[^\]]*\]\s*)*"  # attributes
     r"(?P<seen>pub(?:\([\w: ]+\))?\s+)?(?:unsafe\s+|default\s+|const\s+(?=fn\b))*"
     r"(?P<kind>fn|struct|enum|trait|impl|mod|use|ghost\s+use|ghost|const|static|type|macro_rules\s*!)"
-    r"(?!\w)\s*(?P<name>\w+)?")
+    r"(?!\w)\s*(?P<name>\w+)?"
+)
 CLAUSE = re.compile(r"\b(?P<kind>(?:requires|ensures)\*?)(?:\s+(?P<name>\w+))?\s*(?=\{)")
 GHOST = re.compile(r"\bghost\s+(?!use\b)(?P<name>\w+)\s*(?P<sign>[:=])\s*(?=\{)")
 UP_TO_SEMICOLON = {"use", "ghost use", "ghost", "const", "static", "type"}
@@ -24,6 +27,7 @@ UP_TO_SEMICOLON = {"use", "ghost use", "ghost", "const", "static", "type"}
 @dataclass(frozen=True)
 class Clause:
     """A `requires` or `ensures`, or a ghost member of a type or a trait, with its text on one line."""
+
     kind: str
     name: str
     text: str
@@ -35,6 +39,7 @@ class Clause:
 @dataclass(frozen=True)
 class Entry:
     """A function, a type, a trait or an implementation of a trait. Private is what no other crate can name."""
+
     crate: str
     kind: str
     path: str
@@ -57,6 +62,7 @@ class Entry:
 class Item:
     """A piece of a file, from `start`, where its attributes begin, to `end`. The word of its kind is at `word`, and its
     block, if it has one, at `block`."""
+
     kind: str
     name: str
     is_public: bool
@@ -69,6 +75,7 @@ class Item:
 @dataclass
 class Source:
     """A file of a crate, also with blanks in place of what is no code."""
+
     crate: str
     file: Path
     text: str
@@ -109,8 +116,11 @@ def crates() -> dict[str, list[str]]:
 
 def sources_of(crate: str, pattern: str = "src/**/*.rt") -> list[Source]:
     """A crate's files of one part, without those of its tests."""
-    files = [file for file in sorted((CRATES / crate).glob(pattern))
-             if file.stem != "tests" and "tests" not in file.relative_to(CRATES).parts[2:-1]]
+    files = [
+        file
+        for file in sorted((CRATES / crate).glob(pattern))
+        if file.stem != "tests" and "tests" not in file.relative_to(CRATES).parts[2:-1]
+    ]
     return [Source(crate, file, file.read_text(encoding="utf-8")) for file in files]
 
 
@@ -140,7 +150,7 @@ def block_of(code: str, kind: str, start: int) -> tuple[int, int]:
         if found[0] == ";":
             return found.end(), found.end()
         at = behind(code, found.start())
-        is_clause = re.search(r"\b(?:requires|ensures)\*?(?:\s+\w+)?\s*$", code[start:found.start()])
+        is_clause = re.search(r"\b(?:requires|ensures)\*?(?:\s+\w+)?\s*$", code[start : found.start()])
         if found[0] == "{" and kind not in UP_TO_SEMICOLON and not (kind == "fn" and is_clause):
             return found.start(), at
     return len(code), len(code)
@@ -176,8 +186,11 @@ def ghosts_in(source: Source, start: int, end: int) -> Iterator[Clause]:
     for found in GHOST.finditer(source.code, start, end):
         if not any(body.word < found.start() < body.end for body in bodies):
             close = behind(source.code, found.end())
-            yield Clause("ghost", found["name"] + (":" if found["sign"] == ":" else " ="),
-                         one_line(source, found.end() + 1, close - 1))
+            yield Clause(
+                "ghost",
+                found["name"] + (":" if found["sign"] == ":" else " ="),
+                one_line(source, found.end() + 1, close - 1),
+            )
 
 
 def without_generics(head: str) -> str:
@@ -202,6 +215,7 @@ def last_name(path: str) -> str:
 class Function:
     """A function of a file, whose path begins below `crates/`. The owner is the type or the trait that it is a method
     of, if any. The lines are those from the comment before it to its end; the body of a declaration is empty."""
+
     path: str
     name: str
     owner: str
@@ -221,14 +235,14 @@ def functions_of(source: Source) -> Iterator[Function]:
         if item.kind == "fn":
             found.append(("", item))
         elif item.kind in ("impl", "trait"):
-            owner = item.name if item.kind == "trait" else owner_of(code[item.word + len("impl"):item.block])[1]
+            owner = item.name if item.kind == "trait" else owner_of(code[item.word + len("impl") : item.block])[1]
             found += [(owner, it) for it in items_in(code, item.block + 1, item.end - 1) if it.kind == "fn"]
     for owner, item in found:
         first, last = (code.count("\n", 0, at) + 1 for at in (item.start, item.end - 1))
         while first > 1 and re.match(r"\s*(//|#\[)", rows[first - 2]):
             first -= 1
         clauses = len(CLAUSE.findall(code, item.word, item.end))
-        yield Function(source.path, item.name, owner, first, last, clauses, code[item.block:item.end])
+        yield Function(source.path, item.name, owner, first, last, clauses, code[item.block : item.end])
 
 
 def exports_of(sources: list[Source]) -> tuple[set[str], set[str]]:
@@ -240,7 +254,7 @@ def exports_of(sources: list[Source]) -> tuple[set[str], set[str]]:
             continue
         for item in items_in(source.code, 0, len(source.code)):
             if item.is_public and item.kind == "use":
-                used = source.code[item.start:item.end]
+                used = source.code[item.start : item.end]
                 names |= {found[1] for found in re.finditer(r"(\w+)\s*(?=[,;}])", used)}
             elif item.is_public and item.kind == "mod":
                 modules.add(item.name)
@@ -256,9 +270,12 @@ class Index:
         self.crate = crate
         self.sources = sources_of(crate)
         self.names, self.modules = exports_of(self.sources)
-        self.defined = {item.name for source in self.sources
-                        for item in items_in(source.code, 0, len(source.code))
-                        if item.kind in ("struct", "enum", "trait", "type")}
+        self.defined = {
+            item.name
+            for source in self.sources
+            for item in items_in(source.code, 0, len(source.code))
+            if item.kind in ("struct", "enum", "trait", "type")
+        }
         self.entries = [entry for source in self.sources for entry in self.entries_of(source)]
 
     def entries_of(self, source: Source) -> Iterator[Entry]:
@@ -288,7 +305,7 @@ class Index:
                 yield self.entry(source, method, f"{item.name}::{method.name}", is_public)
 
     def of_implementation(self, source: Source, item: Item) -> Iterator[Entry]:
-        head = source.code[item.start:item.block]
+        head = source.code[item.start : item.block]
         trait, owner = owner_of(re.split(r"\bimpl\b", head, maxsplit=1)[1])
         can_be_named = self.can_be_named(source, owner)
         if trait:
@@ -299,8 +316,9 @@ class Index:
                 yield members
         for method in items_in(source.code, item.block + 1, item.end - 1):
             if method.kind == "fn":
-                entry = self.entry(source, method, f"{owner}::{method.name}",
-                                   can_be_named and (method.is_public or bool(trait)))
+                entry = self.entry(
+                    source, method, f"{owner}::{method.name}", can_be_named and (method.is_public or bool(trait))
+                )
                 # Of a trait's function all clauses of the trait hold: it is told where it has others beside them.
                 if entry.clauses or not trait:
                     yield entry
@@ -311,8 +329,15 @@ class Index:
         else:
             clauses = tuple(ghosts_in(source, item.block + 1, item.end - 1))
         module = f"{source.module()}::" if source.module() in self.modules else ""
-        return Entry(self.crate, item.kind, f"{self.crate}::{module}{name}", source.place(item.word),
-                     source.doc(item.start), clauses, is_public)
+        return Entry(
+            self.crate,
+            item.kind,
+            f"{self.crate}::{module}{name}",
+            source.place(item.word),
+            source.doc(item.start),
+            clauses,
+            is_public,
+        )
 
     def is_program(self) -> bool:
         return all(source.file.name != "lib.rt" for source in self.sources)

@@ -8,7 +8,15 @@ import re
 from collections import namedtuple
 
 REFUSED, SHAPE, CALLEE, MISSED, BAD, UNSURE, MEND, ASK = (
-    "REFUSED", "PROOF'S SHAPE", "CALLEE", "NOT REFUSED", "BAD EDIT", "COULD NOT TELL", "mend", "ask")
+    "REFUSED",
+    "PROOF'S SHAPE",
+    "CALLEE",
+    "NOT REFUSED",
+    "BAD EDIT",
+    "COULD NOT TELL",
+    "mend",
+    "ask",
+)
 # What an edit comes to, and why. Where it is to be tried again, `more` says with what.
 Verdict = namedtuple("Verdict", "kind text more", defaults=(None,))
 # One error of the prover: the place, the declaration that it stands in, if that is told, and all that is said.
@@ -24,8 +32,11 @@ KINDS = [
     # A tactic gave up, and values that break the goal aren't known.
     (LIMIT, r"stopped at its own limit(?!.*the goal fails)|`cc` met a bound of its own before"),
     # A tactic doesn't prove the goal.
-    (OPEN, r"^`\w+`: the goal does not follow |^`\w+`: no proof of |^`\w+` found no proof|the goal fails"
-           r"|^`cc` proves a path .* and the goal \S+ is not one"),
+    (
+        OPEN,
+        r"^`\w+`: the goal does not follow |^`\w+`: no proof of |^`\w+` found no proof|the goal fails"
+        r"|^`cc` proves a path .* and the goal \S+ is not one",
+    ),
     # It proves something else than is wanted.
     (TYPE, r"the two types (first |only )?differ\b|^expected type |^on the face "),
 ]
@@ -65,7 +76,7 @@ class Report:
             elif found := ASKED.match(line):
                 self.asked[found[1]] = set(re.findall("`([^`]+)`", found[2]))
             elif found := FAULT.match(line):
-                self.add_fault(found, lines[number + 1:])
+                self.add_fault(found, lines[number + 1 :])
 
     def of(self, function):
         return self.functions.setdefault(function, Said())
@@ -101,8 +112,9 @@ def path_name(path):
 
 def parts_of(function, report):
     """The function, and the closures in it."""
-    return [name for name in report.functions
-            if name == function or name.replace("fn::", "").startswith(f"{function}::")]
+    return [
+        name for name in report.functions if name == function or name.replace("fn::", "").startswith(f"{function}::")
+    ]
 
 
 def kind_of(fault):
@@ -151,8 +163,11 @@ def judge(edit, report, edited, asked, is_mended):
     goals = {goal: values for it in said for goal, values in it.open.items()}
     faults = [fault for it in said for fault in it.faults]
     blame, others = callees_with_edits(edit.function, report, edited)
-    verdict = (judge_answers(faults, is_mended) or judge_goals(goals, faults, asked)
-               or judge_rest(goals, faults, others, is_mended))
+    verdict = (
+        judge_answers(faults, is_mended)
+        or judge_goals(goals, faults, asked)
+        or judge_rest(goals, faults, others, is_mended)
+    )
     # Goals are tried by the contracts of what is called, also where that isn't proved.
     if blame and (not verdict or verdict.kind not in (REFUSED, MEND, ASK)):
         return Verdict(CALLEE, f"it calls {listed(blame)}, which has an edit", blame)
@@ -219,7 +234,7 @@ def mend(folder, function, faults):
     # From the last one on, so that the places of those before stay.
     for fault in sorted(faults, key=lambda fault: (fault.line, fault.column), reverse=True):
         if kind_of(fault) == TYPE and path.endswith(f"/{fault.path}"):
-            begin = sum(len(line) + 1 for line in lines[:fault.line - 1]) + fault.column - 1
+            begin = sum(len(line) + 1 for line in lines[: fault.line - 1]) + fault.column - 1
             end = end_of_term(text, begin)
             text = f"{text[:begin]}(grind (arith, common_steps, ({text[begin:end]}))){text[end:]}"
     for module, name in (("Common", "arith"), ("lemmas.Grind", "common_steps")):
@@ -237,10 +252,15 @@ def end_of_term(text, begin):
     is_let = text.startswith("let ", begin)
     depth, at = 0, begin
     for at in range(begin, len(text) + 1):
-        sign, behind = text[at:at + 1], text[at:at + 200]
-        if depth == 0 and (sign in tuple(")]},|") or re.match(r"\n+(\S|$)", behind)
-                           or not is_let and re.match(r"\sin\s", behind)
-                           or is_argument and sign.isspace()):
+        sign, behind = text[at : at + 1], text[at : at + 200]
+        if depth == 0 and (
+            sign in tuple(")]},|")
+            or re.match(r"\n+(\S|$)", behind)
+            or not is_let
+            and re.match(r"\sin\s", behind)
+            or is_argument
+            and sign.isspace()
+        ):
             break
         depth += sign in tuple("([{")
         depth -= sign in tuple(")]}")

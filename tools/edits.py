@@ -91,8 +91,11 @@ def chosen(waiting, calls):
     to call another one. `calls` has the functions with edits that a function calls, as far as is known."""
     functions, lines, found = set(), set(), []
     for edit in waiting:
-        meets = {other for other in functions if other in calls.get(edit.function, ())
-                 or edit.function in calls.get(other, ())}
+        meets = {
+            other
+            for other in functions
+            if other in calls.get(edit.function, ()) or edit.function in calls.get(other, ())
+        }
         if edit.function not in functions and not meets and lines.isdisjoint(edit.changes):
             functions.add(edit.function)
             lines.update(edit.changes)

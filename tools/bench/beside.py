@@ -88,6 +88,7 @@ def own_runs(scene, count):
 
 # Parts of these.
 
+
 def use(items):
     """Has them made."""
     for _ in items:
@@ -125,7 +126,8 @@ KINDS = {
     "neighbours": (neighbours, "lock states of the file, which hold a byte each that isn't in the way"),
     "runs": (runs, "runs for writing, of a byte each, that a lock state of the file holds"),
     "read-runs": (read_runs, "runs for reading, of a byte each, that a lock state of the file holds"),
-    "own-runs": (own_runs, "runs, of a byte each, that the lock state of whoever is measured holds")}
+    "own-runs": (own_runs, "runs, of a byte each, that the lock state of whoever is measured holds"),
+}
 
 
 def read_besides(text):

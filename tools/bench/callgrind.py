@@ -10,13 +10,20 @@ class Callgrind:
 
     def __init__(self, folder):
         self.folder, self.count = folder, 0
-        self.words = ["valgrind", "--tool=callgrind", "--instr-atstart=no", f"--callgrind-out-file={folder}/counts",
-                      f"--log-file={folder}/log"]
+        self.words = [
+            "valgrind",
+            "--tool=callgrind",
+            "--instr-atstart=no",
+            f"--callgrind-out-file={folder}/counts",
+            f"--log-file={folder}/log",
+        ]
 
     def instructions(self, process, task):
         """How many the process takes for this."""
+
         def command(*words):
             said_by(["vgdb", f"--pid={process.pid}", *words], "vgdb")
+
         command("instrumentation", "on")
         task()
         command("dump")

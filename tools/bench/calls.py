@@ -99,19 +99,30 @@ def open_for_writing(party):
 Kind = namedtuple("Kind", "what begin again calls before times alone", defaults=[""])
 KINDS = {
     "OPEN+CLOSE": Kind("for reading and writing", open_and_close, open_and_close, 2, 50, 250),
-    "OPEN+CLOSE-to-read": Kind("for reading, by a client that is lent the file", be_lent_it, open_and_close,
-                               2, 50, 250),
-    "LOCK+LOCKU": Kind("of a byte, of which the lock state holds no neighbour", hold_a_lock_state, lock_and_unlock,
-                       2, 50, 250),
+    "OPEN+CLOSE-to-read": Kind(
+        "for reading, by a client that is lent the file", be_lent_it, open_and_close, 2, 50, 250
+    ),
+    "LOCK+LOCKU": Kind(
+        "of a byte, of which the lock state holds no neighbour", hold_a_lock_state, lock_and_unlock, 2, 50, 250
+    ),
     "LOCKT": Kind("of a byte, for reading", hold_runs, test, 1, 50, 500),
     "LOCKT-of-all": Kind("of all bytes, for reading", open_it, test_all, 1, 2, 20),
     "READ": Kind("of 4 KiB, by an open's stateid", open_it, Party.read, 1, 50, 500),
     "SETCLIENTID+CONFIRM": Kind("of one id, by the same verifier", nothing, Party.arrive, 2, 50, 250),
     "CLOSE-again": Kind("one that was answered OK comes again", close_once, close_again, 1, 50, 500),
     "CLOSE-of-nothing": Kind("by the number of no state", close_once, close_nothing, 1, 50, 500),
-    "oldest-CLOSE+OPEN": Kind("each time by the owner of the oldest open of the file", nothing, reopen_oldest,
-                              2, 50, 250, "opens=1"),
-    "oldest-RELEASE_LOCKOWNER": Kind("each time of the oldest lock owner", nothing, release_oldest, 1, 10, 50,
-                                     "idle=60"),
-    "OPEN-that-calls-back": Kind("for writing, each time of another file, of which all that is lent is called back",
-                                 open_and_close, open_for_writing, 1, 1, 8)}
+    "oldest-CLOSE+OPEN": Kind(
+        "each time by the owner of the oldest open of the file", nothing, reopen_oldest, 2, 50, 250, "opens=1"
+    ),
+    "oldest-RELEASE_LOCKOWNER": Kind(
+        "each time of the oldest lock owner", nothing, release_oldest, 1, 10, 50, "idle=60"
+    ),
+    "OPEN-that-calls-back": Kind(
+        "for writing, each time of another file, of which all that is lent is called back",
+        open_and_close,
+        open_for_writing,
+        1,
+        1,
+        8,
+    ),
+}

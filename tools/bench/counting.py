@@ -46,7 +46,7 @@ class Conversation(Process):
             if not (more := self.stdout.read(1 << 18)):
                 raise Wrong("once ends")
             self.rest += more
-        self.rest = self.rest[len(found[0]):]
+        self.rest = self.rest[len(found[0]) :]
         self.parts[-1][1].append(found[0])
         return found[0]
 

@@ -28,7 +28,8 @@ ROWS = [
     Times("LOCKT-of-all", "read-runs=1000", highest=20000),
     Each("LOCK+LOCKU", "neighbours=1000", "neighbours=2000", 1000, 80),
     Each("LOCKT", "neighbours=1000", "neighbours=2000", 1000, 80),
-    Each("OPEN-that-calls-back", "", "lenders=250x10", 250, 1200)]
+    Each("OPEN-that-calls-back", "", "lenders=250x10", 250, 1200),
+]
 HEAD = ["Call", "Instructions", "Beside", "Instructions", "Times", "At most"]
 
 
@@ -51,8 +52,14 @@ class Figures:
         """A line for each call."""
         alone = {name: self.of_one_alone(name) for name in row.calls.split(",")}
         for name, count in self.counts(row.beside, list(alone)).items():
-            yield [name, number(alone[name]), spelled(row.beside), number(count), f"{count / alone[name]:.2f}",
-                   *(bound(count, row.highest) if row.highest else bound(count / alone[name], row.most))]
+            yield [
+                name,
+                number(alone[name]),
+                spelled(row.beside),
+                number(count),
+                f"{count / alone[name]:.2f}",
+                *(bound(count, row.highest) if row.highest else bound(count / alone[name], row.most)),
+            ]
 
     def each(self, row):
         less, more = (self.counts(beside, [row.call])[row.call] for beside in (row.less, row.more))

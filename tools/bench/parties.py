@@ -19,7 +19,9 @@ callbacks = "assume"
 [[file]]
 path = "{NAME.decode()}"
 text = "{BLOCK.decode()}"
-""" + "".join(f'\n[[file]]\npath = "{name.decode()}"\n' for name in OTHERS)
+""" + "".join(
+    f'\n[[file]]\npath = "{name.decode()}"\n' for name in OTHERS
+)
 # Where nobody listens.
 NOWHERE = callback_at(("127.0.0.1", 1000))
 # An access; and the span of all bytes.

@@ -16,17 +16,20 @@ def parser_of(text, has_program=True, **how):
     """For the words of a script that says this of itself: without options, and with a built program if it has one."""
     parser = argparse.ArgumentParser(description=text, formatter_class=argparse.RawDescriptionHelpFormatter, **how)
     if has_program:
-        parser.add_argument("program", nargs="?", default=PROGRAM, metavar="PROGRAM",
-                            help="[default: the one built here]")
+        parser.add_argument(
+            "program", nargs="?", default=PROGRAM, metavar="PROGRAM", help="[default: the one built here]"
+        )
     return parser
 
 
 def some_of(names):
     """Reads a list of these names."""
+
     def read(text):
         if not set(text.split(",")) <= set(names):
             raise argparse.ArgumentTypeError(f"can be of {','.join(names)}")
         return text.split(",")
+
     return read
 
 

@@ -68,8 +68,9 @@ class Ganesha:
         os.mkdir(self.folder)
         self.log = os.path.join(self.folder, "log")
         words = ["ganesha.nfsd", "-F", "-f", self.configuration(), "-L", self.log, "-p", f"{self.folder}/pid"]
-        self.process = subprocess.Popen(words, stdin=subprocess.DEVNULL, stdout=subprocess.DEVNULL,
-                                        stderr=subprocess.DEVNULL)
+        self.process = subprocess.Popen(
+            words, stdin=subprocess.DEVNULL, stdout=subprocess.DEVNULL, stderr=subprocess.DEVNULL
+        )
 
     def wait(self, is_served):
         """Until the port is served."""

@@ -9,8 +9,15 @@ from statistics import median
 
 HERE = os.path.dirname(os.path.abspath(__file__))
 OURS, THEIRS, ECHO = "nfs4state", "nfs-ganesha", "echo"
-NAMES = {"null": "NULL", "getattr": "GETATTR", "renew": "RENEW", "open": "OPEN+CLOSE", "lock": "LOCK+LOCKU",
-         "read": "READ 4 KiB", "write": "WRITE 4 KiB"}
+NAMES = {
+    "null": "NULL",
+    "getattr": "GETATTR",
+    "renew": "RENEW",
+    "open": "OPEN+CLOSE",
+    "lock": "LOCK+LOCKU",
+    "read": "READ 4 KiB",
+    "write": "WRITE 4 KiB",
+}
 
 # How many times the calls a second of nfs-ganesha are wanted, by connections and calls under way on each.
 OF_STATES = {(1, 1): 2, (1, 16): 5, (4, 1): 2.4, (4, 16): 6}
@@ -68,8 +75,9 @@ class Cell:
 
     def both(self, field, scale=1):
         """The medians of what is compared, one behind the other."""
-        return "/".join(number(median(self.values(server, field)) / scale)
-                        for server in (OURS, THEIRS) if self.rounds[server])
+        return "/".join(
+            number(median(self.values(server, field)) / scale) for server in (OURS, THEIRS) if self.rounds[server]
+        )
 
     def latency(self, server):
         return "/".join(number(median(self.values(server, field))) for field in ("p50", "p99"))
@@ -164,17 +172,29 @@ def told(head, ratios):
 def of_many(cells):
     """Many connections by one alone, where as many calls are under way."""
     many, alone = ("×".join(map(str, pair)) for pair in (MANY, ALONE))
-    return told(f"The rate of {OURS} with {many} by its own with {alone}", (
-        (NAMES[cell.workload], beside(cells.of_many(cell), least=LEAST_OF_MANY[cell.workload], say=of_median))
-        for cell in cells.found.values() if cell.workload in LEAST_OF_MANY))
+    return told(
+        f"The rate of {OURS} with {many} by its own with {alone}",
+        (
+            (NAMES[cell.workload], beside(cells.of_many(cell), least=LEAST_OF_MANY[cell.workload], say=of_median))
+            for cell in cells.found.values()
+            if cell.workload in LEAST_OF_MANY
+        ),
+    )
 
 
 def of_echo(cells):
     """Processor time by the echo's."""
-    return told(f"Of {OURS} by what NULL takes the echo", (
-        (f"{NAMES[cell.workload]} with {cell.connections}×{cell.under_way}",
-         beside(cells.of_echo(cell), most=cell.bound(MOST_OF_ECHO, cell.pair()), say=of_median))
-        for cell in cells.found.values() if cell.bound(MOST_OF_ECHO, cell.pair())))
+    return told(
+        f"Of {OURS} by what NULL takes the echo",
+        (
+            (
+                f"{NAMES[cell.workload]} with {cell.connections}×{cell.under_way}",
+                beside(cells.of_echo(cell), most=cell.bound(MOST_OF_ECHO, cell.pair()), say=of_median),
+            )
+            for cell in cells.found.values()
+            if cell.bound(MOST_OF_ECHO, cell.pair())
+        ),
+    )
 
 
 def tables(lines, servers, how):
@@ -182,14 +202,17 @@ def tables(lines, servers, how):
     one misses the bound behind it."""
     cells, compared = Cells(lines), [server for server in (OURS, THEIRS) if server in servers]
     pair = "/".join(compared or servers) + (", and the ratio" if len(compared) == 2 else "")
-    parts = [filled(f"{how} {machine()} {others(lines)}"),
-             filled(f"Thousands of calls a second, {pair}, medians of the rounds [least..greatest]:"),
-             table(cells, rate, lambda cell: number(median(cell.values(ECHO, "rate")) / 1000)).rstrip(), *of_many(cells),
-             filled("Latency in microseconds, of half of the calls at most/of 99 in 100 at most:"),
-             table(cells, latency, lambda cell: cell.latency(ECHO), OF_RATES).rstrip(),
-             filled(f"The server's processor time for a call in microseconds, {pair}:"),
-             table(cells, processor, lambda cell: of_median(cell.values(ECHO, "processor")), OF_RATES).rstrip(),
-             *of_echo(cells)]
+    parts = [
+        filled(f"{how} {machine()} {others(lines)}"),
+        filled(f"Thousands of calls a second, {pair}, medians of the rounds [least..greatest]:"),
+        table(cells, rate, lambda cell: number(median(cell.values(ECHO, "rate")) / 1000)).rstrip(),
+        *of_many(cells),
+        filled("Latency in microseconds, of half of the calls at most/of 99 in 100 at most:"),
+        table(cells, latency, lambda cell: cell.latency(ECHO), OF_RATES).rstrip(),
+        filled(f"The server's processor time for a call in microseconds, {pair}:"),
+        table(cells, processor, lambda cell: of_median(cell.values(ECHO, "processor")), OF_RATES).rstrip(),
+        *of_echo(cells),
+    ]
     return "\n\n".join(parts) + "\n"
 
 
@@ -200,8 +223,10 @@ def filled(text):
 def others(lines):
     shares = [line["others"] for line in lines]
     quiet = "was quiet" if max(shares) <= QUIET else "wasn't quiet"
-    return (f"The machine {quiet}: other processes had {median(shares):.0f} % of it in the median of the loads, and"
-            f" {max(shares):.0f} % at most.")
+    return (
+        f"The machine {quiet}: other processes had {median(shares):.0f} % of it in the median of the loads, and"
+        f" {max(shares):.0f} % at most."
+    )
 
 
 def machine():
@@ -209,9 +234,11 @@ def machine():
         models = [line.partition(":")[2].strip() for line in file if line.startswith("model name")]
     commit = said(["git", "-C", HERE, "describe", "--always", "--dirty"])
     ganesha = said(["dpkg-query", "-W", "-f", "${Version}", "nfs-ganesha"])
-    return (f"Measured on {time.strftime('%Y-%m-%d')} at commit {commit}, beside nfs-ganesha {ganesha}, on"
-            f" {os.cpu_count()} processors ({models[0] if models else platform.machine()}), Linux"
-            f" {platform.release()}.")
+    return (
+        f"Measured on {time.strftime('%Y-%m-%d')} at commit {commit}, beside nfs-ganesha {ganesha}, on"
+        f" {os.cpu_count()} processors ({models[0] if models else platform.machine()}), Linux"
+        f" {platform.release()}."
+    )
 
 
 def said(words):

@@ -13,13 +13,41 @@ from functools import cache
 from gate.pages import LINK, with_imported
 from nfs4.served import TOP
 
-COMMANDS = [f"tools/{name}" for name in ("between", "explain", "judge", "listen_callbacks", "quick_tests", "rows",
-                                         "send_rows", "show_journal", "model/check_rows.py", "model/journal.py",
-                                         "model/once.py", "model/serve.py")]
+COMMANDS = [
+    f"tools/{name}"
+    for name in (
+        "between",
+        "explain",
+        "judge",
+        "listen_callbacks",
+        "quick_tests",
+        "rows",
+        "send_rows",
+        "show_journal",
+        "model/check_rows.py",
+        "model/journal.py",
+        "model/once.py",
+        "model/serve.py",
+    )
+]
 # Files, and folders with all that is in them.
-OTHERS = ["start", "README.md", "CHANGELOG.md", "docs/CLAIMS.md", "docs/CLIENTS.md", "docs/GLOSSARY.md",
-          "docs/JOURNAL.md", "docs/PROGRAM.md", "docs/RULES.md", "docs/verdict.schema.json",
-          "tools/model/README.md", "samples/*", "crates/rows/README.md", "crates/rows/INDEX", "crates/rows/data/*"]
+OTHERS = [
+    "start",
+    "README.md",
+    "CHANGELOG.md",
+    "docs/CLAIMS.md",
+    "docs/CLIENTS.md",
+    "docs/GLOSSARY.md",
+    "docs/JOURNAL.md",
+    "docs/PROGRAM.md",
+    "docs/RULES.md",
+    "docs/verdict.schema.json",
+    "tools/model/README.md",
+    "samples/*",
+    "crates/rows/README.md",
+    "crates/rows/INDEX",
+    "crates/rows/data/*",
+]
 PROGRAM, RELEASE, PROOF = "nfs4state", "RELEASE", "PROOF"
 # The most bytes that an archive may have.
 LIMIT = 2 << 20
@@ -45,6 +73,7 @@ So the program is that of release {program_version}, and its `--version` says so
 @dataclass(frozen=True)
 class Proved:
     """A program to be packed, with what RELEASE and PROOF say of it."""
+
     program: bytes
     version: str
     commit: str
@@ -73,11 +102,13 @@ def paths() -> list[str]:
 
 def without_dead_links(page: str, text: str, there: set[str]) -> str:
     """The page's text, in which a link to what isn't there is its words alone."""
+
     def replaced(found: re.Match[str]) -> str:
         target = found[1].partition("#")[0]
         path = os.path.normpath(os.path.join(os.path.dirname(page), target))
         is_there = not target or "://" in target or path in there or any(it.startswith(f"{path}/") for it in there)
-        return found[0] if is_there else found[0][1:found[0].index("](")]
+        return found[0] if is_there else found[0][1 : found[0].index("](")]
+
     return LINK.sub(replaced, text)
 
 
@@ -92,10 +123,19 @@ def files_of(version: str, proved: Proved) -> dict[str, tuple[bytes, int]]:
             data = without_dead_links(path, data.decode(), there).encode()
         found[path] = data, 0o755 if os.access(os.path.join(TOP, path), os.X_OK) else 0o644
     note = "" if version == proved.version else PACKED_AGAIN.format(program_version=proved.version)
-    said = SAID.format(version=version, program_version=proved.version, commit=proved.commit, kit=proved.kit,
-                       program=proved.sum(), note=note)
-    return found | {PROGRAM: (proved.program, 0o755), RELEASE: (said.encode(), 0o644),
-                    PROOF: (proved.proof.encode(), 0o644)}
+    said = SAID.format(
+        version=version,
+        program_version=proved.version,
+        commit=proved.commit,
+        kit=proved.kit,
+        program=proved.sum(),
+        note=note,
+    )
+    return found | {
+        PROGRAM: (proved.program, 0o755),
+        RELEASE: (said.encode(), 0o644),
+        PROOF: (proved.proof.encode(), 0o644),
+    }
 
 
 def packed(version: str, proved: Proved) -> bytes:
@@ -112,10 +152,12 @@ def packed(version: str, proved: Proved) -> bytes:
 def unpacked(archive: str) -> Proved:
     """The program of a release that was made before."""
     with tarfile.open(archive) as source:
+
         def content(name: str) -> bytes:
             file = source.extractfile(f"{source.getnames()[0].partition('/')[0]}/{name}")
             assert file is not None
             return file.read()
+
         said = dict(line.split(": ", 1) for line in content(RELEASE).decode().split("\n\n")[0].splitlines())
         return Proved(content(PROGRAM), said["program-version"], said["commit"], said["kit"], content(PROOF).decode())
 
@@ -127,4 +169,3 @@ def missing() -> list[str]:
 
 def is_version(text: str) -> bool:
     return re.fullmatch(r"0\.[0-9]+", text) is not None
-

@@ -23,6 +23,7 @@ class Unbuildable(Exception):
 @dataclass(frozen=True)
 class Commit:
     """The commit of a checkout, and whether all tracked files are as they are there."""
+
     full: str
     is_clean: bool
 

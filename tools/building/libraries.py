@@ -31,8 +31,11 @@ class Libraries:
     def is_of(self, crate: Any) -> bool:
         """Whether the library that stands here was built from the sources of this crate of a copy."""
         here = self.crates.get(crate.name)
-        return (here is not None and edits_kept.sum_of_crate(here) == edits_kept.sum_of_crate(crate)
-                and bool(edits_kept.is_built(here, self.sums)))
+        return (
+            here is not None
+            and edits_kept.sum_of_crate(here) == edits_kept.sum_of_crate(crate)
+            and bool(edits_kept.is_built(here, self.sums))
+        )
 
     def lend(self, room: str, program: str) -> bool:
         """Lends a copy of the sources all libraries below the program, if all of them stand here: whether it did."""

@@ -13,8 +13,16 @@ import time
 from collections.abc import Callable
 from dataclasses import dataclass, field
 
-from building.copies import (BUILD_FILE, Commit, Unbuildable, commit_here, copy_commit, copy_sources, kit_here,
-                             version_here)
+from building.copies import (
+    BUILD_FILE,
+    Commit,
+    Unbuildable,
+    commit_here,
+    copy_commit,
+    copy_sources,
+    kit_here,
+    version_here,
+)
 from building.libraries import Libraries
 from building.telling import tell, telling
 from nfs4.served import TOP
@@ -61,8 +69,11 @@ def put(folder: str, name: str, text: str) -> None:
 
 def crates_below(lines: list[str], name: str) -> set[str]:
     """The crate and those that it stands on, by the lines of crates.txt."""
-    uses = {line.partition(":")[0].split()[0]: line.partition(":")[2].split() for line in lines
-            if line.strip() and not line.startswith("#")}
+    uses = {
+        line.partition(":")[0].split()[0]: line.partition(":")[2].split()
+        for line in lines
+        if line.strip() and not line.startswith("#")
+    }
     found, left = set[str](), [name]
     while left:
         crate = left.pop()
@@ -92,6 +103,7 @@ def keep_program_alone(room: str) -> int:
 @dataclass
 class Proof:
     """A run of the toolchain over a copy, by these words."""
+
     room: str
     number_of_crates: int
     log: str
@@ -103,8 +115,10 @@ class Proof:
         """How far it is."""
         minutes, seconds = divmod(int(time.monotonic() - self.begun), 60)
         under_way = ", ".join(sorted(self.under_way())) or "none yet"
-        return (f"{len(self.done)} of {self.number_of_crates} crates are proved; under way: {under_way}; "
-                f"{minutes} min {seconds:02} s since it began")
+        return (
+            f"{len(self.done)} of {self.number_of_crates} crates are proved; under way: {under_way}; "
+            f"{minutes} min {seconds:02} s since it began"
+        )
 
     def under_way(self) -> set[str]:
         """The crates that a process of the prover works on in this copy."""
@@ -120,8 +134,15 @@ class Proof:
     def run(self) -> None:
         # `rt run` is of the crate in whose folder it runs.
         folder = os.path.join(self.room, "crates", PROGRAM) if self.words_of_run == ALONE else self.room
-        process = subprocess.Popen(self.words_of_run, cwd=folder, stdin=subprocess.DEVNULL, stdout=subprocess.PIPE,
-                                   stderr=subprocess.STDOUT, text=True, errors="replace")
+        process = subprocess.Popen(
+            self.words_of_run,
+            cwd=folder,
+            stdin=subprocess.DEVNULL,
+            stdout=subprocess.PIPE,
+            stderr=subprocess.STDOUT,
+            text=True,
+            errors="replace",
+        )
         assert process.stdout is not None
         with open(self.log, "w", encoding="utf-8") as log, telling(self.words):
             for line in process.stdout:

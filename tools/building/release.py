@@ -51,14 +51,17 @@ def proof_text(logs: list[str], commit: str, kit: str) -> str:
     functions = {name: count for text in texts for name, count in CRATE.findall(text)}
     wanted = proved.crates_below(text_of(os.path.join(TOP, "crates.txt")).splitlines(), archive.PROGRAM)
     if lacking := sorted(wanted - functions.keys()):
-        raise Unbuildable(f"no log has the functions of {', '.join(lacking)}: give the log of the run that proved them "
-                          "by --log")
+        raise Unbuildable(
+            f"no log has the functions of {', '.join(lacking)}: give the log of the run that proved them " "by --log"
+        )
     if not all(ENDED.search(text) for text in texts):
         raise Unbuildable("a log doesn't end with `N passed, 0 failed`")
     rows = "".join(f"{name:<16}{functions[name]:>5}\n" for name in sorted(wanted))
     total = sum(int(functions[name]) for name in wanted)
-    return (f"Functions that the toolchain proved, by crate; the sources are those of commit {commit}, and `rt version`\n"
-            f"says {kit}.\n\n{rows}{'all':<16}{total:>5}\n")
+    return (
+        f"Functions that the toolchain proved, by crate; the sources are those of commit {commit}, and `rt version`\n"
+        f"says {kit}.\n\n{rows}{'all':<16}{total:>5}\n"
+    )
 
 
 def linked_statically(folder: str) -> bytes:
@@ -66,8 +69,20 @@ def linked_statically(folder: str) -> bytes:
     kit = kit_folder()
     with tempfile.TemporaryDirectory(prefix="release-") as room:
         out = os.path.join(room, archive.PROGRAM)
-        ran = subprocess.run(["gcc", "-static", "-o", out, os.path.join(folder, proved.OBJECT_FILE),
-                              f"{kit}/c/liblibc_c.a", f"{kit}/c/libos_c.a", "-lpthread"], capture_output=True, text=True)
+        ran = subprocess.run(
+            [
+                "gcc",
+                "-static",
+                "-o",
+                out,
+                os.path.join(folder, proved.OBJECT_FILE),
+                f"{kit}/c/liblibc_c.a",
+                f"{kit}/c/libos_c.a",
+                "-lpthread",
+            ],
+            capture_output=True,
+            text=True,
+        )
         if ran.returncode:
             raise Unbuildable(f"the program can't be linked:\n{ran.stderr}")
         subprocess.run(["strip", "-g", out], check=True)
@@ -101,6 +116,7 @@ def has_same_sources(commit: str) -> bool:
 @dataclass(frozen=True)
 class Wanted:
     """What is asked for: the number, logs of proofs, and whether another gate than that of this machine is trusted."""
+
     version: str
     logs: list[str]
     is_gate_elsewhere: bool
@@ -137,7 +153,9 @@ def release(wanted: Wanted) -> None:
     write_dist(archive.archive_of(wanted.version), data)
     set_version(wanted.version)
     keep("release", numbers())
-    tell(f"dist/{archive.archive_of(wanted.version)}: {len(data)} bytes; commit dist, {BUILD_FILE} and tools/numbers.json")
+    tell(
+        f"dist/{archive.archive_of(wanted.version)}: {len(data)} bytes; commit dist, {BUILD_FILE} and tools/numbers.json"
+    )
 
 
 def write_dist(name: str, data: bytes) -> None:

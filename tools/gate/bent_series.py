@@ -10,9 +10,29 @@ from gate.judge_clients import LAST, Lent, Locked, Opened, Owner, RightClient, r
 from gate.right_series import Busy, Series, whole
 from model.states import LockState
 from nfs4.client import Wrong
-from nfs4.wire import (CLAIM_NULL, Claim, Close, Delegreturn, Lock, LockOwner, Lockt, Locku, NewLocker,
-                       OPEN_DELEGATE_READ, OpenConfirm, Opnum, READ, Read, ReleaseLockowner, Setclientid,
-                       SetclientidConfirm, Stateid, Status, WRITE, WRITE_LT)
+from nfs4.wire import (
+    CLAIM_NULL,
+    Claim,
+    Close,
+    Delegreturn,
+    Lock,
+    LockOwner,
+    Lockt,
+    Locku,
+    NewLocker,
+    OPEN_DELEGATE_READ,
+    OpenConfirm,
+    Opnum,
+    READ,
+    Read,
+    ReleaseLockowner,
+    Setclientid,
+    SetclientidConfirm,
+    Stateid,
+    Status,
+    WRITE,
+    WRITE_LT,
+)
 
 # What a mistake says: whether it could be made here.
 Mistake = Callable[[Series, Busy], bool]
@@ -23,9 +43,11 @@ MISTAKES: dict[str, tuple[Mistake, tuple[str, ...]]] = {}
 
 def finding(*names: str) -> Callable[[Mistake], Mistake]:
     """Of a mistake: the errors that are found, in the order of the entries."""
+
     def keep(mistake: Mistake) -> Mistake:
         MISTAKES[mistake.__name__] = mistake, names
         return mistake
+
     return keep
 
 
@@ -40,6 +62,7 @@ def bent(seed: int, name: str | None = None, actions: int = 60) -> Bent | None:
         for client in series.clients if place >= first and not made else []:
             if client.is_live() and not client.is_asleep and not made and attempt(mistake, series, client):
                 made.append(place)
+
     series = Series(seed, actions + 40).run(between)
     return Bent(series, name, findings) if made else None
 
@@ -80,6 +103,7 @@ def next_of(owner: Owner, more: int = 1) -> int:
 
 # Sequence ids.
 
+
 def closes(client: Busy, opened: Opened, seqid: int, status: Status) -> bool:
     return expect(client, client.on(opened.handle, Opnum.CLOSE, Close(seqid, opened.stateid)), status)
 
@@ -112,34 +136,53 @@ def opens_nothing(client: Busy, opened: Opened, seqid: int) -> bool:
 @finding("sequence-id-kept-after-counted-refusal")
 def keeps_id(series: Series, client: Busy) -> bool:
     opened = an_open(series, client)
-    return opened is not None and opens_nothing(client, opened, next_of(opened.owner)) and closes(
-        client, opened, opened.owner.seqid, Status.BAD_SEQID)
+    return (
+        opened is not None
+        and opens_nothing(client, opened, next_of(opened.owner))
+        and closes(client, opened, opened.owner.seqid, Status.BAD_SEQID)
+    )
 
 
 @finding("sequence-id-kept-after-counted-refusal")
 def asks_thrice(series: Series, client: Busy) -> bool:
     opened = an_open(series, client)
-    return opened is not None and opens_nothing(client, opened, next_of(opened.owner)) and all(
-        [expect(client, client.again(), Status.NOENT) for _ in range(3)])
+    return (
+        opened is not None
+        and opens_nothing(client, opened, next_of(opened.owner))
+        and all([expect(client, client.again(), Status.NOENT) for _ in range(3)])
+    )
 
 
 @finding("no-filehandle", "sequence-id-moved-after-uncounted-refusal")
 def moves_on(series: Series, client: Busy) -> bool:
     opened = an_open(series, client)
-    return opened is not None and expect(client, client.call(
-        (Opnum.CLOSE, Close(next_of(opened.owner), opened.stateid))), Status.NOFILEHANDLE) and closes(
-            client, opened, next_of(opened.owner, 2), Status.BAD_SEQID)
+    return (
+        opened is not None
+        and expect(
+            client, client.call((Opnum.CLOSE, Close(next_of(opened.owner), opened.stateid))), Status.NOFILEHANDLE
+        )
+        and closes(client, opened, next_of(opened.owner, 2), Status.BAD_SEQID)
+    )
 
 
 @finding("stateid-unknown", "sequence-id-moved-after-uncounted-refusal")
 def moves_on_probably(series: Series, client: Busy) -> bool:
     opened = an_open(series, client)
-    return opened is not None and expect(client, client.on(opened.handle, Opnum.CLOSE, Close(
-        next_of(opened.owner), opened.stateid._replace(number=10**6))), Status.BAD_STATEID) and closes(
-            client, opened, next_of(opened.owner, 2), Status.BAD_SEQID)
+    return (
+        opened is not None
+        and expect(
+            client,
+            client.on(
+                opened.handle, Opnum.CLOSE, Close(next_of(opened.owner), opened.stateid._replace(number=10**6))
+            ),
+            Status.BAD_STATEID,
+        )
+        and closes(client, opened, next_of(opened.owner, 2), Status.BAD_SEQID)
+    )
 
 
 # Stateids.
+
 
 def reads(client: Busy, handle: bytes, stateid: Stateid, status: Status) -> bool:
     return expect(client, client.on(handle, Opnum.READ, Read(stateid, 0, 5)), status)
@@ -149,7 +192,8 @@ def reads(client: Busy, handle: bytes, stateid: Stateid, status: Status) -> bool
 def uses_old(series: Series, client: Busy) -> bool:
     opened = an_open(series, client, lambda it: it.stateid.seqid > 1 and client.moved[it] + 2 <= series.moment)
     return opened is not None and reads(
-        client, opened.handle, opened.stateid._replace(seqid=opened.stateid.seqid - 1), Status.OLD_STATEID)
+        client, opened.handle, opened.stateid._replace(seqid=opened.stateid.seqid - 1), Status.OLD_STATEID
+    )
 
 
 @finding("stateid-of-other-file")
@@ -189,42 +233,50 @@ def uses_returned(series: Series, client: Busy) -> bool:
 def makes_up_number(series: Series, client: Busy) -> bool:
     opened = an_open(series, client)
     return opened is not None and reads(
-        client, opened.handle, opened.stateid._replace(number=10**6), Status.BAD_STATEID)
+        client, opened.handle, opened.stateid._replace(number=10**6), Status.BAD_STATEID
+    )
 
 
 @finding("stateid-unknown")
 def makes_up_seqid(series: Series, client: Busy) -> bool:
     opened = an_open(series, client)
     return opened is not None and reads(
-        client, opened.handle, opened.stateid._replace(seqid=opened.stateid.seqid + 4), Status.BAD_STATEID)
+        client, opened.handle, opened.stateid._replace(seqid=opened.stateid.seqid + 4), Status.BAD_STATEID
+    )
 
 
 @finding("stateid-of-other-kind")
 def unlocks_by_open(series: Series, client: Busy) -> bool:
     held = a_lock(series, client)
-    return held is not None and client.on(held.handle, Opnum.LOCKU, Locku(
-        WRITE_LT, next_of(held.owner), held.opened.stateid, 0, 1))[-1].status in (Status.BAD_SEQID, Status.BAD_STATEID)
+    return held is not None and client.on(
+        held.handle, Opnum.LOCKU, Locku(WRITE_LT, next_of(held.owner), held.opened.stateid, 0, 1)
+    )[-1].status in (Status.BAD_SEQID, Status.BAD_STATEID)
 
 
 @finding("stateid-of-other-kind")
 def closes_by_lock(series: Series, client: Busy) -> bool:
     held = a_lock(series, client)
-    return held is not None and client.on(held.handle, Opnum.CLOSE, Close(
-        next_of(held.opened.owner), held.stateid))[-1].status in (Status.BAD_SEQID, Status.BAD_STATEID)
+    return held is not None and client.on(held.handle, Opnum.CLOSE, Close(next_of(held.opened.owner), held.stateid))[
+        -1
+    ].status in (Status.BAD_SEQID, Status.BAD_STATEID)
 
 
 @finding("stateid-of-other-kind")
 def returns_open(series: Series, client: Busy) -> bool:
     opened = an_open(series, client)
-    return opened is not None and expect(client, client.on(
-        opened.handle, Opnum.DELEGRETURN, Delegreturn(opened.stateid)), Status.BAD_STATEID)
+    return opened is not None and expect(
+        client, client.on(opened.handle, Opnum.DELEGRETURN, Delegreturn(opened.stateid)), Status.BAD_STATEID
+    )
 
 
 @finding("stateid-of-other-client")
 def locks_for_another(series: Series, client: Busy) -> bool:
     opened = an_open(series, client)
-    others = [it for it in series.clients if it is not client and it.is_live() and not it.is_asleep
-              and not hindered(series, {it})]
+    others = [
+        it
+        for it in series.clients
+        if it is not client and it.is_live() and not it.is_asleep and not hindered(series, {it})
+    ]
     if opened is None or not others:
         return False
     seqid, owner = next_of(opened.owner), LockOwner(*others[0].clientid, b"theirs")
@@ -238,12 +290,17 @@ def comes_as_new(series: Series, client: Busy) -> bool:
     held = a_lock(series, client)
     if held is None:
         return False
-    locker = NewLocker(next_of(held.opened.owner), held.opened.stateid, next_of(held.owner),
-                       LockOwner(*client.clientid, held.owner.name))
+    locker = NewLocker(
+        next_of(held.opened.owner),
+        held.opened.stateid,
+        next_of(held.owner),
+        LockOwner(*client.clientid, held.owner.name),
+    )
     return expect(client, client.on(held.handle, Opnum.LOCK, Lock(WRITE_LT, 0, 0, 1, locker)), Status.BAD_SEQID)
 
 
 # Confirmations.
+
 
 def opened_by_new(client: Busy, owner: Owner, path: tuple[bytes, ...]) -> Opened | None:
     """An open of an owner that isn't confirmed, and which the client doesn't count among its own."""
@@ -264,8 +321,11 @@ def closed_properly(client: Busy, opened: Opened) -> bool:
 @finding("owner-not-confirmed")
 def leaves_out_confirm(series: Series, client: Busy) -> bool:
     opened = opened_by_new(client, Owner(b"unconfirmed %d" % len(series.server.recorded)), (b"b",))
-    return opened is not None and reads(client, opened.handle, opened.stateid, Status.BAD_STATEID) and closed_properly(
-        client, opened)
+    return (
+        opened is not None
+        and reads(client, opened.handle, opened.stateid, Status.BAD_STATEID)
+        and closed_properly(client, opened)
+    )
 
 
 @finding("owner-not-confirmed")
@@ -274,15 +334,25 @@ def opens_twice(series: Series, client: Busy) -> bool:
     first = opened_by_new(client, owner, (b"b",))
     second = None if first is None else opened_by_new(client, owner, (b"d", b"c"))
     # Also where the second OPEN is refused the first open is lost.
-    return first is not None and expect(client, client.on(first.handle, Opnum.OPEN_CONFIRM, OpenConfirm(
-        first.stateid, next_of(owner))), Status.BAD_STATEID) and (second is None or closed_properly(client, second))
+    return (
+        first is not None
+        and expect(
+            client,
+            client.on(first.handle, Opnum.OPEN_CONFIRM, OpenConfirm(first.stateid, next_of(owner))),
+            Status.BAD_STATEID,
+        )
+        and (second is None or closed_properly(client, second))
+    )
 
 
 @finding("confirm-of-nothing")
 def confirms_again(series: Series, client: Busy) -> bool:
     opened = an_open(series, client)
-    return opened is not None and expect(client, client.on(opened.handle, Opnum.OPEN_CONFIRM, OpenConfirm(
-        opened.stateid, next_of(opened.owner))), Status.BAD_STATEID)
+    return opened is not None and expect(
+        client,
+        client.on(opened.handle, Opnum.OPEN_CONFIRM, OpenConfirm(opened.stateid, next_of(opened.owner))),
+        Status.BAD_STATEID,
+    )
 
 
 @finding("confirm-of-nothing")
@@ -291,10 +361,12 @@ def confirms_other_value(series: Series, client: Busy) -> bool:
     _, _, confirm = client.call(introduction)[-1].value
     words = SetclientidConfirm(*client.clientid, confirm + 10**6)
     return expect(client, client.call((Opnum.SETCLIENTID_CONFIRM, words)), Status.STALE_CLIENTID) and expect(
-        client, client.call((Opnum.SETCLIENTID_CONFIRM, words._replace(confirm=confirm))), Status.OK)
+        client, client.call((Opnum.SETCLIENTID_CONFIRM, words._replace(confirm=confirm))), Status.OK
+    )
 
 
 # What isn't allowed.
+
 
 @finding("read-without-access")
 def reads_without(series: Series, client: Busy) -> bool:
@@ -338,8 +410,11 @@ def closes_with_locks(series: Series, client: Busy) -> bool:
 @finding("release-of-held-lock-owner")
 def releases_held(series: Series, client: Busy) -> bool:
     held = holding(series, client)
-    return held is not None and expect(client, client.call((Opnum.RELEASE_LOCKOWNER, ReleaseLockowner(
-        LockOwner(*client.clientid, held.owner.name)))), Status.LOCKS_HELD)
+    return held is not None and expect(
+        client,
+        client.call((Opnum.RELEASE_LOCKOWNER, ReleaseLockowner(LockOwner(*client.clientid, held.owner.name)))),
+        Status.LOCKS_HELD,
+    )
 
 
 @finding("downgrade-without-open")
@@ -364,7 +439,8 @@ def tests_nothing(series: Series, client: Busy) -> bool:
 def reads_nowhere(series: Series, client: Busy) -> bool:
     opened = an_open(series, client)
     return opened is not None and expect(
-        client, client.call((Opnum.READ, Read(opened.stateid, 0, 5))), Status.NOFILEHANDLE)
+        client, client.call((Opnum.READ, Read(opened.stateid, 0, 5))), Status.NOFILEHANDLE
+    )
 
 
 @finding("client-id-of-two-principals")
@@ -378,6 +454,7 @@ def comes_as_another(series: Series, client: Busy) -> bool:
 
 
 # What takes time.
+
 
 def is_alone(series: Series, client: Busy) -> bool:
     return not any(task.client is client for task in series.tasks)

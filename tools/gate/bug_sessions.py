@@ -12,8 +12,9 @@ TRIES = 6
 Session = Callable[[Room, RightClient, RightClient], None]
 
 
-def an_open(client: RightClient, path: tuple[bytes, ...], owner: bytes = b"A",
-            share: Share = (BOTH, 0)) -> Opened | None:
+def an_open(
+    client: RightClient, path: tuple[bytes, ...], owner: bytes = b"A", share: Share = (BOTH, 0)
+) -> Opened | None:
     """The open that the client has of a path, after it has asked for it as often as that is denied."""
     for _ in range(TRIES):
         if client.do(client.opening(client.owner(owner), path, share)) not in (Status.SHARE_DENIED, Status.DELAY):

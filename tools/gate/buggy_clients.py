@@ -5,7 +5,7 @@ from typing import NamedTuple
 from gate.bug_sessions import A, Session, with_delegations, with_files, with_locks, with_pauses
 from gate.judge_clients import ENDLESS, Held, Lent, Locked, Opened, Owner, RightClient, Share, Span, Steps
 from gate.judge_rooms import Setting
-from nfs4.wire import (BOTH, Close, OPEN_DELEGATE_WRITE, Opnum, READ, SetclientidConfirm, Stateid, Status)
+from nfs4.wire import BOTH, Close, OPEN_DELEGATE_WRITE, Opnum, READ, SetclientidConfirm, Stateid, Status
 
 # Of what no journal shows.
 NOT_TOLD = ""
@@ -14,6 +14,7 @@ SHORT, REFUSING = Setting(lease=2), Setting(close_locks="refuse")
 
 
 # Bugs of sequence ids.
+
 
 class LockLeavesOpenOwner(RightClient):
     """A LOCK of a new lock owner counts for the lock owner alone."""
@@ -51,6 +52,7 @@ class CountsNoFilehandle(RightClient):
 
 class KeepsIdAfter(RightClient):
     """One refusal doesn't count that does."""
+
     refusal = Status.DENIED
 
     def counts(self, opnum: Opnum, status: int) -> bool:
@@ -67,6 +69,7 @@ class KeepsIdAfterDelay(KeepsIdAfter):
 
 class KeepsIdAfterOldStateid(KeepsIdAfter):
     """It meets OLD_STATEID since it downgrades by the stateid before the last, and then uses the last."""
+
     refusal = Status.OLD_STATEID
     is_old = True
 
@@ -85,6 +88,7 @@ class KeepsIdAfterOldStateid(KeepsIdAfter):
 
 class OneIdForAll(RightClient):
     """The open owners have their sequence ids from one counter."""
+
     last = 0
 
     def next_id(self, owner: Owner, opnum: Opnum) -> int:
@@ -105,8 +109,9 @@ class LocksByOpenOwnersId(RightClient):
 class IdPerFile(RightClient):
     """Each open has a counter of its own."""
 
-    def opening(self, owner: Owner, path: tuple[bytes, ...], share: Share = (BOTH, 0),
-                lent: Lent | None = None) -> Steps[int]:
+    def opening(
+        self, owner: Owner, path: tuple[bytes, ...], share: Share = (BOTH, 0), lent: Lent | None = None
+    ) -> Steps[int]:
         by_file = self.owners.setdefault(owner.name + path[-1], Owner(owner.name))
         return (yield from super().opening(by_file, path, share, lent))
 
@@ -154,8 +159,9 @@ class CountsAtSending(RightClient):
 class NewIdForLostOpen(RightClient):
     """The reply to an OPEN is lost, and it is sent again with the next sequence id, which no server refuses."""
 
-    def opening(self, owner: Owner, path: tuple[bytes, ...], share: Share = (BOTH, 0),
-                lent: Lent | None = None) -> Steps[int]:
+    def opening(
+        self, owner: Owner, path: tuple[bytes, ...], share: Share = (BOTH, 0), lent: Lent | None = None
+    ) -> Steps[int]:
         if owner.is_confirmed:
             yield from super().opening(owner, path, share, lent)
         return (yield from super().opening(owner, path, share, lent))
@@ -183,8 +189,10 @@ class NewIdForLostClose(RightClient):
 
 # Bugs of stateids.
 
+
 class KeepsStateidAfter(RightClient):
     """The stateid that one operation answers isn't taken."""
+
     opnum = Opnum.OPEN_CONFIRM
 
     def keep(self, opnum: Opnum, held: Held, stateid: Stateid) -> None:
@@ -298,6 +306,7 @@ class UsesReturnedDelegation(RightClient):
 
 # Bugs of confirmations, locks and shares.
 
+
 class LeavesOutConfirm(RightClient):
     def has_to_confirm(self, flags: int) -> bool:
         return False
@@ -353,8 +362,9 @@ class ClosesWithLocks(RightClient):
 class OpensLess(RightClient):
     """It opens for reading if the file is there, and writes all the same."""
 
-    def opening(self, owner: Owner, path: tuple[bytes, ...], share: Share = (BOTH, 0),
-                lent: Lent | None = None) -> Steps[int]:
+    def opening(
+        self, owner: Owner, path: tuple[bytes, ...], share: Share = (BOTH, 0), lent: Lent | None = None
+    ) -> Steps[int]:
         return (yield from super().opening(owner, path, (READ, share[1]), lent))
 
 
@@ -368,6 +378,7 @@ class DowngradesAnyway(RightClient):
 
 
 # Bugs of delegations, leases and clientids.
+
 
 class KeepsDelegation(RightClient):
     """It answers the recall, and does nothing more."""
@@ -393,6 +404,7 @@ class NeverRenews(RightClient):
 
 class RenewsFirstClientid(RightClient):
     """RENEW goes on with the clientid that was the first, also when there is a newer one."""
+
     first = 0, 0
 
     def clientid_now(self, opnum: Opnum) -> tuple[int, int]:
@@ -402,6 +414,7 @@ class RenewsFirstClientid(RightClient):
 
 class OpensByFirstClientid(RightClient):
     """The same of OPEN."""
+
     first = 0, 0
 
     def clientid_now(self, opnum: Opnum) -> tuple[int, int]:
@@ -419,8 +432,9 @@ class NeverCloses(RightClient):
 class Hammers(RightClient):
     """Where a delegation conflicts it asks again without a pause."""
 
-    def opening(self, owner: Owner, path: tuple[bytes, ...], share: Share = (BOTH, 0),
-                lent: Lent | None = None) -> Steps[int]:
+    def opening(
+        self, owner: Owner, path: tuple[bytes, ...], share: Share = (BOTH, 0), lent: Lent | None = None
+    ) -> Steps[int]:
         for _ in range(15):
             status = yield from super().opening(owner, path, share, lent)
             if status != Status.DELAY:
@@ -430,6 +444,7 @@ class Hammers(RightClient):
 
 class Bug(NamedTuple):
     """A client with a bug, the finding that names it, the session that shows it, and what the server is begun with."""
+
     client: type[RightClient]
     finding: str
     session: Session

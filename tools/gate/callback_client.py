@@ -5,14 +5,29 @@ from typing import Any, NamedTuple
 from model.operations.open import CONFIRM
 from model.states import Recall
 from nfs4.client import NONE, VERIFIER, Client, done, Wrong
-from nfs4.messages import (DELEGRETURN, GETFH, NFS4_OK, OPEN_CONFIRM, PUTFH, PUTROOTFH, RENEW, SETCLIENTID,
-                           SETCLIENTID_CONFIRM, confirmation, given, handle, opening, words)
+from nfs4.messages import (
+    DELEGRETURN,
+    GETFH,
+    NFS4_OK,
+    OPEN_CONFIRM,
+    PUTFH,
+    PUTROOTFH,
+    RENEW,
+    SETCLIENTID,
+    SETCLIENTID_CONFIRM,
+    confirmation,
+    given,
+    handle,
+    opening,
+    words,
+)
 from nfs4.served import REPLY_PATIENCE
 from nfs4.wire import AUTH_NONE, AUTH_SYS, Callback, FORMS, Stateid, opaque
 
 
 class Lent(NamedTuple):
     """A delegation: the node of its file, its number, and for what it is."""
+
     file: int
     number: int
     kind: int
@@ -20,6 +35,7 @@ class Lent(NamedTuple):
 
 class Opened(NamedTuple):
     """What came of an OPEN: its status, and the delegation that it brings, or None."""
+
     status: int
     delegation: Lent | None
 

@@ -9,11 +9,18 @@ from contextlib import AbstractContextManager, contextmanager, nullcontext
 from functools import partial
 from typing import Any, NamedTuple
 
-from nfs4.callback_listener import (CallbackCall, Heard, Listener, accept, keep_silent, reply_to, reset,
-                                    universal_address)
+from nfs4.callback_listener import (
+    CallbackCall,
+    Heard,
+    Listener,
+    accept,
+    keep_silent,
+    reply_to,
+    reset,
+    universal_address,
+)
 from nfs4.messages import call, words
-from nfs4.wire import (AUTH_BADCRED, AUTH_ERROR, Callback, PROG_UNAVAIL, REPLY, SUCCESS, Status, accepted, denied,
-                       record)
+from nfs4.wire import AUTH_BADCRED, AUTH_ERROR, Callback, PROG_UNAVAIL, REPLY, SUCCESS, Status, accepted, denied, record
 
 # What a client gives beside the address.
 CALLBACK_PROGRAM, IDENT = 0x40000000, 7
@@ -25,6 +32,7 @@ def callback_at(address: tuple[Any, ...]) -> Callback:
 
 
 # Odd answers, to any call or to a recall.
+
 
 def asked(heard: Heard) -> CallbackCall:
     """The call that came, which is one."""
@@ -61,7 +69,7 @@ def answer_in_pieces(heard: Heard) -> None:
     """An acceptance in fragments of three bytes, of which each byte comes alone."""
     body = reply_to(asked(heard))
     ends = range(3, len(body) + 3, 3)
-    fragments = [words((end >= len(body)) << 31 | len(body[end - 3:end])) + body[end - 3:end] for end in ends]
+    fragments = [words((end >= len(body)) << 31 | len(body[end - 3 : end])) + body[end - 3 : end] for end in ends]
     for byte in b"".join(fragments):
         heard.send(bytes([byte]))
         time.sleep(0.002)
@@ -87,12 +95,18 @@ class Resetting(Listener):
 def garbage() -> dict[str, bytes]:
     """Bytes that are no reply, or one to another call."""
     return {
-        "of another protocol": b"HTTP/1.1 400 Bad Request\r\n\r\n", "at random": random.Random(1).randbytes(3000),
-        "of an empty record": record(b""), "of zeros": bytes(5000), "of a call": call(1, 0),
-        "of another xid": record(accepted(0xFFFFFFFF, 0)), "of half a reply": record(words(1, REPLY))}
+        "of another protocol": b"HTTP/1.1 400 Bad Request\r\n\r\n",
+        "at random": random.Random(1).randbytes(3000),
+        "of an empty record": record(b""),
+        "of zeros": bytes(5000),
+        "of a call": call(1, 0),
+        "of another xid": record(accepted(0xFFFFFFFF, 0)),
+        "of half a reply": record(words(1, REPLY)),
+    }
 
 
 # Addresses where nobody accepts. Each gives the callback to it, for as long as it is there.
+
 
 @contextmanager
 def nobody() -> Iterator[Callback]:
@@ -122,6 +136,7 @@ class BadPeer(NamedTuple):
     """A peer by what it does. It is there while its place is entered, which is made for the port of the server, and
     gives a listener or a callback. A callback there marks the path *up* or *down*, or not at all (None); it may be one
     of the server's own connections."""
+
     name: str
     place: Callable[[int], AbstractContextManager[Any]]
     mark: bool | None = False
@@ -134,12 +149,15 @@ class BadPeer(NamedTuple):
 
 def bad_peers() -> Iterator[BadPeer]:
     """Each kind of peer that a server has to stand."""
-    def answers(name: str, answer: Callable[[Heard], Any], mark: bool | None = False,
-                kind: type[Listener] = Listener) -> BadPeer:
+
+    def answers(
+        name: str, answer: Callable[[Heard], Any], mark: bool | None = False, kind: type[Listener] = Listener
+    ) -> BadPeer:
         return BadPeer(name, lambda port: kind(answer), mark)
 
     def is_at(name: str, callback: Callback) -> BadPeer:
         return BadPeer(name, lambda port: nullcontext(callback))
+
     yield answers("accepts, and never answers", keep_silent, mark=None)
     yield BadPeer("never accepts", lambda port: full_listener(), mark=None)
     yield answers("resets at once", keep_silent, kind=Resetting)

@@ -18,17 +18,25 @@ SECTION = "## What is specified, and runs in another form"
 # What the specification of the crates names, by types: those of these functions that don't run are in the table.
 SPECIFIED = {
     "": "read_call write_reply write_recall_call write_null_call read_cb_reply read_compound write_results "
-        "read_journal write_journal run_compound serve_connection serve_all serve_on run_once run_audit call_held "
-        "sweep_held range_of",
-    "Records": "feed next rest fed", "Tree": "from_toml lookup handle_of node_of", "Op": "has_entry",
+    "read_journal write_journal run_compound serve_connection serve_all serve_on run_once run_audit call_held "
+    "sweep_held range_of",
+    "Records": "feed next rest fed",
+    "Tree": "from_toml lookup handle_of node_of",
+    "Op": "has_entry",
     "Ranges": "reserve lock unlock first_conflict run_at is_empty",
     "FileShare": "try_open downgrade close delegate conflicts_of recall give_back reserve share_of denies delegations",
-    "Clients": "set confirm live next_live replaced_by of mark remove", "Numbers": "next",
+    "Clients": "set confirm live next_live replaced_by of mark remove",
+    "Numbers": "next",
     "Owners": "judge known confirm keep remove",
     "Core": "new apply prepare expire mark_path revoke journal pending take_recall probe forget replaced_by",
-    "PlainLeases": "look renew close open retire", "WordDesk": "look renew close open retire",
-    "WordLeases": "look renew close open retire confer", "RecallQueue": "new put take", "Lent": "call renew room",
-    "Desk": "call renew room", "Shared": "new call sweep take end probe callback mark_path mark_called"}
+    "PlainLeases": "look renew close open retire",
+    "WordDesk": "look renew close open retire",
+    "WordLeases": "look renew close open retire confer",
+    "RecallQueue": "new put take",
+    "Lent": "call renew room",
+    "Desk": "call renew room",
+    "Shared": "new call sweep take end probe callback mark_path mark_called",
+}
 
 # Calls whose names don't tell which function is called: the body, the name, and the function that is meant.
 MEANT = {
@@ -36,11 +44,13 @@ MEANT = {
     ("Line::advance", "advance"): "Exchange::advance",
     ("FileLocks::is_full_for", "is_full_for"): "LockState::is_full_for",
     ("Locks::is_full_for", "is_full_for"): "FileLocks::is_full_for",
-    ("downgrade_in", "downgrade"): "OpenState::downgrade"}
+    ("downgrade_in", "downgrade"): "OpenState::downgrade",
+}
 
 
 class Row(NamedTuple):
     """A row of the table: its line, the functions that don't run, and those that run in their place."""
+
     line: int
     functions: list[str]
     others: list[str]
@@ -116,11 +126,16 @@ class Citations:
 
     def lacking(self, listed: set[str]) -> list[str]:
         """What is specified, isn't run, and isn't in the table."""
-        specified = [f"{owner}::{name}" if owner else name
-                     for owner, names in SPECIFIED.items() for name in names.split()]
-        return [f"{TABLE}: the table hasn't got {word}, which is specified and which the program doesn't run"
-                for word in specified if word not in listed and (bodies := self.named(word))
-                and not any(it.is_law or it in self.may_run for it in bodies)]
+        specified = [
+            f"{owner}::{name}" if owner else name for owner, names in SPECIFIED.items() for name in names.split()
+        ]
+        return [
+            f"{TABLE}: the table hasn't got {word}, which is specified and which the program doesn't run"
+            for word in specified
+            if word not in listed
+            and (bodies := self.named(word))
+            and not any(it.is_law or it in self.may_run for it in bodies)
+        ]
 
     def faults(self, pages: list[Page]) -> list[str]:
         rows = [row for page in pages if page.path == TABLE for row in rows_in(page)]
@@ -128,18 +143,29 @@ class Citations:
         listed = {it for _, it in names}
         wrong = [(page.path, *fault) for page in pages for fault in self.faults_of(page, listed)]
         wrong += [(TABLE, row.line, fault) for row in rows for fault in self.faults_of_row(row)]
-        wrong += [(TABLE, line, f"{it}: there already") for at, (line, it) in enumerate(names)
-                  if it in [name for _, name in names[:at]]]
-        needless = [f"MEANT: the call of {name} in {body} tells by itself what is meant, or isn't there"
-                    for body, name in sorted(set(self.program.meant) - self.program.guessed)]
+        wrong += [
+            (TABLE, line, f"{it}: there already")
+            for at, (line, it) in enumerate(names)
+            if it in [name for _, name in names[:at]]
+        ]
+        needless = [
+            f"MEANT: the call of {name} in {body} tells by itself what is meant, or isn't there"
+            for body, name in sorted(set(self.program.meant) - self.program.guessed)
+        ]
         return [f"{path}:{line}: {fault}" for path, line, fault in sorted(wrong)] + self.lacking(listed) + needless
 
 
 def unused(citations: Citations) -> list[str]:
     """The public functions with a contract that the program doesn't run, laws aside."""
-    return sorted(f"{it.path}  {it}" for bodies in citations.program.named.values() for it in bodies
-                  if re.match(r"(?:#\[.*\]\s*)*pub fn", it.head.strip()) and "ensures" in it.head
-                  and not it.is_law and it not in citations.may_run)
+    return sorted(
+        f"{it.path}  {it}"
+        for bodies in citations.program.named.values()
+        for it in bodies
+        if re.match(r"(?:#\[.*\]\s*)*pub fn", it.head.strip())
+        and "ensures" in it.head
+        and not it.is_law
+        and it not in citations.may_run
+    )
 
 
 def citing() -> list[Page]:

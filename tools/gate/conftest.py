@@ -23,19 +23,28 @@ sys.dont_write_bytecode = True
 
 def pytest_addoption(parser: pytest.Parser) -> None:
     parser.addoption("--by-hand", action="store_true", help="also the tests that are too long for the gate")
-    parser.addoption("--all-built", action="store_true",
-                     help="the programs are those that were proved here; a test whose program isn't there fails")
+    parser.addoption(
+        "--all-built",
+        action="store_true",
+        help="the programs are those that were proved here; a test whose program isn't there fails",
+    )
 
 
 def pytest_configure(config: pytest.Config) -> None:
     config.addinivalue_line("markers", "alone: judged by a clock, by memory or by processor time")
     config.addinivalue_line("markers", "by_hand: too long for the gate, and run with --by-hand alone")
     config.addinivalue_line("markers", "long: begins before the others, which go on beside it")
-    config.addinivalue_line("markers", "needs(*names): skipped if these programs, crates' tests, the toolchain (rt) "
-                                       "or the proved program (proved) aren't there; with --all-built it fails then")
-    config.addinivalue_line("markers", "quick: needs no proof, no root and no toolchain: runs with the model, and with "
-                                       "the program, however it was built, if it is there; those that are marked "
-                                       "`alone` are left out with `-m quick`")
+    config.addinivalue_line(
+        "markers",
+        "needs(*names): skipped if these programs, crates' tests, the toolchain (rt) "
+        "or the proved program (proved) aren't there; with --all-built it fails then",
+    )
+    config.addinivalue_line(
+        "markers",
+        "quick: needs no proof, no root and no toolchain: runs with the model, and with "
+        "the program, however it was built, if it is there; those that are marked "
+        "`alone` are left out with `-m quick`",
+    )
     expect_programs(config.getoption("--all-built"))
     # Where the tests are ended, so are the servers.
     signal.signal(signal.SIGTERM, lambda *_: sys.exit(1))
@@ -58,8 +67,13 @@ def pytest_runtest_setup(item: pytest.Item) -> None:
 
 def pytest_terminal_summary(terminalreporter: Any) -> None:
     """Behind the results, what the tests tell of themselves: a line each, under the test's name."""
-    told = [(report.nodeid, line) for report in terminalreporter.getreports("passed") if report.when == "call"
-            for name, line in report.user_properties if name == "told"]
+    told = [
+        (report.nodeid, line)
+        for report in terminalreporter.getreports("passed")
+        if report.when == "call"
+        for name, line in report.user_properties
+        if name == "told"
+    ]
     sums: dict[str, Counter[str]] = defaultdict(Counter)
     for report in terminalreporter.getreports("passed"):
         for name, found in report.user_properties:
@@ -84,6 +98,7 @@ def add_up(record_property: Callable[[str, object], None]) -> Callable[[int, str
 
     def add(number: int, what: str) -> None:
         counts[what] = counts.get(what, 0) + number
+
     return add
 
 
@@ -113,8 +128,10 @@ def preloaded(tmp_path_factory: pytest.TempPathFactory) -> Callable[..., dict[st
 @pytest.fixture
 def file_of(path_of: Callable[[str], str]) -> Callable[[str, str | bytes], str]:
     """The path of a file of this name there, with this text or these bytes."""
+
     def write(name: str, content: str | bytes) -> str:
         with open(path_of(name), "wb") as out:
             out.write(content if isinstance(content, bytes) else content.encode())
         return path_of(name)
+
     return write

@@ -23,11 +23,17 @@ def garbage() -> list[bytes]:
     """Bytes that are no NFS, and what is odd in other ways."""
     draw = random.Random(1)
     return [
-        b"\x7f" + draw.randbytes(4095), b"GET / HTTP/1.1\r\nHost: localhost\r\n\r\n", b"\xff" * 1000,
-        b"\x16\x03\x01\x02\x00\x01\x00\x01\xfc\x03\x03" + draw.randbytes(505), words(0x80040001),
-        b"".join(record(draw.randbytes(draw.randrange(200))) for _ in range(40)), bytes(100000),
-        call(1, COMPOUND, draw.randbytes(100)), call(2, COMPOUND, words(0, 0, 64) + draw.randbytes(400)),
-        call(3, NULL) + reply(4) + record(b"") + call(5, 2) + b"\0" * 3]
+        b"\x7f" + draw.randbytes(4095),
+        b"GET / HTTP/1.1\r\nHost: localhost\r\n\r\n",
+        b"\xff" * 1000,
+        b"\x16\x03\x01\x02\x00\x01\x00\x01\xfc\x03\x03" + draw.randbytes(505),
+        words(0x80040001),
+        b"".join(record(draw.randbytes(draw.randrange(200))) for _ in range(40)),
+        bytes(100000),
+        call(1, COMPOUND, draw.randbytes(100)),
+        call(2, COMPOUND, words(0, 0, 64) + draw.randbytes(400)),
+        call(3, NULL) + reply(4) + record(b"") + call(5, 2) + b"\0" * 3,
+    ]
 
 
 def send_garbage(peer: Peer, data: bytes) -> None:
@@ -67,7 +73,7 @@ def stop_within(peer: Peer, way: int, over: Event | None = None) -> None:
     with peer:
         peer.send(call(1, NULL))
         expect("a reply before half a record", peer.receive(), reply(1))
-        peer.send(call(2, NULL)[:4 + 4 * way])
+        peer.send(call(2, NULL)[: 4 + 4 * way])
         if way % 2:
             wait_for(over)
         if way % 4 < 2:

@@ -83,7 +83,8 @@ OWN: dict[Opnum, Callable[[Any, Any], int]] = {
     Opnum.SETCLIENTID: lambda arguments, _: setclientid_len(arguments),
     Opnum.LOCK: lambda arguments, _: locker_len(arguments.locker),
     Opnum.LOCKT: lambda arguments, _: len(arguments.owner.name),
-    Opnum.RELEASE_LOCKOWNER: lambda arguments, _: len(arguments.owner.name)}
+    Opnum.RELEASE_LOCKOWNER: lambda arguments, _: len(arguments.owner.name),
+}
 
 
 def entry_len(entry: Any) -> int:

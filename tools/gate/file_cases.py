@@ -3,8 +3,23 @@ opens and locks."""
 from collections.abc import Callable, Sequence
 
 from gate.journal_cases import FOR_CLIENTS
-from gate.reason_cases import (ALL, DIRECTORY, FILE, Handle, NO_HANDLE, OLD, ONES, OPEN_A, OTHER_FILE, OWNERS,
-                               STATEIDS, Story, ZEROS, begun, state)
+from gate.reason_cases import (
+    ALL,
+    DIRECTORY,
+    FILE,
+    Handle,
+    NO_HANDLE,
+    OLD,
+    ONES,
+    OPEN_A,
+    OTHER_FILE,
+    OWNERS,
+    STATEIDS,
+    Story,
+    ZEROS,
+    begun,
+    state,
+)
 from model.tree import DEFAULT
 from nfs4.wire import LockOwner, Locku, Opnum, Stateid
 
@@ -28,22 +43,26 @@ def bytes_of_files() -> Story:
         stands = "state 1 has seqid 2 since entry 3 (OPEN_CONFIRM), but the stateid has the "
         ask(state(1), (stands + "earlier 1", STATEIDS))
         ask(state(1, 3), (stands + "later 3", STATEIDS))
-    story.write(second, ("offset 65532 and 5 bytes add up to 65537, but a file has at most 65536 bytes", "WRITE"),
-                offset=65532)
+    story.write(
+        second, ("offset 65532 and 5 bytes add up to 65537, but a file has at most 65536 bytes", "WRITE"), offset=65532
+    )
     story.write(second, offset=65531)
     # Entries 30 to 33: state 2 is B's open of `b`, which writes and denies READ; and then state 3, a lock of it.
     entry = story.server.entries
     story.open(1, owner=b"B", access=2, deny=1, name=b"b")
-    unconfirmed = (f'open owner "B" of client 1 isn\'t confirmed: it has opened the file in entry {entry}, but no '
-                   "OPEN_CONFIRM has followed")
+    unconfirmed = (
+        f'open owner "B" of client 1 isn\'t confirmed: it has opened the file in entry {entry}, but no '
+        "OPEN_CONFIRM has followed"
+    )
     story.read(state(2), (unconfirmed, STATEIDS), OTHER_FILE)
     denies = f'open owner "B" of client 1 denies READ of file "/b" since entry {entry}'
     story.read(ZEROS, (denies + " (it isn't confirmed, which makes no difference here)", "READ"), OTHER_FILE)
     story.write(ONES, filehandle=OTHER_FILE)
     story.confirm(2, state(2), filehandle=OTHER_FILE)
     story.read(ONES, (denies, "READ"), OTHER_FILE)
-    access = ('READ needs access to READ, but state 2, an open of file "/b" by open owner "B" of client 1, has access '
-              "only")
+    access = (
+        'READ needs access to READ, but state 2, an open of file "/b" by open owner "B" of client 1, has access ' "only"
+    )
     story.read(state(2, 2), (f"{access} to WRITE", "READ"), OTHER_FILE)
     story.lock_first(3, state(2, 2), 1, filehandle=OTHER_FILE)
     story.read(state(3), (f"{access} to WRITE", "READ"), OTHER_FILE)
@@ -63,23 +82,34 @@ def listings() -> Story:
     story.list()
     story.list(("attribute 54 (time_modify_set) can only be set", "READDIR"), mask=(0, 1 << 22), cookie=1)
     for cookie in (1, 2, 6, 7, 2**64 - 1):
-        story.list((f'cookie {cookie} is neither 0 nor that of a child of directory "/"', "READDIR"), cookie=cookie,
-                   verifier=b"verifier", maxcount=0)
+        story.list(
+            (f'cookie {cookie} is neither 0 nor that of a child of directory "/"', "READDIR"),
+            cookie=cookie,
+            verifier=b"verifier",
+            maxcount=0,
+        )
     story.list(('cookie 3 is neither 0 nor that of a child of directory "/d"', "READDIR"), DIRECTORY, cookie=3)
-    story.list(("the verifier is 7665726966696572, but the verifier of every listing is zero", "READDIR"), cookie=3,
-               verifier=b"verifier", maxcount=0)
+    story.list(
+        ("the verifier is 7665726966696572, but the verifier of every listing is zero", "READDIR"),
+        cookie=3,
+        verifier=b"verifier",
+        maxcount=0,
+    )
     story.list(verifier=b"verifier")
     story.list(('a listing with only "a" has 56 bytes, but here at most 55 are allowed', "READDIR"), maxcount=55)
-    story.list(('a listing with only "b" has 56 bytes, but here at most 0 are allowed', "READDIR"), cookie=3,
-               maxcount=0)
-    story.list(("a listing without an entry has 16 bytes, but here at most 15 are allowed", "READDIR"), cookie=5,
-               maxcount=15)
+    story.list(
+        ('a listing with only "b" has 56 bytes, but here at most 0 are allowed', "READDIR"), cookie=3, maxcount=0
+    )
+    story.list(
+        ("a listing without an entry has 16 bytes, but here at most 15 are allowed", "READDIR"), cookie=5, maxcount=15
+    )
     story.list(maxcount=56)
     story.list(cookie=5, maxcount=16)
     story.ask_for((0, 1 << 16), NO_HANDLE, None)
     story.ask_for((0, 1 << 16), ("attribute 48 (time_access_set) can only be set", "GETATTR"))
-    story.ask_for((2**32 - 1, 2**32 - 1), ("attribute 48 (time_access_set); 54 (time_modify_set) can only be set",
-                                           "GETATTR"))
+    story.ask_for(
+        (2**32 - 1, 2**32 - 1), ("attribute 48 (time_access_set); 54 (time_modify_set) can only be set", "GETATTR")
+    )
     story.ask_for((0, 1 << 21))
     return story
 
@@ -93,8 +123,14 @@ def sizes() -> Story:
     story.confirm(2, state(1))
     size, server_time = (2).to_bytes(8, "big"), bytes(4)
 
-    def refuse(mask: Sequence[int], values: bytes, text: str, heading: str = "SETATTR",
-               filehandle: Handle = OTHER_FILE, stateid: Stateid = ZEROS) -> None:
+    def refuse(
+        mask: Sequence[int],
+        values: bytes,
+        text: str,
+        heading: str = "SETATTR",
+        filehandle: Handle = OTHER_FILE,
+        stateid: Stateid = ZEROS,
+    ) -> None:
         story.set(mask, values, (text, heading), filehandle, stateid)
 
     refuse((16,), size, *NO_HANDLE, None)
@@ -116,8 +152,14 @@ def sizes() -> Story:
     refuse((16,), size, *OLD, FILE, state(1))
     access = f"SETATTR needs access to WRITE, but state 1, an {OPEN_A}, has access only to READ"
     refuse((16,), size, access, filehandle=FILE, stateid=state(1, 2))
-    refuse((0, 1 << 22), server_time, "the stateid has epoch 2, but this server has epoch 1", STATEIDS, FILE,
-           state(1, 2, epoch=2))
+    refuse(
+        (0, 1 << 22),
+        server_time,
+        "the stateid has epoch 2, but this server has epoch 1",
+        STATEIDS,
+        FILE,
+        state(1, 2, epoch=2),
+    )
     refuse((16,), (65537).to_bytes(8, "big"), "the size is 65537, but a file has at most 65536 bytes")
     story.set((16,), (65536).to_bytes(8, "big"), filehandle=OTHER_FILE)
     return story
@@ -131,8 +173,10 @@ def closes_beside_locks() -> Story:
     story.open(1)
     story.confirm(2, state(1))
     story.lock_first(3, state(1, 2), 1)
-    by_x = ('lock owner "x" of client 1 holds bytes 0 to {} of file "/a" for writing{}, in state 2, which was changed '
-            "last by ")
+    by_x = (
+        'lock owner "x" of client 1 holds bytes 0 to {} of file "/a" for writing{}, in state 2, which was changed '
+        "last by "
+    )
     held = by_x.format(9, "") + "entry 4 (LOCK)"
     story.close(4, state(1, 2), (held, "CLOSE"))
     again = f"it is a replay of entry 5 (CLOSE), and gets the stored reply; the cause then: {held}"
@@ -140,8 +184,10 @@ def closes_beside_locks() -> Story:
     # Entries 7 to 9: another lock owner, and two ranges of the first.
     story.lock_first(5, state(1, 2), 1, owner=LockOwner(1, 1, b"y"), locktype=1, offset=20, length=ALL)
     story.call(Opnum.LOCKU, Locku(2, 2, state(2), 4, 1))
-    by_y = ('lock owner "y" of client 1 holds the bytes from 20 on of file "/a" for reading, in state 3, which was '
-            "changed last by entry 7 (LOCK)")
+    by_y = (
+        'lock owner "y" of client 1 holds the bytes from 20 on of file "/a" for reading, in state 3, which was '
+        "changed last by entry 7 (LOCK)"
+    )
     both = by_x.format(3, ", the first of 2 ranges") + f"entry 8 (LOCKU); {by_y}"
     story.close(6, state(1, 2), (both, "CLOSE"))
     story.close(7, state(1), OLD)

@@ -6,17 +6,25 @@ from typing import NamedTuple
 from clause_index import TOP, Function, Source, crates, functions_of, sources_of
 
 FLOORS = "nfs_core", "nfs_leases", "nfs_shared", "nfs_server", "nfs_threads"
-VERB = re.compile(r"(?:^|_)(?:call|renew|sweep|expire|expiry|revoke|revocation|mark|probe|callback|has_delegation|take)"
-                  r"(?:_|$)")
+VERB = re.compile(
+    r"(?:^|_)(?:call|renew|sweep|expire|expiry|revoke|revocation|mark|probe|callback|has_delegation|take)" r"(?:_|$)"
+)
 
 CHAIN = f"{TOP}/tools/floors.chain"
 ENDS = ("nfs_threads/src/listening.rt", "serve_on"), ("nfs_rules/src/operations/getattr.rt", "decide")
 
 # The kind's words and files. In the others `path_of` is what SETCLIENTID_CONFIRM marks.
-WORD = re.compile(r"\b(?:Path|MarksPath|MarksKeepClients|IsPathMark|path_of|marks_keep_clients"
-                  r"|(?:\w+_)?(?:mark_path|path_mark)(?:_\w+)?)\b")
-OWN = ("nfs_rules/src/entries/path.rt", "nfs_rules/specs/entries/Path.antt", "nfs_owners/src/clients/path_marks.rt",
-       "nfs_owners/src/client_laws.rt", "nfs_owners/specs/laws/Marks.antt")
+WORD = re.compile(
+    r"\b(?:Path|MarksPath|MarksKeepClients|IsPathMark|path_of|marks_keep_clients"
+    r"|(?:\w+_)?(?:mark_path|path_mark)(?:_\w+)?)\b"
+)
+OWN = (
+    "nfs_rules/src/entries/path.rt",
+    "nfs_rules/specs/entries/Path.antt",
+    "nfs_owners/src/clients/path_marks.rt",
+    "nfs_owners/src/client_laws.rt",
+    "nfs_owners/specs/laws/Marks.antt",
+)
 OTHER = "nfs_rules/src/operations/setclientid_confirm.rt", "nfs_rules/specs/operations/SetclientidConfirm.antt"
 
 # The files of one operation, and those that list all.
@@ -26,6 +34,7 @@ LISTS = "nfs_xdr/src/op.rt", "nfs_xdr/src/op_result.rt", "nfs_xdr/src/opnum.rt"
 
 class Count(NamedTuple):
     """What was counted, how it is told, what was listed, and what is wrong with it."""
+
     name: str
     number: int
     told: str
@@ -76,8 +85,11 @@ def count_calls(functions: list[Function]) -> Count:
     for place, caller in enumerate(chain[:-1]):
         if not calls(caller, chain[place + 1]):
             wrong.append(f"{caller} doesn't call {chain[place + 1]}")
-        wrong += [f"{caller} calls {later} itself, so that what is between them is no part of the way"
-                  for later in chain[place + 2:] if times[later.name] == 1 and calls(caller, later)]
+        wrong += [
+            f"{caller} calls {later} itself, so that what is between them is no part of the way"
+            for later in chain[place + 2 :]
+            if times[later.name] == 1 and calls(caller, later)
+        ]
     listed = [f"{place}  {it.path}  {it}" for place, it in enumerate(chain, 1)]
     return Count("calls", len(chain), f"calls from `serve_on` to GETATTR's rule: {len(chain)}", listed, wrong)
 
@@ -99,8 +111,12 @@ def shared(name: str, what: str, found: Lines, more: str = "") -> Count:
 def count_kind(sources: list[Source], functions: list[Function]) -> Count:
     without = OWN + OTHER
     found = [line for it in sources if it.path not in without for line in lines_with(WORD, it)]
-    whole = {(it.path, at) for it in functions if WORD.fullmatch(it.name) and it.path not in without
-             for at in range(it.first - 1, it.last)}.union((path, at) for path, at, _ in found)
+    whole = {
+        (it.path, at)
+        for it in functions
+        if WORD.fullmatch(it.name) and it.path not in without
+        for at in range(it.first - 1, it.last)
+    }.union((path, at) for path, at, _ in found)
     above = {name for name, below in crates().items() if "nfs_core" in below}
     low = sum(path.split("/")[0] not in above for path, *_ in found)
     more = f"; {low} without the crates above the core; {len(whole)} with its functions whole"
@@ -114,17 +130,37 @@ def count_operation(sources: list[Source], name: str) -> Count:
     form = next(it for it in sources if it.path == f"nfs_operations/src/{small}.rt")
     types = set(re.findall(r"\bpub (?:struct|enum) (\w+)", form.code)) - {big}
     # A member of the lists of operations; the module of its own file; and what its file in nfs_operations has.
-    word = (rf"\b(?:Op|OpResult|Opnum|Transfer|ops?|opnums|results|of|transfers|operations)(?:::|\.){big}\b"
-            rf"|\bmod (?:{big}|{small})\b|\b{small}(?:::|\.rule\b)|\b(?:of|operations)::{small}\b"
-            rf"|\b(?:{'|'.join([f'(?:Same|Bounded) for {big}', *types])})\b")
+    word = (
+        rf"\b(?:Op|OpResult|Opnum|Transfer|ops?|opnums|results|of|transfers|operations)(?:::|\.){big}\b"
+        rf"|\bmod (?:{big}|{small})\b|\b{small}(?:::|\.rule\b)|\b(?:of|operations)::{small}\b"
+        rf"|\b(?:{'|'.join([f'(?:Same|Bounded) for {big}', *types])})\b"
+    )
     plain, listing = re.compile(word), re.compile(rf"{word}|^\s+{big}(?:,|\(| = )")
-    return shared(name, name, [line for it in sources if not OF_ONE.search(it.path)
-                               for line in lines_with(listing if it.path in LISTS else plain, it)])
+    return shared(
+        name,
+        name,
+        [
+            line
+            for it in sources
+            if not OF_ONE.search(it.path)
+            for line in lines_with(listing if it.path in LISTS else plain, it)
+        ],
+    )
 
 
 def counts() -> list[Count]:
-    sources = [it for name in crates() if name != "rows" and not name.endswith("_tests")
-               for pattern in ("src/**/*.rt", "specs/**/*.antt") for it in sources_of(name, pattern)]
+    sources = [
+        it
+        for name in crates()
+        if name != "rows" and not name.endswith("_tests")
+        for pattern in ("src/**/*.rt", "specs/**/*.antt")
+        for it in sources_of(name, pattern)
+    ]
     functions = [it for source in sources if source.file.suffix == ".rt" for it in functions_of(source)]
-    return [count_functions(functions), count_calls(functions), count_kind(sources, functions),
-            count_operation(sources, "GETATTR"), count_operation(sources, "READ")]
+    return [
+        count_functions(functions),
+        count_calls(functions),
+        count_kind(sources, functions),
+        count_operation(sources, "GETATTR"),
+        count_operation(sources, "READ"),
+    ]

@@ -5,12 +5,34 @@ from collections.abc import Callable, Iterable, Iterator
 from typing import Any
 
 from model.entries import Answer, Call, Expire, Forget, MOMENT_LIMIT, Path, Revoke, STATUSES, StrictReader, entry_bytes
-from model.journal import (EARLIER, HEAD, HEAD_OF, HEAD_OF_CLIENTS, Journal, Recorder, head_bytes, journal_bytes,
-                           read_whole)
+from model.journal import (
+    EARLIER,
+    HEAD,
+    HEAD_OF,
+    HEAD_OF_CLIENTS,
+    Journal,
+    Recorder,
+    head_bytes,
+    journal_bytes,
+    read_whole,
+)
 from model.tree import CALLBACKS, CLIENTS, CLOSE_LOCKS, DEFAULT, DELEGATIONS, Node, PROFILES, Policy, ROOT, Tree
 from nfs4 import wire
-from nfs4.wire import (Callback, Claim, KnownLocker, LockOwner, NewLocker, OpenOwner, Openhow, Opnum, Stateid, Status,
-                       opaque, u32, u64)
+from nfs4.wire import (
+    Callback,
+    Claim,
+    KnownLocker,
+    LockOwner,
+    NewLocker,
+    OpenOwner,
+    Openhow,
+    Opnum,
+    Stateid,
+    Status,
+    opaque,
+    u32,
+    u64,
+)
 
 CLIENTS_POLICY = Tree().policy._replace(profile=CLIENTS)
 NOT_JOURNAL = "fault: not a journal"
@@ -201,9 +223,16 @@ def calls_for_clients() -> Iterator[Asked]:
     everything = 0xFFFFFFFF, 0xFFBEFFFF
     listing = wire.Readdir(0, NO_VERIFIER, 0, LAST, everything)
     yield Opnum.READDIR, listing, 0
-    for other in (listing._replace(mask=()), listing._replace(cookie=4), listing._replace(maxcount=500),
-                  listing._replace(cookie=5), listing._replace(cookie=2), listing._replace(mask=(0, 1 << 22)),
-                  listing._replace(cookie=3, verifier=b"\xff" * 8), listing._replace(maxcount=15)):
+    for other in (
+        listing._replace(mask=()),
+        listing._replace(cookie=4),
+        listing._replace(maxcount=500),
+        listing._replace(cookie=5),
+        listing._replace(cookie=2),
+        listing._replace(mask=(0, 1 << 22)),
+        listing._replace(cookie=3, verifier=b"\xff" * 8),
+        listing._replace(maxcount=15),
+    ):
         yield Opnum.READDIR, other, 0
     yield Opnum.READDIR, listing, 3
     yield Opnum.READDIR, listing, FILE
@@ -211,9 +240,20 @@ def calls_for_clients() -> Iterator[Asked]:
     yield Opnum.GETATTR, wire.Getattr(everything), FILE
     yield Opnum.GETATTR, wire.Getattr((0, 1 << 16)), FILE
     size, time = u64(2), u32(0)
-    for mask, values in (((16,), size), ((16, 1 << 22), size + time), ((0, 1 << 22, 0), time), ((0, 0), b""),
-                         ((16,), size + time), ((16,), u64(65537)), ((0, 2), u32(0o600)), ((24,), size + size),
-                         ((0, 1 << 22), u32(1, 0, 9, 0)), ((0, 1 << 16), time), ((0, 0, 1), b""), ((16,), b"8 letter")):
+    for mask, values in (
+        ((16,), size),
+        ((16, 1 << 22), size + time),
+        ((0, 1 << 22, 0), time),
+        ((0, 0), b""),
+        ((16,), size + time),
+        ((16,), u64(65537)),
+        ((0, 2), u32(0o600)),
+        ((24,), size + size),
+        ((0, 1 << 22), u32(1, 0, 9, 0)),
+        ((0, 1 << 16), time),
+        ((0, 0, 1), b""),
+        ((16,), b"8 letter"),
+    ):
         yield Opnum.SETATTR, wire.Setattr(NOTHING, (mask, values)), FILE
     yield Opnum.SETATTR, wire.Setattr(NOTHING, ((16,), size)), 0
     yield Opnum.SETATTR, wire.Setattr(NOTHING, ((16,), size)), None
@@ -334,6 +374,7 @@ def written_out() -> Iterator[tuple[bytes, str]]:
 
 # Beginnings of journals.
 
+
 def beginning_of(journal: Journal) -> bytes:
     """Its file with 0 as the number of entries."""
     return with_words(journal_bytes(journal), len(head_bytes(journal)), 0)
@@ -344,7 +385,7 @@ def beginnings() -> Iterator[Named]:
     data = beginning_of(small())
     yield "a beginning", data
     yield "a beginning that is cut", data[:-4]
-    yield "a beginning with one entry", data[:places_of(small())[1]]
+    yield "a beginning with one entry", data[: places_of(small())[1]]
     yield "a beginning of the earlier version", beginning_of(earlier(small()))
     yield 'a beginning under "clients"', beginning_of(listed_and_set())
 
@@ -359,9 +400,10 @@ def places_of(journal: Journal) -> list[int]:
 
 # Files that are no journals: a name, the file, and the reason.
 
+
 def with_words(data: bytes, place: int, *words: int) -> bytes:
     """The file with these words in place of those from the place on."""
-    return data[:place] + u32(*words) + data[place + 4 * len(words):]
+    return data[:place] + u32(*words) + data[place + 4 * len(words) :]
 
 
 class PaddingReader(StrictReader):
@@ -383,7 +425,7 @@ def broken_padding() -> Iterator[Broken]:
         reader = PaddingReader(data)
         read_whole(reader)
         for place in reader.padding:
-            yield f"padding at {place}{which}", data[:place] + b"\1" + data[place + 1:], "padding that isn't zero"
+            yield f"padding at {place}{which}", data[:place] + b"\1" + data[place + 1 :], "padding that isn't zero"
 
 
 def broken_lengths() -> Iterator[Broken]:
@@ -401,7 +443,7 @@ def other_lengths() -> Iterator[Named]:
     """A lawful file with a word too few or too many, at each place: a name and the file."""
     data = file_of(small().entries + [Expire(1, 100, 191)])
     for place in range(0, len(data), 4):
-        yield f"a word too few at {place}", data[:place] + data[place + 4:]
+        yield f"a word too few at {place}", data[:place] + data[place + 4 :]
         yield f"a word too many at {place}", data[:place] + bytes(4) + data[place:]
 
 
@@ -484,8 +526,23 @@ def broken_operations() -> Iterator[Broken]:
     """The number of an operation, and arguments that can't be read."""
     data, begin = journal_bytes(small()), len(head_bytes(small())) + 4 + 28
     no_entry = "an operation that makes no entry"
-    without = {Opnum.ACCESS, Opnum.COMMIT, Opnum.GETFH, Opnum.LOOKUP, Opnum.PUTFH, Opnum.PUTROOTFH, Opnum.RESTOREFH,
-               Opnum.SAVEFH, Opnum.ILLEGAL, 0, 2, 7, 30, 37, 40}
+    without = {
+        Opnum.ACCESS,
+        Opnum.COMMIT,
+        Opnum.GETFH,
+        Opnum.LOOKUP,
+        Opnum.PUTFH,
+        Opnum.PUTROOTFH,
+        Opnum.RESTOREFH,
+        Opnum.SAVEFH,
+        Opnum.ILLEGAL,
+        0,
+        2,
+        7,
+        30,
+        37,
+        40,
+    }
     for number in sorted(without | {Opnum.READDIR, Opnum.SETATTR}):
         yield f"operation {number}", with_words(data, begin, number), no_entry
     for number in sorted(without | {6, 11, 28, 29}):
@@ -517,7 +574,7 @@ def broken_operations() -> Iterator[Broken]:
     for count in (1, 2**31, LAST):
         words = asked(Opnum.GETATTR, wire.Getattr(()))[:-12] + u32(count)
         yield f"a bitmap of {count} words, without them", words, "it ends too early"
-    words = asked(Opnum.GETATTR, wire.Getattr(range(2**16)))[:-2**18]
+    words = asked(Opnum.GETATTR, wire.Getattr(range(2**16)))[: -(2**18)]
     yield "a bitmap without its last words", words, "it ends too early"
 
 
@@ -600,6 +657,7 @@ def answered(answer: Answer) -> bytes:
 
 # Lists of nodes.
 
+
 def file(parent: int, name: bytes = b"a", text: bytes = b"") -> Node:
     return Node(parent, name, True, text)
 
@@ -668,14 +726,20 @@ def whole_files() -> Iterator[Named]:
         journal = earlier(journal_of([], [file(0)], Policy(delegations, callbacks, "free")))
         yield f"the policy {delegations}, {callbacks} of the earlier version", journal_bytes(journal)
     lists = {
-        "no nodes": [], "eight names": chain(7) + [file(7)], "64 files": many(64, file),
-        "64 directories": many(64, directory), "64 directories, the last after a file": [
-            *many(63, directory), file(0), directory(0), file(65)],
+        "no nodes": [],
+        "eight names": chain(7) + [file(7)],
+        "64 files": many(64, file),
+        "64 directories": many(64, directory),
+        "64 directories, the last after a file": [*many(63, directory), file(0), directory(0), file(65)],
         "a directory without a child before a file": [directory(0), file(0)],
         "directories after a file, each followed by a child": [file(0), directory(0), directory(2, b"e"), file(3)],
         "a name of 255 bytes, and a text of 65,536": [file(0, b"n" * 255, bytes(65536))],
         "names and texts that a document can only escape": [
-            directory(0, b"\n"), directory(0, b'"\\'), file(1, b"\x7f", b"\0\r"), file(2, b"\xef\xbb\xbf")],
+            directory(0, b"\n"),
+            directory(0, b'"\\'),
+            file(1, b"\x7f", b"\0\r"),
+            file(2, b"\xef\xbb\xbf"),
+        ],
         "characters of two, three and four bytes": [file(0, b"\xc3\xa9\xe2\x82\xac", b"\xf4\x8f\xbf\xbf")],
     }
     for name, nodes in lists.items():
@@ -693,10 +757,13 @@ def whole_files() -> Iterator[Named]:
     entry = u32(1) + u64(LAST) + opaque(b"n" * 300) + u32(0) + opaque(b"values")
     answers += [Answer(Opnum.READDIR, Status.OK, b"verifier" + count * entry + u32(0, 1)) for count in (0, 1, 200)]
     answers += [Answer(number, status, b"") for number in (6, 11, 28, 29) for status in (Status.NOTSUPP, Status.ROFS)]
-    answers += [Answer(Opnum.LOCKT, status, b"") for status in (Status.ROFS, Status.BAD_COOKIE, Status.TOOSMALL,
-                                                                Status.NOT_SAME, Status.ATTRNOTSUPP)]
-    answers += [Answer(Opnum.LOCKT, status, b"") for status in (Status.FBIG, Status.DELAY, Status.LOCKED,
-                                                                Status.CLID_INUSE)]
+    answers += [
+        Answer(Opnum.LOCKT, status, b"")
+        for status in (Status.ROFS, Status.BAD_COOKIE, Status.TOOSMALL, Status.NOT_SAME, Status.ATTRNOTSUPP)
+    ]
+    answers += [
+        Answer(Opnum.LOCKT, status, b"") for status in (Status.FBIG, Status.DELAY, Status.LOCKED, Status.CLID_INUSE)
+    ]
     for answer in answers:
         yield f"the answer {answer}", answered(answer)
 

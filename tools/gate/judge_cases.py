@@ -6,8 +6,23 @@ from typing import NamedTuple
 from gate.judge_clients import Locked, Opened, RightClient, Share, Span, write_span
 from gate.judge_rooms import Room, Setting
 from nfs4.client import Wrong
-from nfs4.wire import (BOTH, Close, Delegreturn, Lock, LockOwner, Locku, NewLocker, Opnum, READ, Read,
-                       Setclientid, SetclientidConfirm, Status, WRITE_LT, Write)
+from nfs4.wire import (
+    BOTH,
+    Close,
+    Delegreturn,
+    Lock,
+    LockOwner,
+    Locku,
+    NewLocker,
+    Opnum,
+    READ,
+    Read,
+    Setclientid,
+    SetclientidConfirm,
+    Status,
+    WRITE_LT,
+    Write,
+)
 
 Play = Callable[[Room, RightClient, RightClient], None]
 ERROR, WARNING = "error", "warning"
@@ -18,6 +33,7 @@ class Case(NamedTuple):
     """What the client `wrong` does wrong, by the finding's name and severity; the other errors that it has, of the
     refusals that this one follows; and what the server is begun with. Neither client leaves anything behind, unless
     the case says so."""
+
     finding: str
     play: Play
     severity: str = ERROR
@@ -29,15 +45,18 @@ class Case(NamedTuple):
 CASES: list[Case] = []
 
 
-def case(name: str, severity: str = ERROR, also: tuple[str, ...] = (), setting: Setting = Setting(),
-         leaves: bool = True) -> Callable[[Play], Play]:
+def case(
+    name: str, severity: str = ERROR, also: tuple[str, ...] = (), setting: Setting = Setting(), leaves: bool = True
+) -> Callable[[Play], Play]:
     def keep(play: Play) -> Play:
         CASES.append(Case(name, play, severity, also, setting, leaves))
         return play
+
     return keep
 
 
 # What clients do right.
+
 
 def opened(client: RightClient, path: bytes = b"a", share: Share = (BOTH, 0), owner: bytes = b"A") -> Opened:
     want(client.do(client.opening(client.owner(owner), (path,), share)))
@@ -59,6 +78,7 @@ def next_id(found: Opened | Locked, more: int = 1) -> int:
 
 
 # Stateids.
+
 
 @case("stateid-of-other-kind")
 def unlock_by_open(_room: Room, wrong: RightClient, right: RightClient) -> None:
@@ -274,6 +294,7 @@ def claim_of_other_client(_room: Room, wrong: RightClient, right: RightClient) -
 
 # Confirmation.
 
+
 def unconfirmed(client: RightClient, path: bytes = b"a", owner: bytes = b"U") -> Opened:
     """An open of an owner that isn't confirmed."""
     steps = client.opening(client.owner(owner), (path,), (BOTH, 0))
@@ -304,13 +325,13 @@ def lost_by_second_open(_room: Room, wrong: RightClient, right: RightClient) -> 
 
 # Sequence ids.
 
+
 @case("sequence-id-moved-after-uncounted-refusal", also=("no-filehandle",))
 def moved_after_no_filehandle(_room: Room, wrong: RightClient, right: RightClient) -> None:
     found = opened(wrong)
     words = Close(next_id(found), found.stateid)
     want(wrong.call((Opnum.CLOSE, words))[-1].status, Status.NOFILEHANDLE)
-    want(wrong.on(found.handle, Opnum.CLOSE, Close(next_id(found, 2), found.stateid))[-1].status,
-         Status.BAD_SEQID)
+    want(wrong.on(found.handle, Opnum.CLOSE, Close(next_id(found, 2), found.stateid))[-1].status, Status.BAD_SEQID)
     want(right.do(right.closing(opened(right))))
 
 

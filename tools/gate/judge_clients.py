@@ -11,11 +11,47 @@ from typing import Any, NamedTuple, Protocol, TypeVar
 
 from nfs4.client import Wrong
 from nfs4.messages import compound, words
-from nfs4.wire import (BOTH, CLAIM_DELEGATE_CUR, CLAIM_NULL, Callback, Claim, Close, Delegreturn, FORMS, Getattr,
-                       KnownLocker, Lock, LockOwner, Lockt, Locku, Lookup, NewLocker, Nothing, OPEN4_NOCREATE, Open,
-                       OpenConfirm, OpenDowngrade, OpenOwner, Openhow, OperationResult, Opnum, Putfh, READ_LT, Read,
-                       Reader, ReleaseLockowner, Renew, Setclientid, SetclientidConfirm, Stateid, Status, WRITE_LT,
-                       Write, read_result, record)
+from nfs4.wire import (
+    BOTH,
+    CLAIM_DELEGATE_CUR,
+    CLAIM_NULL,
+    Callback,
+    Claim,
+    Close,
+    Delegreturn,
+    FORMS,
+    Getattr,
+    KnownLocker,
+    Lock,
+    LockOwner,
+    Lockt,
+    Locku,
+    Lookup,
+    NewLocker,
+    Nothing,
+    OPEN4_NOCREATE,
+    Open,
+    OpenConfirm,
+    OpenDowngrade,
+    OpenOwner,
+    Openhow,
+    OperationResult,
+    Opnum,
+    Putfh,
+    READ_LT,
+    Read,
+    Reader,
+    ReleaseLockowner,
+    Renew,
+    Setclientid,
+    SetclientidConfirm,
+    Stateid,
+    Status,
+    WRITE_LT,
+    Write,
+    read_result,
+    record,
+)
 
 Operation = tuple[Opnum, Any]
 Results = list[OperationResult]
@@ -33,8 +69,15 @@ CONFIRM = 2
 # An address at which nobody listens.
 NOWHERE = Callback(0x40000000, b"tcp", b"127.0.0.1.3.232", 1)
 # The answers to an owner's request that leave its sequence id as it was (section 9.1.7).
-UNCOUNTED = {Status.STALE_CLIENTID, Status.STALE_STATEID, Status.BAD_STATEID, Status.BAD_SEQID, Status.BADXDR,
-             Status.RESOURCE, Status.NOFILEHANDLE}
+UNCOUNTED = {
+    Status.STALE_CLIENTID,
+    Status.STALE_STATEID,
+    Status.BAD_STATEID,
+    Status.BAD_SEQID,
+    Status.BADXDR,
+    Status.RESOURCE,
+    Status.NOFILEHANDLE,
+}
 # The words of a reply before its results: the header of the record, RPC's, the status, the tag and the count.
 REPLY_HEAD = 40
 
@@ -78,14 +121,16 @@ def results_of(reply: bytes) -> Results:
     if len(reply) < REPLY_HEAD:
         raise Wrong(f"a reply of {len(reply)} bytes")
     reader = Reader(reply[REPLY_HEAD:])
-    return [read_result(reader) for _ in range(int.from_bytes(reply[REPLY_HEAD - 4:REPLY_HEAD], "big"))]
+    return [read_result(reader) for _ in range(int.from_bytes(reply[REPLY_HEAD - 4 : REPLY_HEAD], "big"))]
 
 
 # What a client knows.
 
+
 @dataclass(eq=False)
 class Owner:
     """An open owner or a lock owner, and the last sequence id that counted."""
+
     name: bytes
     seqid: int = 0
     is_confirmed: bool = False
@@ -94,6 +139,7 @@ class Owner:
 @dataclass(eq=False)
 class Opened:
     """An open of an owner: the names that lead to its file, the filehandle, and the shares that it was opened with."""
+
     owner: Owner
     path: tuple[bytes, ...]
     handle: bytes
@@ -112,6 +158,7 @@ class Opened:
 @dataclass(eq=False)
 class Locked:
     """What a lock owner has of a file, and the bytes that it holds, each a first byte and a length."""
+
     owner: Owner
     opened: Opened
     stateid: Stateid
@@ -125,6 +172,7 @@ class Locked:
 @dataclass(eq=False)
 class Lent:
     """A delegation."""
+
     path: tuple[bytes, ...]
     handle: bytes
     stateid: Stateid
@@ -256,12 +304,16 @@ class RightClient:
         named = OpenOwner(*self.clientid_now(Opnum.OPEN), owner.name)
         return Open(self.next_id(owner, Opnum.OPEN), *share, named, NO_CREATE, claim)
 
-    def opening(self, owner: Owner, path: tuple[bytes, ...], share: Share = (BOTH, 0),
-                lent: Lent | None = None) -> Steps[int]:
+    def opening(
+        self, owner: Owner, path: tuple[bytes, ...], share: Share = (BOTH, 0), lent: Lent | None = None
+    ) -> Steps[int]:
         """OPEN by a path, and OPEN_CONFIRM if that is wanted: the status of the OPEN. Of a delegation that the client
         has it makes an open of its own (section 10.4.6)."""
-        claim = Claim(CLAIM_NULL, path[-1], None) if lent is None else Claim(
-            CLAIM_DELEGATE_CUR, path[-1], self.stateid_for(Opnum.OPEN, lent))
+        claim = (
+            Claim(CLAIM_NULL, path[-1], None)
+            if lent is None
+            else Claim(CLAIM_DELEGATE_CUR, path[-1], self.stateid_for(Opnum.OPEN, lent))
+        )
         way = [(Opnum.PUTROOTFH, Nothing())] + [(Opnum.LOOKUP, Lookup(name)) for name in path[:-1]]
         arguments = self.open_words(owner, share, claim)
         results = yield [*way, (Opnum.OPEN, arguments), (Opnum.GETFH, Nothing())]
@@ -302,8 +354,9 @@ class RightClient:
         return (yield from self.on_open(opened, Opnum.OPEN_CONFIRM, OpenConfirm))
 
     def downgrading(self, opened: Opened, share: Share) -> Steps[int]:
-        status = yield from self.on_open(opened, Opnum.OPEN_DOWNGRADE,
-                                         lambda stateid, seqid: OpenDowngrade(stateid, seqid, *share))
+        status = yield from self.on_open(
+            opened, Opnum.OPEN_DOWNGRADE, lambda stateid, seqid: OpenDowngrade(stateid, seqid, *share)
+        )
         if status == Status.OK:
             opened.pairs = [it for it in opened.pairs if it[0] & ~share[0] == 0 and it[1] & ~share[1] == 0]
         return status
@@ -376,13 +429,17 @@ class RightClient:
     # The bytes, and delegations (sections 16.6, 16.23 and 16.36).
 
     def reading(self, held: Held) -> Steps[int]:
-        results = yield [(Opnum.PUTFH, Putfh(self.handle_for(Opnum.READ, held))),
-                         (Opnum.READ, Read(self.stateid_for(Opnum.READ, held), 0, 5))]
+        results = yield [
+            (Opnum.PUTFH, Putfh(self.handle_for(Opnum.READ, held))),
+            (Opnum.READ, Read(self.stateid_for(Opnum.READ, held), 0, 5)),
+        ]
         return results[-1].status
 
     def writing(self, held: Held) -> Steps[int]:
-        results = yield [(Opnum.PUTFH, Putfh(self.handle_for(Opnum.WRITE, held))),
-                         (Opnum.WRITE, Write(self.stateid_for(Opnum.WRITE, held), 0, 2, b"bytes"))]
+        results = yield [
+            (Opnum.PUTFH, Putfh(self.handle_for(Opnum.WRITE, held))),
+            (Opnum.WRITE, Write(self.stateid_for(Opnum.WRITE, held), 0, 2, b"bytes")),
+        ]
         return results[-1].status
 
     def looking(self, handle: bytes) -> Steps[int]:
@@ -392,8 +449,10 @@ class RightClient:
 
     def giving_back(self, lent: Lent) -> Steps[int]:
         """DELEGRETURN. The answer to one that came again is that there is no such delegation any more."""
-        results = yield [(Opnum.PUTFH, Putfh(self.handle_for(Opnum.DELEGRETURN, lent))),
-                         (Opnum.DELEGRETURN, Delegreturn(self.stateid_for(Opnum.DELEGRETURN, lent)))]
+        results = yield [
+            (Opnum.PUTFH, Putfh(self.handle_for(Opnum.DELEGRETURN, lent))),
+            (Opnum.DELEGRETURN, Delegreturn(self.stateid_for(Opnum.DELEGRETURN, lent))),
+        ]
         if results[-1].status in (Status.OK, Status.BAD_STATEID):
             self.lent = [it for it in self.lent if it is not lent]
             self.give_up(lent)

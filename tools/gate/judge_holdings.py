@@ -1,18 +1,33 @@
 """More cases of findings, as judge_cases.py has them: what needs time or callbacks, what an open or a delegation
 allows, and what a client leaves behind."""
-from gate.judge_cases import (CASES as REQUESTS, Case, LENDING, WARNING, borrow, case, locked, opened, unconfirmed,
-                              want)
+from gate.judge_cases import CASES as REQUESTS, Case, LENDING, WARNING, borrow, case, locked, opened, unconfirmed, want
 from gate.judge_clients import ENDLESS, NO_CREATE, RightClient, read_span, write_span
 from gate.judge_rooms import ENDS, Room, SILENT, Setting, wait_for
 from model.entries import Expire, Path, Revoke
-from nfs4.wire import (BOTH, CLAIM_PREVIOUS, Callback, Claim, LockOwner, Lockt, Open, OpenOwner, Opnum, READ,
-                       Read, Setclientid, Status, WRITE, WRITE_LT)
+from nfs4.wire import (
+    BOTH,
+    CLAIM_PREVIOUS,
+    Callback,
+    Claim,
+    LockOwner,
+    Lockt,
+    Open,
+    OpenOwner,
+    Opnum,
+    READ,
+    Read,
+    Setclientid,
+    Status,
+    WRITE,
+    WRITE_LT,
+)
 
 CASES: list[Case] = REQUESTS
 SHORT, LENDING_SHORT = Setting(lease=1), Setting(lease=2, delegations="all")
 
 
 # Leases.
+
 
 def lapse(room: Room, wrong: RightClient, right: RightClient) -> None:
     """The wrong client has an open, and doesn't renew its lease, as the right one does."""
@@ -62,11 +77,14 @@ def goes_on_when_replaced(_room: Room, wrong: RightClient, right: RightClient) -
         client.verifier = b"another!"
         want(client.do(client.introducing()))
         client.clientid = before if client is wrong else client.clientid
-        want(client.do(client.opening(client.owner(b"A"), (b"b",))),
-             Status.STALE_CLIENTID if client is wrong else Status.OK)
+        want(
+            client.do(client.opening(client.owner(b"A"), (b"b",))),
+            Status.STALE_CLIENTID if client is wrong else Status.OK,
+        )
 
 
 # Delegations.
+
 
 def recall(room: Room, holder: RightClient, other: RightClient) -> None:
     """The holder's delegation is recalled, since another client opens the file, and its path is marked."""
@@ -109,6 +127,7 @@ def write_by_delegation_for_reading(_room: Room, wrong: RightClient, right: Righ
 
 
 # What an open allows.
+
 
 @case("read-without-access")
 def read_write_only(_room: Room, wrong: RightClient, right: RightClient) -> None:
@@ -189,6 +208,7 @@ def other_principal(_room: Room, wrong: RightClient, right: RightClient) -> None
 
 # Warnings: what is left.
 
+
 @case("open-left", WARNING, leaves=False)
 def open_at_end(_room: Room, wrong: RightClient, right: RightClient) -> None:
     opened(wrong)
@@ -236,6 +256,7 @@ def closed_with_lock(_room: Room, wrong: RightClient, right: RightClient) -> Non
 
 
 # Warnings: others.
+
 
 @case("delay-hammered", WARNING, setting=LENDING)
 def asked_without_a_pause(room: Room, wrong: RightClient, right: RightClient) -> None:

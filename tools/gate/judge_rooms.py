@@ -22,12 +22,16 @@ PATIENCE = 20
 # What may be where a client is called back: who accepts, says nothing, or ends each connection.
 ACCEPTS, SILENT, ENDS = "accepts", "silent", "ends"
 ANSWERS: dict[str, Callable[[Any], Any]] = {
-    ACCEPTS: accept, SILENT: keep_silent, ENDS: lambda heard: reset(heard.stream)}
+    ACCEPTS: accept,
+    SILENT: keep_silent,
+    ENDS: lambda heard: reset(heard.stream),
+}
 CALLBACK_PROGRAM = 0x40000000
 
 
 class Setting(NamedTuple):
     """What a server is begun with."""
+
     lease: int = 90
     delegations: str = "none"
     close_locks: str = "free"
@@ -40,11 +44,14 @@ class Setting(NamedTuple):
 
 class Room(Protocol):
     """A server, while it is entered; it leaves a journal."""
+
     setting: Setting
 
-    def __enter__(self) -> "Room": ...
+    def __enter__(self) -> "Room":
+        ...
 
-    def __exit__(self, *_: Any) -> None: ...
+    def __exit__(self, *_: Any) -> None:
+        ...
 
     def stranger(self, name: bytes, uid: int | None = None, answer: str = ACCEPTS) -> RightClient:
         """A client that hasn't introduced itself."""
@@ -132,8 +139,19 @@ class AtProgram:
         tree = self.path + ".toml"
         with open(tree, "w", encoding="utf-8") as out:
             out.write(self.setting.document())
-        options = ["--listen", "127.0.0.1:0", "--tree", tree, "--journal", self.path, "--until-input-ends",
-                   "--lease", str(self.setting.lease), "--epoch", str(self.setting.epoch)]
+        options = [
+            "--listen",
+            "127.0.0.1:0",
+            "--tree",
+            tree,
+            "--journal",
+            self.path,
+            "--until-input-ends",
+            "--lease",
+            str(self.setting.lease),
+            "--epoch",
+            str(self.setting.epoch),
+        ]
         self.served = self.stack.enter_context(Served([PROGRAM, "serve", *options], stdin=subprocess.PIPE))
         return self
 

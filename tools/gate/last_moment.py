@@ -28,9 +28,27 @@ from model.sequenced import NOT_COUNTED
 from model.server import OPERATIONS, Lease
 from model.states import SLOTS
 from nfs4.client import Client, numbers_of as words_of, way_to, Wrong
-from nfs4.messages import (CLOSE, DELEGRETURN, GETATTR, LOCKU, NFS4_OK, NFS4ERR_STALE_CLIENTID, OPEN_CONFIRM,
-                           OPEN_DOWNGRADE, PUTFH, PUTROOTFH, READ, RENEW, SETATTR, WRITE, compound, confirmation,
-                           handle, setclientid, words)
+from nfs4.messages import (
+    CLOSE,
+    DELEGRETURN,
+    GETATTR,
+    LOCKU,
+    NFS4_OK,
+    NFS4ERR_STALE_CLIENTID,
+    OPEN_CONFIRM,
+    OPEN_DOWNGRADE,
+    PUTFH,
+    PUTROOTFH,
+    READ,
+    RENEW,
+    SETATTR,
+    WRITE,
+    compound,
+    confirmation,
+    handle,
+    setclientid,
+    words,
+)
 from nfs4.served import Peer, Served, tree_for_clients
 from nfs4.wire import Opnum, READ_LT, Status, Unreadable, opaque, u64
 
@@ -52,6 +70,7 @@ RENEWING = {opnum for opnum, operation in OPERATIONS.items() if operation.lease 
 class Outcome(NamedTuple):
     """What came of a server: by the users of its connections what went over each; its journal; and how many of the
     renewals at the last moment came in time, and how many missed."""
+
     lease: int
     exchanges: dict[int, list[Exchange]]
     journal: bytes
@@ -81,7 +100,7 @@ class Link:
             self.exchanges.append(Exchange(record, reply, self.sent, time.monotonic_ns()))
             if len(reply) < 40:
                 raise Wrong(f"user {self.uid} gets {reply.hex(' ', 4)} for {record.hex(' ', 4)}")
-        return [words_of(it.reply) for it in self.exchanges[len(self.exchanges) - len(self.waiting):]]
+        return [words_of(it.reply) for it in self.exchanges[len(self.exchanges) - len(self.waiting) :]]
 
     def ask(self, *calls: list[bytes]) -> list[list[int]]:
         self.send(calls)
@@ -118,8 +137,10 @@ class Pace:
         """Takes the time before which most came in time, and behind which most missed."""
         tries, self.tries = sorted(self.tries), []
         if tries:
-            right = [sum(is_in_time == (place < split) for place, (_, is_in_time) in enumerate(tries))
-                     for split in range(len(tries) + 1)]
+            right = [
+                sum(is_in_time == (place < split) for place, (_, is_in_time) in enumerate(tries))
+                for split in range(len(tries) + 1)
+            ]
             times = [tries[0][0] - MOST, *(behind for behind, _ in tries), tries[-1][0] + MOST]
             split = right.index(max(right))
             middle = (times[split] + times[split + 1]) / 2
@@ -138,7 +159,7 @@ class Holder(Client):
     def come(self, home: Link, side: Link) -> None:
         """Comes over one connection, and in its own place if it is there, while the other one asks for both."""
         before, self.visits, self.is_silent, self.open = self.number, self.visits + 1, False, 0
-        found, = home.ask([setclientid(u64(self.visits), self.name)])
+        (found,) = home.ask([setclientid(u64(self.visits), self.name)])
         if status_of(found) != NFS4_OK:
             raise Wrong(f"SETCLIENTID is answered {status_of(found)}")
         self.number, value = found[12], found[14]
@@ -152,7 +173,7 @@ class Holder(Client):
     def begin(self, link: Link) -> None:
         """Opens the file, unless the lease has ended meanwhile."""
         self.file, self.last, self.open_seqid, self.lock_last = FILE, 1, 1, 0
-        found, = link.ask([*(words for words, _ in way_to(FILE)), self.open_words(1)])
+        (found,) = link.ask([*(words for words, _ in way_to(FILE)), self.open_words(1)])
         if status_of(found) == NFS4_OK:
             self.open = found[16]
             link.ask([words(PUTFH) + handle(FILE), self.open_confirm_words(2)])
@@ -175,15 +196,22 @@ class Holder(Client):
         if kind == "open":
             return [*(words for words, _ in way_to(FILE)), self.open_words(self.last + 1)]
         none = self.stateid(2**32 - 1, 1)
-        return [words(PUTFH) + handle(FILE), {
-            "read": words(READ) + self.open_stateid() + u64(0) + words(1),
-            "write": words(WRITE) + self.open_stateid() + u64(0) + words(0) + opaque(b""),
-            "setattr": words(SETATTR) + self.open_stateid() + words(1, 1 << SIZE) + opaque(u64(5)),
-            "lock": self.first_lock_words(self.last + 1), "lockt": self.lockt_words(b"other", self.span()),
-            "release": self.release_words(), "close": words(CLOSE, 1) + none,
-            "locku": words(LOCKU, READ_LT, 1) + none + self.span(), "delegreturn": words(DELEGRETURN) + none,
-            "open_confirm": words(OPEN_CONFIRM) + none + words(1),
-            "open_downgrade": words(OPEN_DOWNGRADE) + none + words(1, 1, 0)}[kind]]
+        return [
+            words(PUTFH) + handle(FILE),
+            {
+                "read": words(READ) + self.open_stateid() + u64(0) + words(1),
+                "write": words(WRITE) + self.open_stateid() + u64(0) + words(0) + opaque(b""),
+                "setattr": words(SETATTR) + self.open_stateid() + words(1, 1 << SIZE) + opaque(u64(5)),
+                "lock": self.first_lock_words(self.last + 1),
+                "lockt": self.lockt_words(b"other", self.span()),
+                "release": self.release_words(),
+                "close": words(CLOSE, 1) + none,
+                "locku": words(LOCKU, READ_LT, 1) + none + self.span(),
+                "delegreturn": words(DELEGRETURN) + none,
+                "open_confirm": words(OPEN_CONFIRM) + none + words(1),
+                "open_downgrade": words(OPEN_DOWNGRADE) + none + words(1, 1, 0),
+            }[kind],
+        ]
 
     def take(self, kind: str, reply: list[int]) -> bool:
         """Whether the lease was there, by the reply to such a call."""
@@ -198,8 +226,20 @@ class Holder(Client):
         return status not in (NFS4ERR_STALE_CLIENTID, Status.EXPIRED)
 
 
-KINDS = ("renew",) * 8 + ("read", "write", "setattr", "open", "lock", "lockt", "release", "close", "locku",
-                          "delegreturn", "open_confirm", "open_downgrade")
+KINDS = ("renew",) * 8 + (
+    "read",
+    "write",
+    "setattr",
+    "open",
+    "lock",
+    "lockt",
+    "release",
+    "close",
+    "locku",
+    "delegreturn",
+    "open_confirm",
+    "open_downgrade",
+)
 
 
 class House:
@@ -207,7 +247,7 @@ class House:
 
     def __init__(self, setting: "Setting", place: int) -> None:
         self.setting, self.chance = setting, random.Random(f"{setting.seed} {place}")
-        self.home, self.side = setting.links[2 * place:2 * place + 2]
+        self.home, self.side = setting.links[2 * place : 2 * place + 2]
         self.holders = [Holder(1 + place * EACH + number) for number in range(EACH)]
 
     def live(self) -> None:
@@ -306,8 +346,14 @@ def serve(program: str, lease: int, seconds: int, seed: int) -> Outcome:
     time.sleep(LEASES.index(lease) / len(LEASES))
     with tempfile.TemporaryDirectory() as folder:
         journal = os.path.join(folder, "journal")
-        options = {"--listen": "127.0.0.1:0", "--connections": str(2 * THREADS + 1), "--tree": tree_for_clients(folder),
-                   "--lease": str(lease), "--epoch": str(EPOCH), "--journal": journal}
+        options = {
+            "--listen": "127.0.0.1:0",
+            "--connections": str(2 * THREADS + 1),
+            "--tree": tree_for_clients(folder),
+            "--lease": str(lease),
+            "--epoch": str(EPOCH),
+            "--journal": journal,
+        }
         with Served([program, "serve", *(word for option in options.items() for word in option)]) as served:
             if served.port is None:
                 raise Wrong(f"it doesn't listen: {served.end()}")
@@ -320,6 +366,7 @@ def serve(program: str, lease: int, seconds: int, seed: int) -> Outcome:
 
 
 # What is made of it.
+
 
 def judge(outcome: Outcome, program: Program) -> TimedJudge:
     """Who judged it; the journal is lawful by the model and by this program."""
@@ -364,11 +411,18 @@ class Tally:
             is_live = one.is_ok if one.number is None else one.client in judge.lives[one.number]
             self.counts["renewed" if is_live else "refused"] += 1
             self.renewed |= {opnum} if is_live else set()
-        self.counts.update({
-            "in time": outcome.in_time, "missed": outcome.missed, "came": len(came),
-            "ended": sum(isinstance(entry, Expire) for entry in entries),
-            "replaced": sum(isinstance(entries[number], Call) for number in judge.went.values()),
-            "again": sum(number >= SLOTS for number in came), "sure": sum(judge.renews), "renews": len(judge.renews)})
+        self.counts.update(
+            {
+                "in time": outcome.in_time,
+                "missed": outcome.missed,
+                "came": len(came),
+                "ended": sum(isinstance(entry, Expire) for entry in entries),
+                "replaced": sum(isinstance(entries[number], Call) for number in judge.went.values()),
+                "again": sum(number >= SLOTS for number in came),
+                "sure": sum(judge.renews),
+                "renews": len(judge.renews),
+            }
+        )
         sends = Counter(exchange.sent for exchanges in outcome.exchanges.values() for exchange in exchanges)
         self.counts["writes of many"] += sum(count > 1 for count in sends.values())
 
@@ -380,12 +434,13 @@ class Tally:
         return found + [what for what in ("in time", "missed") if 20 * self.counts[what] < tries]
 
     def words(self) -> str:
-        return ("leases of {} s are renewed at the last moment {in time} times in time, and {missed} times missed; "
-                "{came} clients came, {again} of them in slots that were given before, {ended} were ended by sweeps, "
-                "none within a lease of a renewal that was answered, and {replaced} replaced; {renewed} operations "
-                "renewed a lease, and {refused} named a client that wasn't live; {renews} RENEWs are answered as their "
-                "clients were live, of which {sure} could be answered only so"
-                ).format(" and ".join(map(str, LEASES)), **self.counts)
+        return (
+            "leases of {} s are renewed at the last moment {in time} times in time, and {missed} times missed; "
+            "{came} clients came, {again} of them in slots that were given before, {ended} were ended by sweeps, "
+            "none within a lease of a renewal that was answered, and {replaced} replaced; {renewed} operations "
+            "renewed a lease, and {refused} named a client that wasn't live; {renews} RENEWs are answered as their "
+            "clients were live, of which {sure} could be answered only so"
+        ).format(" and ".join(map(str, LEASES)), **self.counts)
 
 
 def run(program: Program, seconds: int, seed: int) -> Tally:

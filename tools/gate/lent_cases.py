@@ -1,7 +1,18 @@
 """Stories about delegations for test_reasons.py, as `reason_cases.py` has them of opens and locks."""
 from gate.journal_cases import SOMEBODY
-from gate.reason_cases import (DELEGATIONS, NO_HANDLE, ONES, OPEN_A, OPEN_BY_A, OTHER_FILE, OWNERS, STATEIDS, Story,
-                               ZEROS, state)
+from gate.reason_cases import (
+    DELEGATIONS,
+    NO_HANDLE,
+    ONES,
+    OPEN_A,
+    OPEN_BY_A,
+    OTHER_FILE,
+    OWNERS,
+    STATEIDS,
+    Story,
+    ZEROS,
+    state,
+)
 from model.tree import DEFAULT
 from nfs4.wire import Claim
 
@@ -28,8 +39,10 @@ def bytes_of_lent_files() -> Story:
     story = lent()
     story.write(state(2))
     story.read(state(2))
-    bars = (f"state 2, {A_DELEGATION} to client 1 since entry 4 (OPEN), conflicts with READs and WRITEs with a special "
-            "stateid, from every client, and ")
+    bars = (
+        f"state 2, {A_DELEGATION} to client 1 since entry 4 (OPEN), conflicts with READs and WRITEs with a special "
+        "stateid, from every client, and "
+    )
     story.read(ZEROS, (bars + "is recalled now", DELEGATIONS))
     story.write(ONES, (bars + "was recalled by entry 9 (READ)", DELEGATIONS))
     story.tell(f"client 1 gets state 4, {TO_READ}")
@@ -43,8 +56,10 @@ def bytes_of_lent_files() -> Story:
     mode = f"WRITE needs access to WRITE, but the stateid is that of state 6, {TO_READ} to client 2"
     story.write(state(6, client=2), (mode, "WRITE"), OTHER_FILE)
     bars = "conflicts with WRITEs with a special stateid, from every client, and is recalled now"
-    both = (f"state 4, {TO_READ} to client 1 since entry 11 (OPEN), {bars}; state 6, {TO_READ} to client 2 since entry "
-            f"14 (OPEN), {bars}")
+    both = (
+        f"state 4, {TO_READ} to client 1 since entry 11 (OPEN), {bars}; state 6, {TO_READ} to client 2 since entry "
+        f"14 (OPEN), {bars}"
+    )
     story.write(ZEROS, (both, DELEGATIONS), OTHER_FILE)
     story.tell(f"client 1 returns state 2, {A_DELEGATION}; it was recalled by entry 9 (READ), at 0")
     story.give_back(state(2))
@@ -56,8 +71,10 @@ def bytes_of_lent_files() -> Story:
 def delays() -> Story:
     """OPENs that conflict with delegations of others, recalled by them or before."""
     story = lent()
-    bars = (f"state 2, {A_DELEGATION} to client 1 since entry 4 (OPEN), conflicts with every open of another client, "
-            "and ")
+    bars = (
+        f"state 2, {A_DELEGATION} to client 1 since entry 4 (OPEN), conflicts with every open of another client, "
+        "and "
+    )
     story.open(1, (bars + "is recalled now", DELEGATIONS), b"B", 1, client=2)
     story.open(1, (bars + "was recalled by entry 7 (OPEN)", DELEGATIONS), b"B", 2, client=2)
     story.tell(f"client 1 gets state 4, {TO_READ}")
@@ -68,9 +85,11 @@ def delays() -> Story:
     story.open(3, None, b"B", 1, client=2, name=b"b")
     story.introduce(b"c3")
     story.confirm_client(3, 3)
-    both = (f"state 4, {TO_READ} to client 1 since entry 9 (OPEN), conflicts with opens of other clients that write "
-            f"or deny READ, and is recalled now; state 6, {TO_READ} to client 2 since entry 12 (OPEN), conflicts with "
-            "opens of other clients that write or deny READ, and is recalled now")
+    both = (
+        f"state 4, {TO_READ} to client 1 since entry 9 (OPEN), conflicts with opens of other clients that write "
+        f"or deny READ, and is recalled now; state 6, {TO_READ} to client 2 since entry 12 (OPEN), conflicts with "
+        "opens of other clients that write or deny READ, and is recalled now"
+    )
     story.open(1, (both, DELEGATIONS), b"C", 2, client=3, name=b"b")
     return story
 
@@ -84,9 +103,11 @@ def many_delays() -> Story:
         story.open(1, owner=b"A", access=1, client=client)
         story.confirm(2, state(2 * client - 1, client=client))
         story.tell(f'client {client} gets state {2 * client}, a delegation of file "/a" for reading')
-        named.append(f'state {2 * client}, a delegation of file "/a" for reading to client {client} since entry '
-                     f"{story.server.entries} (OPEN), conflicts with opens of other clients that write or deny READ, "
-                     "and is recalled now")
+        named.append(
+            f'state {2 * client}, a delegation of file "/a" for reading to client {client} since entry '
+            f"{story.server.entries} (OPEN), conflicts with opens of other clients that write or deny READ, "
+            "and is recalled now"
+        )
         story.open(3, owner=b"A", access=1, client=client)
     story.introduce(b"c6")
     story.confirm_client(6, 6)
@@ -116,8 +137,12 @@ def delegation_stateids() -> Story:
     story.open(1, (of + theirs, "OPEN"), b"B", 1, client=2, claim=claim)
     story.open(4, (of + stands + "earlier 0", STATEIDS), claim=Claim(2, b"a", state(2, 0)))
     story.open(5, (of + stands + "later 2", STATEIDS), claim=Claim(2, b"a", state(2, 2)))
-    story.open(5, (of + place.replace("the current filehandle is that of", "the OPEN names"), STATEIDS), name=b"b",
-               claim=Claim(2, b"b", state(2)))
+    story.open(
+        5,
+        (of + place.replace("the current filehandle is that of", "the OPEN names"), STATEIDS),
+        name=b"b",
+        claim=Claim(2, b"b", state(2)),
+    )
     story.tell(f"client 1 returns state 2, {A_DELEGATION}; it wasn't recalled")
     story.give_back(state(2))
     ended = f"state 2, {A_DELEGATION} to client 1, was ended by entry 19 (DELEGRETURN)"
@@ -129,8 +154,10 @@ def delegation_stateids() -> Story:
 def ends_of_delegations() -> Story:
     """Returned after a recall, revoked, and gone with their clients."""
     story = lent()
-    bars = (f"state 2, {A_DELEGATION} to client 1 since entry 4 (OPEN), conflicts with every open of another client, "
-            "and ")
+    bars = (
+        f"state 2, {A_DELEGATION} to client 1 since entry 4 (OPEN), conflicts with every open of another client, "
+        "and "
+    )
     called = (bars + "is recalled now", DELEGATIONS)
     story.open(1, called, b"B", 1, client=2)
     story.tell(f"client 1 returns state 2, {A_DELEGATION}; it was recalled by entry 7 (OPEN), at 0")
@@ -140,8 +167,10 @@ def ends_of_delegations() -> Story:
     # The same OPEN again gives nothing.
     story.tell(f"client 1 gets state 3, {A_DELEGATION} again, which entry 9 granted")
     story.repeat(9, OPEN_BY_A)
-    bars = (f"state 3, {A_DELEGATION} to client 1 since entry 9 (OPEN), conflicts with every open of another client, "
-            "and ")
+    bars = (
+        f"state 3, {A_DELEGATION} to client 1 since entry 9 (OPEN), conflicts with every open of another client, "
+        "and "
+    )
     story.server.moment = 10
     story.open(1, (bars + "is recalled now", DELEGATIONS), b"B", 1, client=2)
     lost = f"client 1 loses state 3, {A_DELEGATION}, because it is revoked; it was recalled by "
@@ -167,8 +196,10 @@ def clients_with_delegations() -> Story:
     """A delegation is state of its client, and goes where another one takes its place."""
     story = lent()
     story.close(4, state(1, 3))
-    used = (f'the id "c1" is that of client 1, by AUTH_NONE, which has state: state 2, {A_DELEGATION} to client 1, '
-            "since entry 4 (OPEN)")
+    used = (
+        f'the id "c1" is that of client 1, by AUTH_NONE, which has state: state 2, {A_DELEGATION} to client 1, '
+        "since entry 4 (OPEN)"
+    )
     story.introduce(verifier=2, because=(used, "SETCLIENTID"), principal=SOMEBODY)
     story.introduce(verifier=2)
     story.tell(f"client 1 loses state 2, {A_DELEGATION}, because the client is removed; it wasn't recalled")
@@ -194,15 +225,19 @@ def clients_of_slots() -> Story:
     story.confirm(2, state(1, client=257))
     story.tell(f"{one} gets state 2, {A_DELEGATION}")
     story.open(3, client=257)
-    used = (f'the id "c1" is that of {one}, by AUTH_NONE, which has state: state 1, an open of file "/a" by open owner '
-            f'"A" of {one}, since entry 8 (OPEN)')
+    used = (
+        f'the id "c1" is that of {one}, by AUTH_NONE, which has state: state 1, an open of file "/a" by open owner '
+        f'"A" of {one}, since entry 8 (OPEN)'
+    )
     story.introduce(verifier=2, because=(used, "SETCLIENTID"), principal=SOMEBODY)
     value = f"entry 3 (SETCLIENTID) gave confirm verifier 2 to {one}"
     story.confirm_client(258, 2, (value, "SETCLIENTID_CONFIRM"))
     whose = f"state 2 was given to {one}, but the stateid names {other}"
     story.give_back(state(2, client=258), (whose, STATEIDS))
-    theirs = (f"of the delegation's stateid: it is that of state 2, {A_DELEGATION} to {one}, but the OPEN is one of "
-              f"{other}")
+    theirs = (
+        f"of the delegation's stateid: it is that of state 2, {A_DELEGATION} to {one}, but the OPEN is one of "
+        f"{other}"
+    )
     story.open(1, (theirs, "OPEN"), b"B", 1, client=258, claim=Claim(2, b"a", state(2, client=257)))
     story.tell(f"the callback path of {one} was up since entry 4 (SETCLIENTID_CONFIRM)")
     story.server.mark_path(257, False)
@@ -211,5 +246,12 @@ def clients_of_slots() -> Story:
     return story
 
 
-STORIES_OF_DELEGATIONS = (bytes_of_lent_files, delays, many_delays, delegation_stateids, ends_of_delegations,
-                          clients_with_delegations, clients_of_slots)
+STORIES_OF_DELEGATIONS = (
+    bytes_of_lent_files,
+    delays,
+    many_delays,
+    delegation_stateids,
+    ends_of_delegations,
+    clients_with_delegations,
+    clients_of_slots,
+)

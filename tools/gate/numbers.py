@@ -26,13 +26,19 @@ def keep(name: str, numbers: dict[str, Any]) -> None:
 
 def numbers() -> dict[str, int]:
     found = {count.name: count.number for count in counts()}
-    return {"calls from serve_on to GETATTR's rule": found["calls"], "shared lines of GETATTR": found["GETATTR"],
-            "shared lines of READ": found["READ"], "words of pages": words_of(pages()),
-            "processor minutes of the gate": kept()["gate"]["minutes"]}
+    return {
+        "calls from serve_on to GETATTR's rule": found["calls"],
+        "shared lines of GETATTR": found["GETATTR"],
+        "shared lines of READ": found["READ"],
+        "words of pages": words_of(pages()),
+        "processor minutes of the gate": kept()["gate"]["minutes"],
+    }
 
 
 def told() -> list[str]:
     """A line for each, with what it was at the last release."""
     before = kept()["release"]
-    return [f"{name}: {number:,} ({f'{before[name]:,} at the last release' if name in before else 'no release yet'})"
-            for name, number in numbers().items()]
+    return [
+        f"{name}: {number:,} ({f'{before[name]:,} at the last release' if name in before else 'no release yet'})"
+        for name, number in numbers().items()
+    ]

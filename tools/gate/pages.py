@@ -49,12 +49,19 @@ KEYWORDS = {"fn", "ghost", "impl", "mod", "pub", "use"}
 
 # What defines names: the first word in brackets that is found. Of fields and variants it is the beginning of a line.
 DEFINED = {
-    "rt": re.compile(r"\b(?:fn|struct|enum|trait|type|const|static|mod|macro_rules!)\s+(\w+)"
-                     r"|\b(?:requires|ensures)\*?\s+(\w+)\s*\{|\bghost\s+(\w+)\s*[:=]"
-                     r"|^\s+(?:pub(?:\([\w ]+\))?\s+)?(\w+)(?:,$|\(|:\s|\s=\s|\s\{$)", re.M),
-    "antt": re.compile(r"^\s*(?:(?:abbrev|unfoldable|pub|record|data)\s+)*([^\s:(){}]+)\s*(?::(?!:)|where|$)"
-                       r"|\|\s*(?:pub )?(\w+)\s*:", re.M),
-    "py": re.compile(r"\b(?:def|class)\s+(\w+)|^\s*(\w+)(?:,\s*\w+)*\s*(?::[^=\n]+)?=", re.M)}
+    "rt": re.compile(
+        r"\b(?:fn|struct|enum|trait|type|const|static|mod|macro_rules!)\s+(\w+)"
+        r"|\b(?:requires|ensures)\*?\s+(\w+)\s*\{|\bghost\s+(\w+)\s*[:=]"
+        r"|^\s+(?:pub(?:\([\w ]+\))?\s+)?(\w+)(?:,$|\(|:\s|\s=\s|\s\{$)",
+        re.M,
+    ),
+    "antt": re.compile(
+        r"^\s*(?:(?:abbrev|unfoldable|pub|record|data)\s+)*([^\s:(){}]+)\s*(?::(?!:)|where|$)"
+        r"|\|\s*(?:pub )?(\w+)\s*:",
+        re.M,
+    ),
+    "py": re.compile(r"\b(?:def|class)\s+(\w+)|^\s*(\w+)(?:,\s*\w+)*\s*(?::[^=\n]+)?=", re.M),
+}
 USED = re.compile(r"\buse\s+([^;\n]*)")
 
 
@@ -90,8 +97,11 @@ class Page:
         self.path, self.text = path, text
         self.prose = BLOCK.sub(lambda found: re.sub(r"[^\n]", " ", found[0]), text)
         self.spans = [(self.line(found.start()), " ".join(found[1].split())) for found in SPAN.finditer(self.prose)]
-        self.commands = [(self.line(found.start()) + at, line.strip()) for found in BLOCK.finditer(text)
-                         for at, line in enumerate(found[0].split("\n"))]
+        self.commands = [
+            (self.line(found.start()) + at, line.strip())
+            for found in BLOCK.finditer(text)
+            for at, line in enumerate(found[0].split("\n"))
+        ]
 
     def line(self, at: int) -> int:
         return self.text.count("\n", 0, at) + 1
@@ -106,7 +116,7 @@ class Sources:
     """What there is to be named: files and folders, definitions, and commands with their options."""
 
     def __init__(self) -> None:
-        folders = {path[:at.start()] for path in files() for at in re.finditer("/", path)}
+        folders = {path[: at.start()] for path in files() for at in re.finditer("/", path)}
         self.paths = [*files(), *folders]
         self.ends = {path[at:] for path in self.paths for at in (0, *(it.end() for it in re.finditer("/", path)))}
         self.parts = PARTS | {path.split("/")[1] for path in folders if re.match(r"(?:crates|tools)/", path)}
@@ -119,7 +129,7 @@ class Sources:
                 owners = function.owner, source.file.stem, source.crate
                 self.pairs |= {(owner, function.name) for owner in owners}
             for item in items_in(source.code, 0, len(source.code)):
-                variants = re.findall(r"^ {4}(\w+)", source.code[item.block:item.end], re.M)
+                variants = re.findall(r"^ {4}(\w+)", source.code[item.block : item.end], re.M)
                 self.pairs |= {(item.name, variant) for variant in variants if item.kind == "enum"}
 
     def take(self, path: str) -> None:
@@ -155,8 +165,9 @@ class Sources:
         return set(re.findall(r'add_argument\(\s*"(--[a-z-]+)"', "\n".join(texts)))
 
     def takes(self, commands: Iterable[str], option: str) -> bool:
-        return any(option in options(command) for options in (self.own_options, self.added_options)
-                   for command in commands)
+        return any(
+            option in options(command) for options in (self.own_options, self.added_options) for command in commands
+        )
 
     def has_path(self, word: str) -> bool:
         """Whether the word is no path, or there is one that ends so."""
@@ -176,8 +187,14 @@ class Sources:
         if owners:
             return (owners[-1], last) in self.pairs
         is_small = name == name.lower() and not re.match(r"\d", name)
-        is_decided = (re.search("[A-Z].*[a-z]", name) or is_small and FOR_CHANGES.fullmatch(page)
-                      or is_small and "_" in name and not FOR_CLIENTS.fullmatch(page))
+        is_decided = (
+            re.search("[A-Z].*[a-z]", name)
+            or is_small
+            and FOR_CHANGES.fullmatch(page)
+            or is_small
+            and "_" in name
+            and not FOR_CLIENTS.fullmatch(page)
+        )
         return not is_decided or name in self.names
 
     def named_by(self, line: str) -> Iterator[tuple[list[str], str]]:
@@ -225,8 +242,12 @@ def wrong_names(page: Page, sources: Sources) -> Iterator[tuple[int, str]]:
 
 
 def wrong_options(page: Page, sources: Sources) -> Iterator[tuple[int, str]]:
-    beside = [(line, *named) for line, text in page.spans + page.commands if not OPTION.match(text)
-              for named in sources.named_by(text)]
+    beside = [
+        (line, *named)
+        for line, text in page.spans + page.commands
+        if not OPTION.match(text)
+        for named in sources.named_by(text)
+    ]
     others = {option for _, commands, option in beside if not commands}
     named = {command for _, commands, _ in beside for command in commands}.union(EACH_COMMAND)
     for line, commands, option in beside:
@@ -250,8 +271,11 @@ def pages() -> list[Page]:
 
 def helps() -> dict[str, str]:
     """The help of each command in Python, without that of its options: what its file begins with."""
-    commands = [path for path in files() if path.startswith("tools/") and is_python(path)
-                and os.access(os.path.join(TOP, path), os.X_OK)]
+    commands = [
+        path
+        for path in files()
+        if path.startswith("tools/") and is_python(path) and os.access(os.path.join(TOP, path), os.X_OK)
+    ]
     return {path: ast.get_docstring(ast.parse(read(path))) or "" for path in commands}
 
 

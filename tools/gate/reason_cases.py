@@ -6,9 +6,32 @@ from typing import Any
 from gate.journal_cases import CALLBACK, LAST, NO_CREATE, NOBODY, SOMEBODY
 from model.journal import Recorder
 from model.tree import DEFAULT, Tree
-from nfs4.wire import (Claim, Close, Delegreturn, Getattr, KnownLocker, Lock, LockOwner, Lockt, Locku, NewLocker, Open,
-                       OpenConfirm, OpenDowngrade, OpenOwner, Openhow, Opnum, Read, Readdir, ReleaseLockowner, Setattr,
-                       Setclientid, SetclientidConfirm, Stateid, Write)
+from nfs4.wire import (
+    Claim,
+    Close,
+    Delegreturn,
+    Getattr,
+    KnownLocker,
+    Lock,
+    LockOwner,
+    Lockt,
+    Locku,
+    NewLocker,
+    Open,
+    OpenConfirm,
+    OpenDowngrade,
+    OpenOwner,
+    Openhow,
+    Opnum,
+    Read,
+    Readdir,
+    ReleaseLockowner,
+    Setattr,
+    Setclientid,
+    SetclientidConfirm,
+    Stateid,
+    Write,
+)
 
 # A reason in words, and the heading of the rules that has it, or None; the current filehandle; and who sends a call.
 Because = tuple[str, str] | None
@@ -18,7 +41,12 @@ ROOT, FILE, OTHER_FILE, DIRECTORY = 0, 1, 2, 3
 ALL = 2**64 - 1
 ZEROS, ONES = Stateid(0, 0, 0, 0), Stateid(LAST, LAST, LAST, LAST)
 OWNERS, STATEIDS, CLIENT_IDS, RANGES, DELEGATIONS = (
-    "Owners and sequenced operations", "Stateids", "Client ids", "Byte-range locks", "Delegations")
+    "Owners and sequenced operations",
+    "Stateids",
+    "Client ids",
+    "Byte-range locks",
+    "Delegations",
+)
 OPEN_A = 'open of file "/a" by open owner "A" of client 1'
 LOCK_X = 'lock state of file "/a" by lock owner "x" of client 1'
 OPEN_BY_A = 'OPEN by open owner "A" of client 1'
@@ -41,8 +69,14 @@ class Story:
         """What the next entry is to do about delegations."""
         self.events[self.server.entries] = list(texts)
 
-    def call(self, opnum: Opnum, arguments: Any, because: Because = None, filehandle: Handle = FILE,
-             principal: Sender = NOBODY) -> None:
+    def call(
+        self,
+        opnum: Opnum,
+        arguments: Any,
+        because: Because = None,
+        filehandle: Handle = FILE,
+        principal: Sender = NOBODY,
+    ) -> None:
         if because is not None:
             self.wanted[self.server.entries] = because
         self.server.apply(opnum, arguments, filehandle, principal)
@@ -54,17 +88,28 @@ class Story:
         call = self.server.recorded[number]
         self.call(call.opnum, call.arguments, because, call.filehandle, call.principal)
 
-    def introduce(self, name: bytes = b"c1", verifier: int = 1, because: Because = None,
-                  principal: Sender = NOBODY) -> None:
+    def introduce(
+        self, name: bytes = b"c1", verifier: int = 1, because: Because = None, principal: Sender = NOBODY
+    ) -> None:
         arguments = Setclientid(verifier.to_bytes(8, "big"), name, CALLBACK)
         self.call(Opnum.SETCLIENTID, arguments, because, None, principal)
 
-    def confirm_client(self, client: int, confirm: int, because: Because = None, principal: Sender = NOBODY,
-                       epoch: int = 1) -> None:
+    def confirm_client(
+        self, client: int, confirm: int, because: Because = None, principal: Sender = NOBODY, epoch: int = 1
+    ) -> None:
         self.call(Opnum.SETCLIENTID_CONFIRM, SetclientidConfirm(epoch, client, confirm), because, None, principal)
 
-    def open(self, seqid: int, because: Because = None, owner: bytes = b"A", access: int = 3, deny: int = 0,
-             client: int = 1, epoch: int = 1, **more: Any) -> None:
+    def open(
+        self,
+        seqid: int,
+        because: Because = None,
+        owner: bytes = b"A",
+        access: int = 3,
+        deny: int = 0,
+        client: int = 1,
+        epoch: int = 1,
+        **more: Any,
+    ) -> None:
         """By the name `a`, in the root, if nothing else is said."""
         claim, how = more.get("claim", Claim(0, more.get("name", b"a"), None)), more.get("how", NO_CREATE)
         arguments = Open(seqid, access, deny, OpenOwner(epoch, client, owner), how, claim)
@@ -76,8 +121,16 @@ class Story:
     def close(self, seqid: int, stateid: Stateid, because: Because = None, filehandle: Handle = FILE) -> None:
         self.call(Opnum.CLOSE, Close(seqid, stateid), because, filehandle)
 
-    def lock_first(self, seqid: int, stateid: Stateid, lock_seqid: int, because: Because = None,
-                   owner: LockOwner = LockOwner(1, 1, b"x"), locktype: int = 2, **more: Any) -> None:
+    def lock_first(
+        self,
+        seqid: int,
+        stateid: Stateid,
+        lock_seqid: int,
+        because: Because = None,
+        owner: LockOwner = LockOwner(1, 1, b"x"),
+        locktype: int = 2,
+        **more: Any,
+    ) -> None:
         locker = NewLocker(seqid, stateid, lock_seqid, owner)
         asked = more.get("reclaim", 0), more.get("offset", 0), more.get("length", 10)
         self.call(Opnum.LOCK, Lock(locktype, *asked, locker), because, more.get("filehandle", FILE))
@@ -105,8 +158,14 @@ class Story:
     def ask_for(self, mask: Sequence[int], because: Because = None, filehandle: Handle = FILE) -> None:
         self.call(Opnum.GETATTR, Getattr(mask), because, filehandle)
 
-    def set(self, mask: Sequence[int], values: bytes, because: Because = None, filehandle: Handle = FILE,
-            stateid: Stateid = ZEROS) -> None:
+    def set(
+        self,
+        mask: Sequence[int],
+        values: bytes,
+        because: Because = None,
+        filehandle: Handle = FILE,
+        stateid: Stateid = ZEROS,
+    ) -> None:
         self.call(Opnum.SETATTR, Setattr(stateid, (mask, values)), because, filehandle)
 
     def expire(self, client: int, now: int = 91) -> None:
@@ -157,12 +216,16 @@ def ends() -> Story:
     story.close(5, state(1, 2), (f"state 1, an {OPEN_A}, was ended by entry 5 (CLOSE)", STATEIDS))
     story.unlock(2, state(2), (f"state 2, a {LOCK_X}, was ended by entry 5 (CLOSE)", OWNERS))
     story.open(1, owner=b"B")
-    unconfirmed = ('open owner "B" of client 1 isn\'t confirmed: it has opened the file in entry 8, but no '
-                   "OPEN_CONFIRM has followed")
+    unconfirmed = (
+        'open owner "B" of client 1 isn\'t confirmed: it has opened the file in entry 8, but no '
+        "OPEN_CONFIRM has followed"
+    )
     story.close(2, state(3), (unconfirmed, STATEIDS))
     story.open(9, owner=b"B", name=b"b")
-    anew = ('state 3, an open of file "/a" by open owner "B" of client 1, was ended by entry 10 (OPEN), which '
-            "restarted its owner")
+    anew = (
+        'state 3, an open of file "/a" by open owner "B" of client 1, was ended by entry 10 (OPEN), which '
+        "restarted its owner"
+    )
     story.confirm(10, state(3), (anew, OWNERS))
     story.introduce(b"c2")
     story.confirm_client(2, 2)
@@ -176,23 +239,28 @@ def clients() -> Story:
     never = ("client 2, which entry 4 (SETCLIENTID) gave, was never confirmed", CLIENT_IDS)
     story.open(1, never, client=2)
     story.introduce(b"c2")
-    again = ("client 2, which entry 4 (SETCLIENTID) gave, was never confirmed, and entry 6 (SETCLIENTID) gave its id "
-             "client 258 (slot 2, second)")
+    again = (
+        "client 2, which entry 4 (SETCLIENTID) gave, was never confirmed, and entry 6 (SETCLIENTID) gave its id "
+        "client 258 (slot 2, second)"
+    )
     story.open(1, (again, CLIENT_IDS), client=2)
     story.close(1, state(1, client=2), (again, STATEIDS))
     story.open(1, ("client 4 was never given", CLIENT_IDS), client=4)
     story.open(1, ("client 514 (slot 2, third) was never given", CLIENT_IDS), client=514)
     story.close(1, state(1, client=512), ("the stateid is one of client 512, which was never given", STATEIDS))
     story.open(1, ("the clientid has epoch 2, but this server has epoch 1", CLIENT_IDS), epoch=2)
-    replaced = ('confirm verifier 2 is that of entry 4 (SETCLIENTID), but entry 6 gave the id "c2" confirm verifier 3',
-                "SETCLIENTID_CONFIRM")
+    replaced = (
+        'confirm verifier 2 is that of entry 4 (SETCLIENTID), but entry 6 gave the id "c2" confirm verifier 3',
+        "SETCLIENTID_CONFIRM",
+    )
     story.confirm_client(2, 2, replaced)
     story.confirm_client(258, 9, ("confirm verifier 9 was never given", "SETCLIENTID_CONFIRM"))
     story.confirm_client(258, 1, ("entry 0 (SETCLIENTID) gave confirm verifier 1 to client 1", "SETCLIENTID_CONFIRM"))
     other = "entry 6 (SETCLIENTID) came from AUTH_NONE, but its confirmation from AUTH_SYS 500"
     story.confirm_client(258, 3, (other, "SETCLIENTID_CONFIRM"), SOMEBODY)
-    used = (f'the id "c1" is that of client 1, by AUTH_NONE, which has state: state 1, an {OPEN_A}, since entry 2 '
-            "(OPEN)")
+    used = (
+        f'the id "c1" is that of client 1, by AUTH_NONE, which has state: state 1, an {OPEN_A}, since entry 2 ' "(OPEN)"
+    )
     story.introduce(verifier=2, because=(used, "SETCLIENTID"), principal=SOMEBODY)
     story.introduce(verifier=2)
     story.confirm_client(3, 4)
@@ -224,9 +292,11 @@ def records_that_give_way() -> Story:
     story.introduce(b"late")
     yielded = "the record of entry 3 (SETCLIENTID) was dropped for the client of entry 257"
     story.confirm_client(2, 3, (yielded, "SETCLIENTID_CONFIRM"))
-    never = ("client 2, which entry 3 (SETCLIENTID) gave, was never confirmed, and was dropped for the client of entry "
-             "257",
-             CLIENT_IDS)
+    never = (
+        "client 2, which entry 3 (SETCLIENTID) gave, was never confirmed, and was dropped for the client of entry "
+        "257",
+        CLIENT_IDS,
+    )
     story.open(1, never, client=2)
     # Who gave way comes again, and takes the place of the next one.
     story.introduce(b"c2")
@@ -236,8 +306,11 @@ def records_that_give_way() -> Story:
     story.confirm_client(258, 257)
     story.confirm_client(259, 258)
     story.open(1, access=1, deny=2, client=259)
-    denied = ('open owner "A" of client 259 (slot 3, second) denies WRITE of file "/a" since entry 265 (it isn\'t '
-              "confirmed, which makes no difference here)", "Share reservations")
+    denied = (
+        'open owner "A" of client 259 (slot 3, second) denies WRITE of file "/a" since entry 265 (it isn\'t '
+        "confirmed, which makes no difference here)",
+        "Share reservations",
+    )
     story.open(1, denied, access=2, client=258)
     story.confirm_client(1, 2)
     return story
@@ -258,8 +331,9 @@ def sequence_ids() -> Story:
     story.lock_first(4, state(1, 2), 7)
     due = '8 is the next sequence id of lock owner "x" of client 1, after entry 10 (LOCK), but '
     story.unlock(7, state(2), (due + "7 came: that of the entry itself, with another operation", OWNERS))
-    has_state = ('it names a new lock owner, but lock owner "x" of client 1 has state 2 on the file since entry '
-                 "10 (LOCK)")
+    has_state = (
+        'it names a new lock owner, but lock owner "x" of client 1 has state 2 on the file since entry ' "10 (LOCK)"
+    )
     story.lock_first(5, state(1, 2), 8, (has_state, "LOCK"))
     story.open(5, name=b"b")
     uncounted = "the lock_seqid is 5; entry 12 (LOCK) had 8, and NFS4ERR_BAD_SEQID doesn't count"
@@ -345,7 +419,8 @@ def opens() -> Story:
         ('directory "/" has no "e", and this server creates no files', {"name": b"e", "how": Openhow(1, 0, ((), b""))}),
         ('the name is that of directory "/d"', {"name": b"d"}),
         ('file "/a" exists already, but GUARDED4 creates a new file', {"how": Openhow(1, 1, ((), b""))}),
-        ('file "/a" exists already, but EXCLUSIVE4 creates a new file', {"how": Openhow(1, 2, bytes(8))}))
+        ('file "/a" exists already, but EXCLUSIVE4 creates a new file', {"how": Openhow(1, 2, bytes(8))}),
+    )
     seqid = 3
     for text, asked in refused:
         story.open(seqid, NO_HANDLE if text in NO_HANDLE else (text, "OPEN"), **asked)
@@ -366,15 +441,19 @@ def shares() -> Story:
     story.open(3, None, access=1, deny=1)
     story.open(4, None, access=1, deny=2)
     story.open(1, ('open owner "A" of client 1 denies READ of file "/a" since entry 5', share), b"B", 1)
-    both = ('open owner "A" of client 1 denies READ and WRITE of file "/a" since entry 6 and has file "/a" open for '
-            "READ, which this OPEN denies, since entry 2")
+    both = (
+        'open owner "A" of client 1 denies READ and WRITE of file "/a" since entry 6 and has file "/a" open for '
+        "READ, which this OPEN denies, since entry 2"
+    )
     story.open(1, (both, share), b"B", 3, 1)
     downgrade = OpenDowngrade(state(1, 4), 5, 1, 0)
     pairs = "access 1 and deny 0 are no union of pairs with which the open was opened: 1 and 1, 1 and 2, 3 and 0"
     story.call(Opnum.OPEN_DOWNGRADE, downgrade, (pairs, "OPEN_DOWNGRADE"))
     story.open(1, owner=b"C", name=b"b", access=2, deny=1)
-    unconfirmed = ('open owner "C" of client 1 denies READ of file "/b" since entry 10 (it isn\'t confirmed, which '
-                   "makes no difference here)")
+    unconfirmed = (
+        'open owner "C" of client 1 denies READ of file "/b" since entry 10 (it isn\'t confirmed, which '
+        "makes no difference here)"
+    )
     story.open(1, (unconfirmed, share), b"B", 1, name=b"b")
     return story
 
@@ -385,8 +464,10 @@ def many_shares() -> Story:
     named = ['open owner "A" of client 1 has file "/a" open for READ, which this OPEN denies, since entry 2']
     for number, name in enumerate((b"B", b"C", b"D", b"E"), 4):
         story.open(1, None, name, 1)
-        named.append(f'open owner "{name.decode()}" of client 1 has file "/a" open for READ, which this OPEN denies, '
-                     f"since entry {number} (it isn't confirmed, which makes no difference here)")
+        named.append(
+            f'open owner "{name.decode()}" of client 1 has file "/a" open for READ, which this OPEN denies, '
+            f"since entry {number} (it isn't confirmed, which makes no difference here)"
+        )
     story.open(1, ("; ".join(named[:3]) + "; and 2 more", "Share reservations"), b"F", 2, 1)
     return story
 
@@ -399,8 +480,10 @@ def locks() -> Story:
     far = f"offset 2 and length {ALL - 1} add up to more than 2^64 - 1"
     story.lock_first(5, state(1, 2), 1, (far, RANGES), offset=2, length=ALL - 1)
     story.lock_first(6, state(1, 2), 1)
-    held = ('lock owner "x" of client 1 holds bytes 0 to 9 of file "/a" for writing, in state 2, which was changed '
-            "last by entry 7 (LOCK)")
+    held = (
+        'lock owner "x" of client 1 holds bytes 0 to 9 of file "/a" for writing, in state 2, which was changed '
+        "last by entry 7 (LOCK)"
+    )
     story.lock_first(7, state(1, 2), 1, (held, RANGES), LockOwner(1, 1, b"y"), 1)
     story.call(Opnum.LOCKT, Lockt(1, 9, 1, LockOwner(1, 1, b"y")), (held, RANGES))
     later = "state 2 has seqid 1 since entry 7 (LOCK), but the stateid has the later 2"
@@ -411,14 +494,18 @@ def locks() -> Story:
     story.unlock(2, state(2))
     story.unlock(3, state(2, 2), ("a length of 0 names no bytes", RANGES), 0)
     story.call(Opnum.LOCK, Lock(1, 0, 5, ALL, KnownLocker(state(2, 2), 4)))
-    held = ('lock owner "x" of client 1 holds the bytes from 5 on of file "/a" for reading, in state 2, which was '
-            "changed last by entry 14 (LOCK)")
+    held = (
+        'lock owner "x" of client 1 holds the bytes from 5 on of file "/a" for reading, in state 2, which was '
+        "changed last by entry 14 (LOCK)"
+    )
     story.call(Opnum.LOCKT, Lockt(2, 0, ALL, LockOwner(1, 1, b"y")), (held, RANGES))
     place = 'the current filehandle is that of directory "/d", which is no file'
     story.call(Opnum.LOCKT, Lockt(1, 0, 1, LockOwner(1, 1, b"y")), (place, "LOCKT"), DIRECTORY)
     story.open(8, owner=b"A", access=1, name=b"b")
-    mode = ('the lock needs access to WRITE, but state 3, an open of file "/b" by open owner "A" of client 1, has '
-            "access only to READ")
+    mode = (
+        'the lock needs access to WRITE, but state 3, an open of file "/b" by open owner "A" of client 1, has '
+        "access only to READ"
+    )
     story.lock_first(9, state(3), 5, (mode, "LOCK"), filehandle=OTHER_FILE)
     return story
 
@@ -439,8 +526,10 @@ def owners_that_are_forgotten() -> Story:
     story.close(3, state(1, 2, client=2), ("state 1 was given to client 1, but the stateid names client 2", OWNERS))
     # Entries 12 to 16: it comes again, by another open.
     story.open(7)
-    unconfirmed = ('open owner "A" of client 1 isn\'t confirmed: it has opened the file in entry 12, but no '
-                   "OPEN_CONFIRM has followed")
+    unconfirmed = (
+        'open owner "A" of client 1 isn\'t confirmed: it has opened the file in entry 12, but no '
+        "OPEN_CONFIRM has followed"
+    )
     story.close(8, state(2), (unconfirmed, STATEIDS))
     story.close(3, state(1, 2), ended)
     story.confirm(8, state(2))
@@ -451,5 +540,17 @@ def owners_that_are_forgotten() -> Story:
     return story
 
 
-STORIES = (stateids, ends, clients, records_that_give_way, sequence_ids, kept_answers, no_kept_answers, opens, shares,
-           many_shares, locks, owners_that_are_forgotten)
+STORIES = (
+    stateids,
+    ends,
+    clients,
+    records_that_give_way,
+    sequence_ids,
+    kept_answers,
+    no_kept_answers,
+    opens,
+    shares,
+    many_shares,
+    locks,
+    owners_that_are_forgotten,
+)

@@ -81,6 +81,7 @@ def locked() -> Tale:
 
 # Stateids.
 
+
 def other_kind() -> Tale:
     tale = locked()
     # The owner that an open's stateid leads to is A, whatever X's next id is; also where it fits by chance.
@@ -107,8 +108,14 @@ def other_file() -> Tale:
 def unknown() -> Tale:
     tale = begun()
     tale.error("stateid-unknown").open(3, client=0, epoch=0)
-    for stateid in (state(7), state(1, 3), state(1, 0), state(1, 2, client=5), ONES._replace(seqid=1),
-                    ZEROS._replace(seqid=1)):
+    for stateid in (
+        state(7),
+        state(1, 3),
+        state(1, 0),
+        state(1, 2, client=5),
+        ONES._replace(seqid=1),
+        ZEROS._replace(seqid=1),
+    ):
         tale.error("stateid-unknown").read(stateid)
     tale.error("stateid-unknown").close(3, ZEROS)
     tale.error("stateid-unknown").close(3, ONES)
@@ -264,6 +271,7 @@ def other_client() -> Tale:
 
 # Confirmations.
 
+
 def confirmations_of_owners() -> Tale:
     tale = begun()
     # It comes again, as a reply was lost: before the next request, and behind it.
@@ -362,6 +370,23 @@ def compounds_again() -> Tale:
 
 
 STATEIDS: list[Play] = [
-    other_kind, other_file, unknown, of_a_run_before, closed, transfers_behind_a_close, transfers_of_another_client,
-    released, forgotten, returned, old, old_as_a_reply_was_lost, other_client, confirmations_of_owners,
-    confirmations_of_clients, confirmations_of_what_is_gone, probes, unconfirmed, compounds_again]
+    other_kind,
+    other_file,
+    unknown,
+    of_a_run_before,
+    closed,
+    transfers_behind_a_close,
+    transfers_of_another_client,
+    released,
+    forgotten,
+    returned,
+    old,
+    old_as_a_reply_was_lost,
+    other_client,
+    confirmations_of_owners,
+    confirmations_of_clients,
+    confirmations_of_what_is_gone,
+    probes,
+    unconfirmed,
+    compounds_again,
+]

@@ -3,7 +3,7 @@ recalls that don't arrive, and refusals that are equal."""
 from collections.abc import Callable
 
 from gate.lent_cases import A_DELEGATION, lent
-from gate.reason_cases import (DELEGATIONS, LOCK_X, NO_FILE, OPEN_A, OTHER_FILE, OWNERS, STATEIDS, Story, begun, state)
+from gate.reason_cases import DELEGATIONS, LOCK_X, NO_FILE, OPEN_A, OTHER_FILE, OWNERS, STATEIDS, Story, begun, state
 from nfs4.wire import LockOwner, OpenConfirm, Opnum, ReleaseLockowner
 
 LENT = f"state 2, {A_DELEGATION} to client 1 since entry 4 (OPEN), conflicts with every open of another client, and "
@@ -71,9 +71,11 @@ def recalls_that_fail() -> Story:
     story.tell("the callback path of client 1 was down since entry 9")
     story.server.mark_path(1, True)
     story.open(1, (failed, DELEGATIONS), b"B", 1, client=2)
-    story.tell(f"client 1 loses state 2, {A_DELEGATION}, because it is revoked; it was recalled by entry 7 (OPEN), "
-               "at 0, "
-               "but the recall could not be delivered (entry 9)")
+    story.tell(
+        f"client 1 loses state 2, {A_DELEGATION}, because it is revoked; it was recalled by entry 7 (OPEN), "
+        "at 0, "
+        "but the recall could not be delivered (entry 9)"
+    )
     story.server.revoke(91)
     return story
 
@@ -109,8 +111,10 @@ def requests_with_the_last_id() -> Story:
     """Other ones than that of the entry, and what tells them from it."""
     story = begun()
     story.open(3, access=1)
-    last = ('4 is the next sequence id of open owner "A" of client 1, after entry 4 (OPEN), but 3 came: that of the '
-            "entry itself, with another ")
+    last = (
+        '4 is the next sequence id of open owner "A" of client 1, after entry 4 (OPEN), but 3 came: that of the '
+        "entry itself, with another "
+    )
     story.open(3, (last + "access", OWNERS))
     story.open(3, (last + "access, deny and name", OWNERS), deny=1, name=b"b")
     story.open(3, (last + "current filehandle", OWNERS), access=1, directory=3)
@@ -118,8 +122,10 @@ def requests_with_the_last_id() -> Story:
     # Of a new lock owner, which is known.
     story.lock_first(4, state(1, 3), 7)
     story.open(5, name=b"b")
-    last = ('8 is the next sequence id of lock owner "x" of client 1, after entry 9 (LOCK), but the lock_seqid is 7: '
-            "that of the entry itself, with another current filehandle, open_seqid and open_stateid")
+    last = (
+        '8 is the next sequence id of lock owner "x" of client 1, after entry 9 (LOCK), but the lock_seqid is 7: '
+        "that of the entry itself, with another current filehandle, open_seqid and open_stateid"
+    )
     story.lock_first(6, state(3), 7, (last, "LOCK"), filehandle=OTHER_FILE)
     return story
 
@@ -149,18 +155,28 @@ def owners_with_other_bytes() -> Story:
     """A name that is no text is shown with escapes."""
     story = begun()
     story.open(1, None, b"open id:\x00\x00\x00\x17\xff", 1, 2, name=b"b")
-    denied = (r'open owner "open id:\x00\x00\x00\x17\xff" of client 1 denies WRITE of file "/b" since entry 4 (it '
-              "isn't confirmed, which makes no difference here)")
+    denied = (
+        r'open owner "open id:\x00\x00\x00\x17\xff" of client 1 denies WRITE of file "/b" since entry 4 (it '
+        "isn't confirmed, which makes no difference here)"
+    )
     story.open(3, (denied, "Share reservations"), access=2, name=b"b")
     return story
 
 
-STORIES_OF_REQUESTS = (refusals_that_do_not_count, stateids_of_other_kinds, recalls_that_fail, recalls_that_arrive,
-                       kept_delays, requests_with_the_last_id, owners_of_one_name,
-                       owners_with_other_bytes)
+STORIES_OF_REQUESTS = (
+    refusals_that_do_not_count,
+    stateids_of_other_kinds,
+    recalls_that_fail,
+    recalls_that_arrive,
+    kept_delays,
+    requests_with_the_last_id,
+    owners_of_one_name,
+    owners_with_other_bytes,
+)
 
 
 # Equal refusals.
+
 
 def delays_that_are_equal() -> Story:
     """By an owner that isn't known yet, whose OPEN with any sequence id is judged anew; and by kept answers."""
@@ -199,9 +215,27 @@ def denials_that_are_equal() -> Story:
 # By the first entry of each paragraph, what is said behind the reason.
 FOLDED: tuple[tuple[Callable[[], Story], dict[int, list[str]]], ...] = (
     (kept_delays, {9: [], 10: [], 12: []}),
-    (delays_that_are_equal, {9: [], 10: [], 12: [], 16: [
-        "entries 16 to 21: 5 times NFS4ERR_DELAY, delegation 5 not returned, because the recall could not be delivered "
-        "(entry 20)"], 22: [], 23: []}),
-    (denials_that_are_equal, {5: ["entries 5 to 9: 4 times NFS4ERR_DENIED"], 11: [], 12: [], 13: [
-        "entries 13 to 14: 2 times NFS4ERR_DENIED, the stored reply of entry 12"]}),
+    (
+        delays_that_are_equal,
+        {
+            9: [],
+            10: [],
+            12: [],
+            16: [
+                "entries 16 to 21: 5 times NFS4ERR_DELAY, delegation 5 not returned, because the recall could not be delivered "
+                "(entry 20)"
+            ],
+            22: [],
+            23: [],
+        },
+    ),
+    (
+        denials_that_are_equal,
+        {
+            5: ["entries 5 to 9: 4 times NFS4ERR_DENIED"],
+            11: [],
+            12: [],
+            13: ["entries 13 to 14: 2 times NFS4ERR_DENIED, the stored reply of entry 12"],
+        },
+    ),
 )

@@ -102,6 +102,7 @@ def principals() -> Tale:
 
 # What a right client may meet.
 
+
 def met_by_right_clients() -> Tale:
     """NOENT, ACCESS, EXIST, ISDIR, NOTSUPP, FBIG; another's share, lock and delegation; another run's client, and one
     that is gone."""
@@ -138,5 +139,14 @@ def revoked() -> Tale:
 
 
 REQUESTS: list[Play] = [
-    access, access_that_was_taken, attributes, held, shares, ranges, filehandles, principals, met_by_right_clients,
-    revoked]
+    access,
+    access_that_was_taken,
+    attributes,
+    held,
+    shares,
+    ranges,
+    filehandles,
+    principals,
+    met_by_right_clients,
+    revoked,
+]

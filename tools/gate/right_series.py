@@ -11,13 +11,44 @@ from collections.abc import Callable, Sequence
 from dataclasses import dataclass
 from typing import Any
 
-from gate.judge_clients import (Direct, LAST, Lent, Locked, NOWHERE, Opened, Operation, Owner, RightClient, Results,
-                                Share, Span, Steps, ZEROS)
+from gate.judge_clients import (
+    Direct,
+    LAST,
+    Lent,
+    Locked,
+    NOWHERE,
+    Opened,
+    Operation,
+    Owner,
+    RightClient,
+    Results,
+    Share,
+    Span,
+    Steps,
+    ZEROS,
+)
 from model.journal import Journal, Recorder
 from model.tree import CLOSE_LOCKS, DEFAULT, PROFILES, Tree
 from nfs4.client import Wrong
-from nfs4.wire import (CLAIM_PREVIOUS, Claim, OPEN_DELEGATE_WRITE, OpenOwner, Openhow, Open, Opnum, Putfh,
-                       READ, READ_LT, Read, Setattr, Stateid, Status, WRITE, WRITE_LT, u64)
+from nfs4.wire import (
+    CLAIM_PREVIOUS,
+    Claim,
+    OPEN_DELEGATE_WRITE,
+    OpenOwner,
+    Openhow,
+    Open,
+    Opnum,
+    Putfh,
+    READ,
+    READ_LT,
+    Read,
+    Setattr,
+    Stateid,
+    Status,
+    WRITE,
+    WRITE_LT,
+    u64,
+)
 
 PATHS = [(b"a",), (b"b",), (b"d", b"c")]
 SHARES: list[Share] = [(1, 0)] * 4 + [(2, 0)] * 2 + [(3, 0)] * 5 + [(1, 2), (3, 2), (2, 1)]
@@ -37,6 +68,7 @@ BYTES_ANSWERS = {Status.OK, Status.OLD_STATEID}
 class Task:
     """Steps of a client, of which a call is under way, or which wait for a later moment if it has no operations. While
     they aren't done nobody else may use what they have to themselves, nor have to itself what they share."""
+
     client: "Busy"
     steps: Steps[None]
     own: frozenset[Any]
@@ -112,8 +144,10 @@ class Series:
         words += f'close_locks = "{self.close_locks}", profile = "{self.profile}"'
         self.lease, epoch = self.chance.choice(LEASES), self.chance.choice([1, 1, 1, 7])
         self.server = Recorder(Tree(f"policy = {{ {words} }}\n{DEFAULT}"), self.lease, epoch)
-        self.clients = [Busy(self, b"client %d" % number, self.chance.choice([None, number]))
-                        for number in range(self.chance.choice([1, 2, 2, 3]))]
+        self.clients = [
+            Busy(self, b"client %d" % number, self.chance.choice([None, number]))
+            for number in range(self.chance.choice([1, 2, 2, 3]))
+        ]
         self.tasks: list[Task] = []
         self.done: Counter[str] = Counter()
 
@@ -147,8 +181,9 @@ class Series:
         else:
             self.chance.choice(ACTS)(self, client)
 
-    def begin(self, client: Busy, steps: Steps[Any], own: set[Any] = set(), shared: set[Any] = set(),
-              name: str = "") -> bool:
+    def begin(
+        self, client: Busy, steps: Steps[Any], own: set[Any] = set(), shared: set[Any] = set(), name: str = ""
+    ) -> bool:
         """Begins steps, unless others hinder them: whether it did. The client itself is one of what they share."""
         mine, ours = frozenset(own), frozenset(shared | ({client} - own))
         if any(task.hinders(mine, ours) for task in self.tasks):
@@ -229,8 +264,10 @@ class Series:
 
     def expect(self, status: int, allowed: set[Status]) -> int:
         if status not in allowed:
-            raise Wrong(f"entry {len(self.server.recorded) - 1}: {Status(status).name}, "
-                        f"wanted {sorted(it.name for it in allowed)}")
+            raise Wrong(
+                f"entry {len(self.server.recorded) - 1}: {Status(status).name}, "
+                f"wanted {sorted(it.name for it in allowed)}"
+            )
         return status
 
     # What clients do.
@@ -344,12 +381,18 @@ class Series:
         if client.usable():
             opened = self.chance.choice(client.usable())
             locker = client.locker(opened.owner.name)
-            self.begin(client, self.expected(client.testing(locker, opened.handle, self.span(opened)), LOCK_ANSWERS),
-                       name="tests")
+            self.begin(
+                client,
+                self.expected(client.testing(locker, opened.handle, self.span(opened)), LOCK_ANSWERS),
+                name="tests",
+            )
 
     def releases(self, client: Busy) -> None:
-        idle = [it for it in client.lockers.values() if not any(
-            locked.owner is it and locked.held for opened in client.opens for locked in opened.locks)]
+        idle = [
+            it
+            for it in client.lockers.values()
+            if not any(locked.owner is it and locked.held for opened in client.opens for locked in opened.locks)
+        ]
         if idle:
             locker = self.chance.choice(idle)
             users = {opened for opened in client.opens for locked in opened.locks if locked.owner is locker}
@@ -385,8 +428,13 @@ class Series:
         read = (Opnum.READ, Read(ZEROS, 0, 5))
         size = (Opnum.SETATTR, Setattr(ZEROS, ((16,), u64(5))))
         asked = [read, size] if self.profile == "clients" else [read]
-        self.begin(client, client.looking(handle) if self.is_rare(0.4) else self.bypassing(
-            [(Opnum.PUTFH, Putfh(handle)), self.chance.choice(asked)]), name="looks")
+        self.begin(
+            client,
+            client.looking(handle)
+            if self.is_rare(0.4)
+            else self.bypassing([(Opnum.PUTFH, Putfh(handle)), self.chance.choice(asked)]),
+            name="looks",
+        )
 
     def bypassing(self, operations: list[Operation]) -> Steps[None]:
         results = yield operations
@@ -399,8 +447,13 @@ class Series:
     def give_back(self, client: Busy, lent: Lent) -> None:
         owner, opens = client.owner(b"D"), [it for it in client.usable() if it.path == lent.path and it.access & READ]
         crossed = self.chance.choice(opens) if opens and self.is_rare(0.3) else None
-        self.begin(client, self.giving_back(client, lent, owner, crossed), {lent, owner}, {*filter(None, [crossed])},
-                   name="gives back")
+        self.begin(
+            client,
+            self.giving_back(client, lent, owner, crossed),
+            {lent, owner},
+            {*filter(None, [crossed])},
+            name="gives back",
+        )
 
     def giving_back(self, client: Busy, lent: Lent, owner: Owner, crossed: Opened | None) -> Steps[None]:
         """Some have opens of their own to tell of before. Or a READ was under way, and is made again by an open."""
@@ -462,6 +515,18 @@ def whole(opened: Opened) -> set[Any]:
 
 # What a client does at random, each as often as it stands here.
 ACTS: list[Callable[[Series, Busy], None]] = [
-    *[Series.opens] * 10, *[Series.closes] * 5, *[Series.downgrades] * 4, *[Series.locks] * 12, *[Series.unlocks] * 6,
-    *[Series.moves_bytes] * 8, *[Series.tests] * 2, *[Series.releases] * 2, *[Series.looks] * 2,
-    *[Series.gives_back] * 2, Series.begins_anew, Series.moves_callback, Series.sleeps, Series.renews]
+    *[Series.opens] * 10,
+    *[Series.closes] * 5,
+    *[Series.downgrades] * 4,
+    *[Series.locks] * 12,
+    *[Series.unlocks] * 6,
+    *[Series.moves_bytes] * 8,
+    *[Series.tests] * 2,
+    *[Series.releases] * 2,
+    *[Series.looks] * 2,
+    *[Series.gives_back] * 2,
+    Series.begins_anew,
+    Series.moves_callback,
+    Series.sleeps,
+    Series.renews,
+]

@@ -20,6 +20,7 @@ from clause_index import Item, Source, behind, crates, items_in, owner_of, sourc
 class Body(NamedTuple):
     """A function, or what a macro writes: where it is, its signature with its contract, and its body. A method has an
     owner, the trait that has it (also a trait's own), and the head of its `impl`."""
+
     crate: str
     path: str
     name: str
@@ -54,12 +55,14 @@ class Body(NamedTuple):
 
 class Type(NamedTuple):
     """What is known of a type: its own name, and the first of its names that is one of the crates'."""
+
     outer: str
     inner: str
 
 
 class Call(NamedTuple):
     """A call of a body, and whether it is a guess."""
+
     called: Body
     is_guess: bool
 
@@ -67,8 +70,22 @@ class Call(NamedTuple):
 # Types whose methods are those of what they hold.
 CLEAR = {"Box", "Arc", "Rc", "MutexGuard"}
 # Names of methods that types of std have, too.
-OF_STD = {"clear", "contains", "first", "get", "insert", "is_empty", "iter", "last", "len", "next", "push", "remove",
-          "replace", "take"}
+OF_STD = {
+    "clear",
+    "contains",
+    "first",
+    "get",
+    "insert",
+    "is_empty",
+    "iter",
+    "last",
+    "len",
+    "next",
+    "push",
+    "remove",
+    "replace",
+    "take",
+}
 NAME = re.compile(r"(?:(\.)\s*|(\w+)(?:\s*::\s*<[^;{}()]*?>)?\s*::\s*)?\b([a-z_]\w*)\b(?!\s*:[^:])")
 ARGUMENTS = re.compile(r"\s*(?:::\s*<[^()]*?>\s*)?\(")
 STEP = re.compile(r"\.(\w+)(?:::<[^()]*?>)?")
@@ -125,8 +142,9 @@ class Program:
     crate may name, directly or not. For a body and a name that it calls after a dot, `meant` has the function that is
     meant."""
 
-    def __init__(self, top: str, sources: Iterable[Source], below: Mapping[str, set[str]],
-                 meant: Mapping[tuple[str, str], str]) -> None:
+    def __init__(
+        self, top: str, sources: Iterable[Source], below: Mapping[str, set[str]], meant: Mapping[tuple[str, str], str]
+    ) -> None:
         self.below, self.meant, self.guessed = below, meant, set[tuple[str, str]]()
         self.named, self.macros = defaultdict[str, list[Body]](list), dict[str, Body]()
         self.fields, self.types, self.traits = defaultdict[str, dict[str, str]](dict), set[str](), set[str]()
@@ -142,7 +160,7 @@ class Program:
         if item.kind == "fn":
             self.add(source, item, "", "", "")
         elif item.kind in ("impl", "trait"):
-            head = code[item.word:item.block]
+            head = code[item.word : item.block]
             trait, owner = (item.name, item.name) if item.kind == "trait" else owner_of(head.removeprefix("impl"))
             self.traits |= {item.name} if item.kind == "trait" else set()
             for method in items_in(code, item.block + 1, item.end - 1):
@@ -150,13 +168,14 @@ class Program:
                     self.add(source, method, owner, trait, head)
         elif item.kind in ("struct", "enum"):
             self.types.add(item.name)
-            self.fields[item.name] |= dict(FIELD.findall(code[item.block:item.end]))
+            self.fields[item.name] |= dict(FIELD.findall(code[item.block : item.end]))
         elif item.kind.startswith("macro_rules"):
-            self.macros[item.name] = Body(source.crate, source.path, f"{item.name}!", "", "", "",
-                                          code[item.block:item.end], "")
+            self.macros[item.name] = Body(
+                source.crate, source.path, f"{item.name}!", "", "", "", code[item.block : item.end], ""
+            )
 
     def add(self, source: Source, item: Item, owner: str, trait: str, around: str) -> None:
-        head, code = source.code[item.start:item.block], source.code[item.block:item.end]
+        head, code = source.code[item.start : item.block], source.code[item.block : item.end]
         self.named[item.name].append(Body(source.crate, source.path, item.name, owner, trait, head, code, around))
 
     def type_in(self, text: str, body: Body) -> Type | None:
@@ -174,8 +193,8 @@ class Program:
         if not first or depth > 6:
             return None
         path, name, at = [it for it in first[1].split("::") if it], first[2], first.end()
-        if text[at:at + 1] == "(":
-            found = self.type_of_call(path, name, text[at + 1:behind(text, at) - 1], body, depth)
+        if text[at : at + 1] == "(":
+            found = self.type_of_call(path, name, text[at + 1 : behind(text, at) - 1], body, depth)
             at = behind(text, at)
         elif name == "self":
             found = Type(body.owner, body.owner)
@@ -205,7 +224,7 @@ class Program:
                 at = behind(text, at)
             elif not step:
                 return found if text[at] in ";,)" else None
-            elif text[step.end():step.end() + 1] == "(":
+            elif text[step.end() : step.end() + 1] == "(":
                 found, at = self.type_of_method(found, step[1]), behind(text, step.end())
             else:
                 field = self.fields.get(found.inner, {}).get(step[1])
@@ -220,8 +239,9 @@ class Program:
         return self.type_in(method.returned, method) if method else of if name in ("clone", "as_ref") else None
 
     def type_of_local(self, name: str, body: Body, depth: int) -> Type | None:
-        if found := re.search(rf"[(,]\s*(?:mut )?{name}\s*:\s*(?:&\s*)?(?:'\w+ )?(?:mut )?(?:impl )?([^,)]*)",
-                              body.signature):
+        if found := re.search(
+            rf"[(,]\s*(?:mut )?{name}\s*:\s*(?:&\s*)?(?:'\w+ )?(?:mut )?(?:impl )?([^,)]*)", body.signature
+        ):
             return self.type_in(found[1], body)
         if found := re.search(rf"\blet (?:mut )?{name}\s*:\s*([^=;]*)=", body.code):
             return self.type_in(found[1], body)
@@ -266,7 +286,7 @@ class Program:
         elif before and (before[:1].isupper()):
             of = self.type_in(before, body)
             yield from (Call(it, False) for it in (self.methods(of.outer, name) if of else []))
-        elif before or is_called or re.search(r"[(,]\s*$", body.code[:found.start()]):
+        elif before or is_called or re.search(r"[(,]\s*$", body.code[: found.start()]):
             yield from self.calls_of_free(before or "", name, body)
 
     def calls_after_dot(self, found: re.Match[str], body: Body) -> Iterator[Call]:
@@ -276,8 +296,11 @@ class Program:
             guess = of.outer != of.inner and name in OF_STD
         elif not of or of.outer in self.types | self.traits:
             # A type may lend what another one has.
-            methods = [it for it in self.named[name]
-                       if it.owner and (it.crate in self.below[body.crate] or it.trait in self.traits)]
+            methods = [
+                it
+                for it in self.named[name]
+                if it.owner and (it.crate in self.below[body.crate] or it.trait in self.traits)
+            ]
             guess = True
         else:
             return
@@ -295,8 +318,12 @@ class Program:
             called = [it.called for it in self.calls(body) if with_guesses or not it.is_guess]
             new = set(re.findall(r"\b[A-Z]\w*", body.code + body.head)) - seen
             seen |= new
-            called += [it for bodies in self.named.values() for it in bodies
-                       if it.owner in new and it.trait and it.trait not in self.traits]
+            called += [
+                it
+                for bodies in self.named.values()
+                for it in bodies
+                if it.owner in new and it.trait and it.trait not in self.traits
+            ]
             for it in called:
                 if it not in found:
                     found[it] = body

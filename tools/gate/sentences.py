@@ -35,20 +35,38 @@ REFUSED = {
     r"anew": "again, restarts",
     r"for want of": "because .. is lacking",
     r"but for": "except",
-    r"aside": "except"}
+    r"aside": "except",
+}
 
 # Own words: how each may be spelt. Those that are also plain English (row, node, device, entry) aren't looked for.
 OWN = {
-    "slot": r"slots?", "generation": r"generations?", "epoch": r"epochs?", "sweep": r"sweep(?:s|er|ers|ing)?",
-    "to forget": r"forg[eo]t(?:s|ten|ting)?", "idle": r"idle", "policy": r"polic(?:y|ies)", "profile": r"profiles?",
-    "path mark": r"path marks?", "journal": r"journals?", "lawful": r"lawful", "audit": r"audit(?:s|ed|ing)?",
-    "seat": r"seats?", "receipt": r"receipts?", "roll": r"roll", "lease word": r"lease words?", "keeper": r"keeper",
-    "to retire": r"retire(?:s|d)?", "mutant": r"mutants?", "independent model": r"independent model"}
+    "slot": r"slots?",
+    "generation": r"generations?",
+    "epoch": r"epochs?",
+    "sweep": r"sweep(?:s|er|ers|ing)?",
+    "to forget": r"forg[eo]t(?:s|ten|ting)?",
+    "idle": r"idle",
+    "policy": r"polic(?:y|ies)",
+    "profile": r"profiles?",
+    "path mark": r"path marks?",
+    "journal": r"journals?",
+    "lawful": r"lawful",
+    "audit": r"audit(?:s|ed|ing)?",
+    "seat": r"seats?",
+    "receipt": r"receipts?",
+    "roll": r"roll",
+    "lease word": r"lease words?",
+    "keeper": r"keeper",
+    "to retire": r"retire(?:s|d)?",
+    "mutant": r"mutants?",
+    "independent model": r"independent model",
+}
 GLOSSARY = "docs/GLOSSARY.md"
 
 
 class Allowed(NamedTuple):
     """An exception: on which page, or on all, with which words in it a sentence is allowed, and why."""
+
     page: str
     words: str
     reason: str
@@ -56,7 +74,8 @@ class Allowed(NamedTuple):
 
 EXCEPTIONS = [
     Allowed("", "Whenever the lock of the shared state is free", "the headline, word for word as it was asked for"),
-    Allowed("", "no write delegation stands beside", "a part of the headline")]
+    Allowed("", "no write delegation stands beside", "a part of the headline"),
+]
 
 FENCE = re.compile(r"\s*(```|~~~)")
 MARK = re.compile(r"(\s*)((?:[-*+]|\d+[.)])\s+)")
@@ -71,6 +90,7 @@ TOLD = re.compile(r"\[[^\]]*\]|(?<![\w*])(\*\*?)[^*\s][^*]*\1")
 
 class Item(NamedTuple):
     """A piece of a page: the line where it begins, and its text on one line, with a sign in place of each code."""
+
     line: int
     text: str
 
@@ -118,7 +138,7 @@ class Reader:
         elif text.lstrip().startswith("|"):
             self.take_row(number, text)
         elif mark and (depth < self.indent + 4 or not self.is_after_blank):
-            self.begin(number, text[mark.end():])
+            self.begin(number, text[mark.end() :])
             self.indent = mark.end()
         elif self.pieces:
             self.pieces.append(text.strip())
@@ -188,8 +208,13 @@ def wrong_first_uses(path: str, text: str) -> Iterator[tuple[int, str]]:
 
 def faults_of_all(texts: dict[str, str], used: set[Allowed]) -> list[str]:
     """What is wrong with the sentences of the pages. The exceptions that they need come to `used`."""
-    return [f"{path}:{line}: {fault}" for path, text in texts.items() for line, fault in sorted(
-        [*wrong_sentences(path, text, used), *wrong_words(path, text, used), *wrong_first_uses(path, text)])]
+    return [
+        f"{path}:{line}: {fault}"
+        for path, text in texts.items()
+        for line, fault in sorted(
+            [*wrong_sentences(path, text, used), *wrong_words(path, text, used), *wrong_first_uses(path, text)]
+        )
+    ]
 
 
 def unused(used: set[Allowed]) -> list[str]:
@@ -198,6 +223,7 @@ def unused(used: set[Allowed]) -> list[str]:
 
 class Counted(NamedTuple):
     """Of a page: how many words, sentences, and sentences above the limit it has."""
+
     words: int
     sentences: int
     long: int

@@ -4,8 +4,11 @@ from gate.refusal_cases import Play, Tale, Y, begun, locked
 from gate.reason_cases import OTHER_FILE, state
 from nfs4.wire import KnownLocker, Lock, LockOwner, Opnum
 
-MOVED, KEPT, OTHER = ("sequence-id-moved-after-uncounted-refusal", "sequence-id-kept-after-counted-refusal",
-                      "other-request-with-last-id")
+MOVED, KEPT, OTHER = (
+    "sequence-id-moved-after-uncounted-refusal",
+    "sequence-id-kept-after-counted-refusal",
+    "other-request-with-last-id",
+)
 SKIPPED, REUSED = "sequence-id-skipped", "sequence-id-reused"
 
 
@@ -177,5 +180,16 @@ def other_faults_first() -> Tale:
 
 
 SEQUENCE_IDS: list[Play] = [
-    moved_on, moved_on_by_a_stateid_of_another_kind, owners_of_one_name, not_moved_on, kept, kept_answers,
-    other_request, new_lock_owners, skipped_and_reused, late_copies, wraps, other_faults_first]
+    moved_on,
+    moved_on_by_a_stateid_of_another_kind,
+    owners_of_one_name,
+    not_moved_on,
+    kept,
+    kept_answers,
+    other_request,
+    new_lock_owners,
+    skipped_and_reused,
+    late_copies,
+    wraps,
+    other_faults_first,
+]

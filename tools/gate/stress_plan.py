@@ -26,8 +26,22 @@ LINKS = 64
 CLIENTS = 6
 # Clients that are used for a while, each by one kind of operation that renews its lease: by each link, the first of
 # them among its first FADE calls, the next one among twice as many, and so on.
-FADING = {9: "renew", 10: "lockt", 11: "release", 12: "open", 13: "open_confirm", 14: "open_downgrade", 15: "close",
-          16: "first_lock", 17: "next_lock", 18: "locku", 19: "delegreturn", 20: "read", 21: "write", 22: "setattr"}
+FADING = {
+    9: "renew",
+    10: "lockt",
+    11: "release",
+    12: "open",
+    13: "open_confirm",
+    14: "open_downgrade",
+    15: "close",
+    16: "first_lock",
+    17: "next_lock",
+    18: "locku",
+    19: "delegreturn",
+    20: "read",
+    21: "write",
+    22: "setattr",
+}
 FADE = 5
 # How many clients the connection makes that comes alone.
 MADE = max(FADING)
@@ -64,6 +78,7 @@ Chunk = tuple[list[bytes], bool]
 class Lock:
     """A lock state as its link knows it: its number, the seqids that it may have, and the last sequence id of its
     owner."""
+
     owner: bytes
     number: int
     seqids: list[int]
@@ -72,15 +87,16 @@ class Lock:
 
 class Delegation(NamedTuple):
     """A delegation: whose it is, on which file, and its number."""
+
     client: int
     file: int
     number: int
 
 
-
 @dataclass
 class Lender:
     """An open owner that opens files which are lent, and its last sequence id."""
+
     client: int
     owner: bytes
     last: int = 0
@@ -90,6 +106,7 @@ class Lender:
 class Open:
     """An open as its link knows it: the owner's client and name, its number and its pairs, the seqid of its stateid,
     and the last sequence id of its owner."""
+
     client: int
     owner: bytes
     file: int
@@ -187,8 +204,14 @@ class First:
 
     def make_open(self, link: int, turn: int) -> Open:
         self.states += 1
-        one = Open(1 + link % CLIENTS, b"owner %d.%d" % (link, turn), self.chance.choice(list(FILES)), self.states,
-                   [(3, 0)], base=COMMON * (1 + link))
+        one = Open(
+            1 + link % CLIENTS,
+            b"owner %d.%d" % (link, turn),
+            self.chance.choice(list(FILES)),
+            self.states,
+            [(3, 0)],
+            base=COMMON * (1 + link),
+        )
         words = u32(Opnum.OPEN_CONFIRM) + stateid(1, one.client, one.number) + u32(2)
         self.chunks.append((way_to(one.file) + [open_of(one, 1, 3, 0), words], False))
         return one
@@ -231,6 +254,7 @@ class First:
 @dataclass
 class Link:
     """One of the connections that come at once."""
+
     place: int
     opens: list[Open]
     idle: Open
@@ -243,12 +267,38 @@ class Link:
 
     def __post_init__(self) -> None:
         makers = {
-            self.lock: 8, self.locku: 5, self.lockt: 4, self.lock_common: 2, self.lock_of_new_owner: 3, self.open: 4,
-            self.open_denying: 1, self.open_downgrade: 2, self.open_confirm: 1, self.close: 0.4, self.again: 1,
-            self.renew: 2, self.fading: 5, self.release: 3, self.confirm: 1, self.on_tree: 3, self.getattr: 2,
-            self.guess: 2, self.lock_of_other: 1, self.open_lent: 3, self.call_back: 2, self.claim: 0.5,
-            self.give_back: 0.5, self.read: 3, self.write: 3, self.setattr: 2, self.readdir: 2, self.commit: 0.3,
-            self.transfer_lent: 1, self.close_again: 1, self.come_again: 0.5}
+            self.lock: 8,
+            self.locku: 5,
+            self.lockt: 4,
+            self.lock_common: 2,
+            self.lock_of_new_owner: 3,
+            self.open: 4,
+            self.open_denying: 1,
+            self.open_downgrade: 2,
+            self.open_confirm: 1,
+            self.close: 0.4,
+            self.again: 1,
+            self.renew: 2,
+            self.fading: 5,
+            self.release: 3,
+            self.confirm: 1,
+            self.on_tree: 3,
+            self.getattr: 2,
+            self.guess: 2,
+            self.lock_of_other: 1,
+            self.open_lent: 3,
+            self.call_back: 2,
+            self.claim: 0.5,
+            self.give_back: 0.5,
+            self.read: 3,
+            self.write: 3,
+            self.setattr: 2,
+            self.readdir: 2,
+            self.commit: 0.3,
+            self.transfer_lent: 1,
+            self.close_again: 1,
+            self.come_again: 0.5,
+        }
         for _ in range(self.count):
             self.chance.choices(list(makers), list(makers.values()))[0]()
         self.bytes = compounds(self.chunks, self.chance, [None] * 15 + [5])
@@ -438,9 +488,14 @@ class Link:
         """An operation on a state with a number that may have been given since."""
         client, number = self.chance.randint(1, CLIENTS), self.states + self.chance.randint(1, 60)
         file, state = self.chance.choice(list(FILES)), stateid(1, client, number)
-        words = self.chance.choice([
-            u32(Opnum.CLOSE, 2) + state, u32(Opnum.OPEN_CONFIRM) + state + u32(2),
-            u32(Opnum.LOCKU, 1, 2) + state + span(0, 100), u32(Opnum.OPEN_DOWNGRADE) + state + u32(3, 1, 0)])
+        words = self.chance.choice(
+            [
+                u32(Opnum.CLOSE, 2) + state,
+                u32(Opnum.OPEN_CONFIRM) + state + u32(2),
+                u32(Opnum.LOCKU, 1, 2) + state + span(0, 100),
+                u32(Opnum.OPEN_DOWNGRADE) + state + u32(3, 1, 0),
+            ]
+        )
         self.add(putfh(file), words, may_fail=True)
 
     # Delegations. Whether one is there depends on others; the sequence id of a lender doesn't.
@@ -485,24 +540,27 @@ class Link:
 
     def fading(self) -> Any:
         """The operation of a client that is used for a while. None of them needs to succeed to renew its lease."""
-        left = list(FADING.items())[len(self.chunks) // FADE:]
+        left = list(FADING.items())[len(self.chunks) // FADE :]
         if not left:
             return self.getattr()
         client, kind = self.chance.choice(left)
         state, owner = stateid(1, client, self.chance.randint(1, 2 * LINKS)), spelled(client, b"fading")
         operation = {
-            "renew": u32(Opnum.RENEW, EPOCH, client), "lockt": u32(Opnum.LOCKT, READ) + span(0, 1) + owner,
+            "renew": u32(Opnum.RENEW, EPOCH, client),
+            "lockt": u32(Opnum.LOCKT, READ) + span(0, 1) + owner,
             "release": u32(Opnum.RELEASE_LOCKOWNER) + owner,
             "open": opening(1, READ, 0, owner, b"nothing"),
             "open_confirm": u32(Opnum.OPEN_CONFIRM) + state + u32(2),
             "open_downgrade": u32(Opnum.OPEN_DOWNGRADE) + state + u32(2, READ, 0),
-            "close": u32(Opnum.CLOSE, 2) + state, "locku": u32(Opnum.LOCKU, READ, 2) + state + span(0, 1),
+            "close": u32(Opnum.CLOSE, 2) + state,
+            "locku": u32(Opnum.LOCKU, READ, 2) + state + span(0, 1),
             "delegreturn": u32(Opnum.DELEGRETURN) + state,
             "read": u32(Opnum.READ) + state + u64(0) + u32(1),
             "write": u32(Opnum.WRITE) + state + u64(0) + u32(0) + opaque(b""),
             "setattr": u32(Opnum.SETATTR) + state + u32(1, 1 << SIZE) + opaque(u64(0)),
             "first_lock": u32(Opnum.LOCK, READ, 0) + span(0, 1) + u32(1, 2) + state + u32(1) + owner,
-            "next_lock": u32(Opnum.LOCK, READ, 0) + span(0, 1) + u32(0) + state + u32(2)}[kind]
+            "next_lock": u32(Opnum.LOCK, READ, 0) + span(0, 1) + u32(0) + state + u32(2),
+        }[kind]
         self.add(putfh(1), operation, may_fail=True)
 
     def confirm(self) -> None:
@@ -512,9 +570,14 @@ class Link:
         self.add(confirm(number, MADE + self.chance.randint(1, 2 * VISITS)), may_fail=True)
 
     def on_tree(self) -> None:
-        self.add(*self.chance.choice([
-            [*way_to(4), u32(Opnum.LOOKUP) + opaque(b"c"), u32(Opnum.GETFH)],
-            [putfh(1), u32(Opnum.SAVEFH), putfh(2), u32(Opnum.RESTOREFH), u32(Opnum.ACCESS, 63)]]))
+        self.add(
+            *self.chance.choice(
+                [
+                    [*way_to(4), u32(Opnum.LOOKUP) + opaque(b"c"), u32(Opnum.GETFH)],
+                    [putfh(1), u32(Opnum.SAVEFH), putfh(2), u32(Opnum.RESTOREFH), u32(Opnum.ACCESS, 63)],
+                ]
+            )
+        )
         if self.chance.random() < 0.1:
             self.add(u32(Opnum.PUTROOTFH), u32(Opnum.LOOKUP) + opaque(b"nothing"), may_fail=True)
 

@@ -40,14 +40,30 @@ from sending.driver import Driver, Ended, Failed, PROGRAM as ROWS, SHARED
 # How many of the connections have a thread, in the runs in which threads are refused.
 REFUSED_RUNS = (0, 20)
 # What has to be among the answers, or a run shows too little.
-SUCCESSES = (Opnum.SETCLIENTID, Opnum.SETCLIENTID_CONFIRM, Opnum.OPEN, Opnum.OPEN_CONFIRM, Opnum.OPEN_DOWNGRADE,
-             Opnum.CLOSE, Opnum.LOCK, Opnum.LOCKT, Opnum.LOCKU, Opnum.RELEASE_LOCKOWNER, Opnum.GETATTR,
-             Opnum.DELEGRETURN, Opnum.READ, Opnum.WRITE, Opnum.SETATTR, Opnum.READDIR)
+SUCCESSES = (
+    Opnum.SETCLIENTID,
+    Opnum.SETCLIENTID_CONFIRM,
+    Opnum.OPEN,
+    Opnum.OPEN_CONFIRM,
+    Opnum.OPEN_DOWNGRADE,
+    Opnum.CLOSE,
+    Opnum.LOCK,
+    Opnum.LOCKT,
+    Opnum.LOCKU,
+    Opnum.RELEASE_LOCKOWNER,
+    Opnum.GETATTR,
+    Opnum.DELEGRETURN,
+    Opnum.READ,
+    Opnum.WRITE,
+    Opnum.SETATTR,
+    Opnum.READDIR,
+)
 
 
 class Outcome(NamedTuple):
     """What the program gives back: what came of each connection, of which the one that comes alone is the first; how
     many sweeps there were, and how many clients they removed; and the file of the journal."""
+
     links: list[Ended]
     sweeps: int
     expired: int
@@ -161,12 +177,14 @@ class Tally:
 
     def words(self) -> str:
         good = sum(count for (_, status), count in self.answers.items() if status == Status.OK)
-        return (f"{self.entries} entries; {self.answers.total()} calls, {good} of them OK, with {self.turns[SMALL]} "
-                f"turns from one connection to another, {self.turns[LARGE]} where reads bring many calls; {self.sweeps} "
-                f"sweeps removed {self.expired} clients, took {self.revoked} delegations and forgot {self.forgotten} "
-                f"owners, of which {self.back} came again; {self.again} clients had a slot that was given before; "
-                f"{len(self.renews)} RENEWs are answered as their clients were live, of which {sum(self.renews)} could "
-                "be answered only so")
+        return (
+            f"{self.entries} entries; {self.answers.total()} calls, {good} of them OK, with {self.turns[SMALL]} "
+            f"turns from one connection to another, {self.turns[LARGE]} where reads bring many calls; {self.sweeps} "
+            f"sweeps removed {self.expired} clients, took {self.revoked} delegations and forgot {self.forgotten} "
+            f"owners, of which {self.back} came again; {self.again} clients had a slot that was given before; "
+            f"{len(self.renews)} RENEWs are answered as their clients were live, of which {sum(self.renews)} could "
+            "be answered only so"
+        )
 
 
 def serve(driver: Driver, plan: Plan) -> Outcome:
@@ -189,8 +207,9 @@ def keep(seed: int, driver: Driver, outcome: Outcome | None) -> str:
     return folder
 
 
-def run(plan: Plan, program: Program, path: str = ROWS, served: int = LINKS,
-        environment: dict[str, str] | None = None) -> tuple[Judge, Outcome]:
+def run(
+    plan: Plan, program: Program, path: str = ROWS, served: int = LINKS, environment: dict[str, str] | None = None
+) -> tuple[Judge, Outcome]:
     """Who judged what comes of a plan, and that, where so many of the connections at once have a thread."""
     outcome = None
     with Driver(path, environment) as driver:
@@ -222,8 +241,10 @@ def run_all(given: argparse.Namespace, program: Program) -> Tally:
         run_both(seed, program, tally, given.program)
     for served in REFUSED_RUNS:
         run_refused(given.seed, program, served, given.program)
-    print(f"stress: {2 * given.runs} runs of {LINKS} connections at once (and {len(REFUSED_RUNS)} without most "
-          f"threads): {tally.words()}")
+    print(
+        f"stress: {2 * given.runs} runs of {LINKS} connections at once (and {len(REFUSED_RUNS)} without most "
+        f"threads): {tally.words()}"
+    )
     for (opnum, status), count in sorted(tally.answers.items()) if given.counts else ():
         print(f"    {count:7} {opnum.name} {status.name}")
     return tally

@@ -28,8 +28,24 @@ from model.journal import verdict
 from model.program import Program, bytes_of
 from nfs4.callback_listener import Listener, accept
 from nfs4.client import Client, Wrong, done, expect, numbers_of
-from nfs4.messages import (CLOSE, COMPOUND, LOCK, NFS4_OK, NULL, OPEN, PUTFH, PUTROOTFH, RENEW, call, compound, reply,
-                           results, setclientid, words, xid)
+from nfs4.messages import (
+    CLOSE,
+    COMPOUND,
+    LOCK,
+    NFS4_OK,
+    NULL,
+    OPEN,
+    PUTFH,
+    PUTROOTFH,
+    RENEW,
+    call,
+    compound,
+    reply,
+    results,
+    setclientid,
+    words,
+    xid,
+)
 from nfs4.served import NO_CALLBACKS, PATIENCE, PROGRAM, Peer, REPLY_PATIENCE, Served, TOP
 from nfs4.wire import BOTH as BOTH_ACCESS, Status, opaque, record, u64
 from relay.departures import CASES, KEPT
@@ -46,6 +62,7 @@ uids = count(1)
 
 
 # What runs.
+
 
 @contextmanager
 def serving(kind, *options, tree=NO_CALLBACKS):
@@ -147,11 +164,22 @@ def in_turn(tasks):
 
 # Rows.
 
+
 def test_rows(kind):
     """All rows but those that need a server that has just been started pass, of which some lock whole files."""
     with serving(kind, tree=None) as server, Between(server) as between:
-        ran = subprocess.run([sys.executable, os.path.join(TOP, "tools/send_rows"), "--names", *between_words(between),
-                              os.path.join(TOP, "crates/rows/data")], capture_output=True, text=True, timeout=300)
+        ran = subprocess.run(
+            [
+                sys.executable,
+                os.path.join(TOP, "tools/send_rows"),
+                "--names",
+                *between_words(between),
+                os.path.join(TOP, "crates/rows/data"),
+            ],
+            capture_output=True,
+            text=True,
+            timeout=300,
+        )
         found = re.search(r"(\d+) rows: 0 failed", ran.stdout)
         expect("the rows", (ran.returncode, ran.stderr, found and int(found[1]) > 450), (0, "", True))
     between.expect_told(told=[" 0 faults, 0 wrong"])
@@ -163,6 +191,7 @@ def between_words(between):
 
 # Exact replies.
 
+
 def one_round(address, file=1, rounds=1):
     """A client that sends again gets its exact replies; how often it did."""
     with Resender(address) as peer:
@@ -173,8 +202,15 @@ def one_round(address, file=1, rounds=1):
         return peer.again
 
 
-FAULTS = {"lose-call": True, "lose-reply": True, "cut-call": True, "cut-reply": True, "split 5": False,
-          "hold 0.01": False, "twice": False}
+FAULTS = {
+    "lose-call": True,
+    "lose-reply": True,
+    "cut-call": True,
+    "cut-reply": True,
+    "split 5": False,
+    "hold 0.01": False,
+    "twice": False,
+}
 
 
 @pytest.mark.parametrize("fault", FAULTS)
@@ -197,14 +233,21 @@ def test_four_at_once(server):
 def test_four_put_off(server):
     """The same, with answers in the server's place, and all connections ended at times, to clients that ask again."""
     rules = [f"{fault} any 1 in {chance}" for fault, chance in zip(FAULTS, (15, 14, 15, 14, 9, 9, 9))]
-    rules += ["answer DELAY LOCK 1 in 3", "answer GRACE WRITE 1 in 2", "answer RESOURCE READ 1 in 2",
-              "answer DELAY PUTFH 1 in 9", "answer GRACE LOCKU 1 in 3", "answer RESOURCE CLOSE 1 in 4",
-              "away 0.3 any each 70"]
+    rules += [
+        "answer DELAY LOCK 1 in 3",
+        "answer GRACE WRITE 1 in 2",
+        "answer RESOURCE READ 1 in 2",
+        "answer DELAY PUTFH 1 in 9",
+        "answer GRACE LOCKU 1 in 3",
+        "answer RESOURCE CLOSE 1 in 4",
+        "away 0.3 any each 70",
+    ]
 
     def sessions():
         for _ in range(4):
             with Resender(between.address) as peer:
                 Patient(peer, next(uids)).session()
+
     with Between(server, *rules, options=["--seed", "7"]) as between:
         in_turn([sessions] * 4)
     between.expect_told(told=["all connections are ended", r"\b[0-9]{2,} faults, 0 wrong"])
@@ -212,14 +255,16 @@ def test_four_put_off(server):
 
 # What clients and servers make of faults.
 
+
 def rules_of(text):
     return [rule.strip() for rule in text.split("|") if rule.strip()]
 
 
 @pytest.mark.parametrize("case", CASES, ids=lambda case: case.name)
 def test_case(case, server):
-    with Relay(server, case.change) as relay, \
-            Between(relay.address, *rules_of(case.rules), options=case.options) as between:
+    with Relay(server, case.change) as relay, Between(
+        relay.address, *rules_of(case.rules), options=case.options
+    ) as between:
         with case.peer(between.address) as peer:
             try:
                 case.client(peer, next(uids)).session()
@@ -232,6 +277,7 @@ def test_case(case, server):
 
 
 # Answers in the server's place.
+
 
 @contextmanager
 def relayed(server, *rules, change=None, kind=Patient, told=(), wrong=(), status=0):
@@ -251,8 +297,13 @@ def status_of(client, *operations):
 def test_answer_again(server):
     """The answer in the server's place is kept: the same request gets it again, behind the operations before it, which
     are run again; and another request with its sequence id is BAD_SEQID."""
-    with relayed(server, "answer DELAY LOCK 2", status=1, wrong=[r"doesn't move on: LOCK"],
-                 told=[r"^1: answered \S*BAD_SEQID in the server's place$", "the stored reply"]) as (client, relay, _):
+    with relayed(
+        server,
+        "answer DELAY LOCK 2",
+        status=1,
+        wrong=[r"doesn't move on: LOCK"],
+        told=[r"^1: answered \S*BAD_SEQID in the server's place$", "the stored reply"],
+    ) as (client, relay, _):
         client.begin()
         lock = client.at_file(client.next_lock_words(2))
         before = len(relay.heard)
@@ -291,8 +342,11 @@ def test_release(server):
 
 def test_known_lock_owner(server):
     """A LOCK that brings a known lock owner isn't answered in the server's place; the next one is."""
-    with relayed(server, "answer RESOURCE LOCK 2", told=["^1: answer RESOURCE LOCK 2: .*LOCK.*RESOURCE: answered in the"
-                                                         " server's place$"]) as (client, _, _):
+    with relayed(
+        server,
+        "answer RESOURCE LOCK 2",
+        told=["^1: answer RESOURCE LOCK 2: .*LOCK.*RESOURCE: answered in the" " server's place$"],
+    ) as (client, _, _):
         client.begin()
         client.file = 2
         found = client.obtain(lambda last: [words(PUTROOTFH), client.open_words(last)], "last")
@@ -308,8 +362,12 @@ def test_known_lock_owner(server):
 def test_fault_before(server):
     """Where an operation before it isn't OK, that reply is given, and the fault waits. Results have the form that RFC
     7531 gives them."""
-    with relayed(server, "answer DELAY READ 1", "answer GRACE SETATTR 1",
-                 told=["passed on unchanged; the fault waits$", r"\b[23] faults, 0 wrong"]) as (client, relay, _):
+    with relayed(
+        server,
+        "answer DELAY READ 1",
+        "answer GRACE SETATTR 1",
+        told=["passed on unchanged; the fault waits$", r"\b[23] faults, 0 wrong"],
+    ) as (client, relay, _):
         client.begin()
         expect("READ of no file", status_of(client, words(PUTFH) + opaque(b"nfh1none"), client.read_words())[1], 1)
         expect("READ", status_of(client, *client.at_file(client.read_words())), (DELAY, 2))
@@ -321,10 +379,15 @@ def test_fault_before(server):
 
 # What counts.
 
+
 def test_rules_that_meet(server):
     """Where two rules meet a call the first is done, and the other at the next one."""
-    with relayed(server, "split 2 READ 1", "split 3 READ 1",
-                 told=["^1: split 2 READ 1: ", "^2: split 3 READ 1: .* in 3 fragments$"]) as (client, _, _):
+    with relayed(
+        server,
+        "split 2 READ 1",
+        "split 3 READ 1",
+        told=["^1: split 2 READ 1: ", "^2: split 3 READ 1: .* in 3 fragments$"],
+    ) as (client, _, _):
         client.begin()
         for again in range(2):
             client.read()
@@ -332,8 +395,9 @@ def test_rules_that_meet(server):
 
 def test_calls_under_way(server):
     """A call that was under way on a connection which ended comes again, and doesn't count."""
-    with Relay(server) as relay, Between(relay.address, "lose-reply READ 1", "split 2 READ 3") as between, \
-            Resender(between.address) as peer:
+    with Relay(server) as relay, Between(relay.address, "lose-reply READ 1", "split 2 READ 3") as between, Resender(
+        between.address
+    ) as peer:
         client = Patient(peer, next(uids))
         client.begin()
         relay.seconds = 2
@@ -345,8 +409,9 @@ def test_calls_under_way(server):
             peer.peer = None
             peer.send(data)
             expect("READ", numbers_of(peer.receive())[6], NFS4_OK)
-    between.expect_told(told=["with 1 other calls? under way$", "^2: split 2 READ 3: connection 4, ",
-                              r"\b2 faults, 0 wrong"])
+    between.expect_told(
+        told=["with 1 other calls? under way$", "^2: split 2 READ 3: connection 4, ", r"\b2 faults, 0 wrong"]
+    )
 
 
 def test_several_requests(server):
@@ -361,9 +426,11 @@ def test_several_requests(server):
 
 def test_chance():
     """Which calls a rule by chance meets depends on the seed and their count alone, whatever else is called."""
+
     def split_of(odd, *rules):
-        with Echo() as server, Between(server.address, "split 2 NULL 1 in 4", *rules) as between, \
-                Peer(between.address) as peer:
+        with Echo() as server, Between(server.address, "split 2 NULL 1 in 4", *rules) as between, Peer(
+            between.address
+        ) as peer:
             found = []
             for number in range(60):
                 peer.send(call(number, NULL))
@@ -372,6 +439,7 @@ def test_chance():
                     peer.send(compound(number, words(PUTROOTFH)))
                     peer.receive()
         return found
+
     found = split_of(()), split_of((1, 3)), split_of((2, 5), "twice PUTROOTFH 1 in 3")
     expect("which NULLs are met", (found[0], found[0]), found[1:])
     expect("how many", 5 <= sum(found[0]) <= 25, True)
@@ -379,8 +447,9 @@ def test_chance():
 
 def test_arguments(server):
     """The arguments of all operations of RFC 7531 are read: one behind them is found."""
-    with relayed(server, "split 2 RENEW each 1", status=0,
-                 told=[rf"\b{sum(map(len, ARGUMENTS.values()))} faults, 0 wrong"]) as (client, _, _):
+    with relayed(
+        server, "split 2 RENEW each 1", status=0, told=[rf"\b{sum(map(len, ARGUMENTS.values()))} faults, 0 wrong"]
+    ) as (client, _, _):
         for opnum, forms in ARGUMENTS.items():
             for arguments in forms:
                 client.ask(words(opnum) + arguments, words(RENEW) + u64(99))
@@ -414,8 +483,9 @@ def test_results(is_wrong):
     closed = done(CLOSE, words(1, 2, 3, 4))
     found = [([done(opnum, rest)], closed) for opnum, rest in RESULTS] + [([], done(OPEN, rest)) for rest in OPENED]
     found = dict(enumerate(found, 1))
-    with Answering(found, is_wrong) as server, Between(server.address, "lose-reply any each 1") as between, \
-            Resender(between.address) as peer:
+    with Answering(found, is_wrong) as server, Between(server.address, "lose-reply any each 1") as between, Resender(
+        between.address
+    ) as peer:
         for number, (before, request) in found.items():
             opnums = [int.from_bytes(result[:4], "big") for result in (*before, request)]
             asked = [words(opnum) + ARGUMENTS[opnum][0] for opnum in opnums[:-1]]
@@ -451,13 +521,18 @@ def test_overtaking(server):
 def test_parts(server):
     """What reaches the client of a reply, and the server of a call."""
     whole, asked = reply(1), call(1, NULL)
-    for fault, given in (("lose-reply", b""), ("cut-reply", whole[:len(whole) // 2]), ("lose-call", b""),
-                         ("cut-call", b""), ("away 0.1", b"")):
+    for fault, given in (
+        ("lose-reply", b""),
+        ("cut-reply", whole[: len(whole) // 2]),
+        ("lose-call", b""),
+        ("cut-call", b""),
+        ("away 0.1", b""),
+    ):
         with Between(server, f"{fault} NULL 1") as between, Peer(between.address) as peer:
             peer.send(asked)
             expect(f"{fault}: what comes of the reply", peer.receive(), given)
         between.expect_told(told=["^1: never comes again: NULL$"])
-    for fault, given in ("lose-call", b""), ("cut-call", asked[:len(asked) // 2]), ("lose-reply", asked):
+    for fault, given in ("lose-call", b""), ("cut-call", asked[: len(asked) // 2]), ("lose-reply", asked):
         with Echo() as far, Between(far.address, f"{fault} NULL 1") as between, Peer(between.address) as peer:
             peer.send(asked)
             expect("the end", peer.receive(), b"")
@@ -469,6 +544,7 @@ def test_parts(server):
 
 
 # Callbacks.
+
 
 def test_addresses(server):
     """The address for callbacks passes as it is, but where a rule names a callback; so does one that isn't of TCP."""
@@ -482,20 +558,29 @@ def test_addresses(server):
 
 
 RECALLS = [
-    ("lose-call", 0, ["^1: lose-call CB_RECALL 1: callback connection .*CB_RECALL.*: the call is lost",
-                      "^1: never comes again: .*CB_RECALL"]),
+    (
+        "lose-call",
+        0,
+        [
+            "^1: lose-call CB_RECALL 1: callback connection .*CB_RECALL.*: the call is lost",
+            "^1: never comes again: .*CB_RECALL",
+        ],
+    ),
     ("lose-reply", 1, ["^1: lose-reply CB_RECALL 1: callback connection .*the reply is lost"]),
     ("twice", 2, ["^1: twice CB_RECALL 1: .*the call is sent again$"]),
-    ("answer DELAY", 0, ["^1: answer DELAY CB_RECALL 1: .*answered in the server's place$"])]
+    ("answer DELAY", 0, ["^1: answer DELAY CB_RECALL 1: .*answered in the server's place$"]),
+]
 
 
 @pytest.mark.needs("nfs4state")
 @pytest.mark.parametrize("fault, calls, told", RECALLS, ids=[fault for fault, *_ in RECALLS])
 def test_recall(fault, calls, told):
     """A CB_RECALL that meets a fault: so many calls come to the client's listener. The file is given back."""
-    with serving("program", tree=None) as server, Between(server, f"{fault} CB_RECALL 1") as between, \
-            Listener(accept) as home, Listener(accept) as other_home, Resender(between.address) as peer, \
-            Resender(between.address) as other_peer:
+    with serving("program", tree=None) as server, Between(server, f"{fault} CB_RECALL 1") as between, Listener(
+        accept
+    ) as home, Listener(accept) as other_home, Resender(between.address) as peer, Resender(
+        between.address
+    ) as other_peer:
         holder, other = Borrower(peer, next(uids)), Borrower(other_peer, next(uids))
         holder.introduce(callback_at(home.address))
         other.introduce(callback_at(other_home.address))
@@ -514,22 +599,30 @@ def test_recall(fault, calls, told):
 
 # Leases, and what is told.
 
+
 def test_away_beyond_a_lease(kind):
     """A client that is kept away for longer than its lease has lost what it had."""
-    with serving(kind, "--lease", "5") as server, Between(server, "away 12 RENEW 1") as between, \
-            Resender(between.address) as peer, Resender(between.address) as other:
+    with serving(kind, "--lease", "5") as server, Between(server, "away 12 RENEW 1") as between, Resender(
+        between.address
+    ) as peer, Resender(between.address) as other:
         client = Patient(peer, next(uids))
         other.send(call(1, NULL))
         other.receive()
         client.begin()
         expect("RENEW", status_of(client, client.renew_words()), (Status.STALE_CLIENTID, 1))
         expect("the connection of another client", other.peer.receive(), b"")
-    between.expect_told(told=["all connections are ended, for 12 s", r"comes again (1[2-9]|[2-9]\d)\.",
-                              r"\b1 faults, 0 wrong"])
+    between.expect_told(
+        told=["all connections are ended, for 12 s", r"comes again (1[2-9]|[2-9]\d)\.", r"\b1 faults, 0 wrong"]
+    )
 
 
-CHANCES = ("lose-reply any 1 in 4", "twice any 1 in 5", "split 3 any 1 in 3", "cut-call any 1 in 6",
-           "answer DELAY LOCK 1 in 3")
+CHANCES = (
+    "lose-reply any 1 in 4",
+    "twice any 1 in 5",
+    "split 3 any 1 in 3",
+    "cut-call any 1 in 6",
+    "answer DELAY LOCK 1 in 3",
+)
 
 
 def told_of(kind, seed):
@@ -553,20 +646,53 @@ def test_same_lines(kind):
 # Words, statuses and ends.
 
 NO_RULES = [
-    "drop LOCK 1", "hold x READ 1", "answer EXPIRED OPEN 1", "lose-call OPENS 1", "twice OPEN", "split 0 OPEN 1",
-    "answer GRACE CLOSE 1", "twice OPEN each 0", "twice OPEN 0", "twice OPEN -1", "twice OPEN 1 in 0",
-    "twice OPEN 2 in 3", "twice OPEN every 3", "hold -1 READ 1", "hold nan READ 1", "hold inf READ 1",
-    "split 2.5 READ 1", "split READ 1",
-    "away READ 1", "answer READ 1", "lose-call 3 READ 1", "twice OPEN 1 2", "lose-reply", "answer DELAY any 1",
-    "answer RESOURCE NULL 1", "answer RESOURCE PUTFH 1", "answer RESOURCE PUTROOTFH 1", "answer DELAY RENEW 1",
-    "answer GRACE CB_RECALL 1", "answer DELAY CB_NULL 1", "answer 10008 OPEN 1", "Twice OPEN 1", "twice open 1",
-    "answer GRACE GETATTR 1", "twice CB_GETATTR 1", "twice ILLEGAL 1"]
+    "drop LOCK 1",
+    "hold x READ 1",
+    "answer EXPIRED OPEN 1",
+    "lose-call OPENS 1",
+    "twice OPEN",
+    "split 0 OPEN 1",
+    "answer GRACE CLOSE 1",
+    "twice OPEN each 0",
+    "twice OPEN 0",
+    "twice OPEN -1",
+    "twice OPEN 1 in 0",
+    "twice OPEN 2 in 3",
+    "twice OPEN every 3",
+    "hold -1 READ 1",
+    "hold nan READ 1",
+    "hold inf READ 1",
+    "split 2.5 READ 1",
+    "split READ 1",
+    "away READ 1",
+    "answer READ 1",
+    "lose-call 3 READ 1",
+    "twice OPEN 1 2",
+    "lose-reply",
+    "answer DELAY any 1",
+    "answer RESOURCE NULL 1",
+    "answer RESOURCE PUTFH 1",
+    "answer RESOURCE PUTROOTFH 1",
+    "answer DELAY RENEW 1",
+    "answer GRACE CB_RECALL 1",
+    "answer DELAY CB_NULL 1",
+    "answer 10008 OPEN 1",
+    "Twice OPEN 1",
+    "twice open 1",
+    "answer GRACE GETATTR 1",
+    "twice CB_GETATTR 1",
+    "twice ILLEGAL 1",
+]
 CHANGES = "OPEN LOCK LOCKT LOCKU READ WRITE SETATTR REMOVE RENAME".split()
-DELAYED = ("ACCESS CLOSE COMMIT CREATE DELEGRETURN GETATTR LINK LOOKUP OPEN_DOWNGRADE PUTFH PUTROOTFH READDIR "
-           "SETCLIENTID SETCLIENTID_CONFIRM CB_RECALL").split()
-FREELY = ("ACCESS CLOSE COMMIT CREATE DELEGPURGE DELEGRETURN GETATTR GETFH LINK LOOKUP LOOKUPP NVERIFY OPENATTR "
-          "OPEN_CONFIRM OPEN_DOWNGRADE READDIR READLINK RENEW RESTOREFH SAVEFH SECINFO SETCLIENTID SETCLIENTID_CONFIRM "
-          "VERIFY RELEASE_LOCKOWNER").split()
+DELAYED = (
+    "ACCESS CLOSE COMMIT CREATE DELEGRETURN GETATTR LINK LOOKUP OPEN_DOWNGRADE PUTFH PUTROOTFH READDIR "
+    "SETCLIENTID SETCLIENTID_CONFIRM CB_RECALL"
+).split()
+FREELY = (
+    "ACCESS CLOSE COMMIT CREATE DELEGPURGE DELEGRETURN GETATTR GETFH LINK LOOKUP LOOKUPP NVERIFY OPENATTR "
+    "OPEN_CONFIRM OPEN_DOWNGRADE READDIR READLINK RENEW RESTOREFH SAVEFH SECINFO SETCLIENTID SETCLIENTID_CONFIRM "
+    "VERIFY RELEASE_LOCKOWNER"
+).split()
 
 
 def between_ends(*words, given=b""):
@@ -578,8 +704,11 @@ def between_ends(*words, given=b""):
 def refuse(*words):
     status, output, errors = between_ends(*words)
     expect(f"the status of {words}", status, 2)
-    expect(f"{words}: standard output, and whether it says why", (output, bool(errors), "Traceback" in errors),
-           ("", True, False))
+    expect(
+        f"{words}: standard output, and whether it says why",
+        (output, bool(errors), "Traceback" in errors),
+        ("", True, False),
+    )
 
 
 def test_refused_words(model_server, tmp_path):
@@ -587,10 +716,21 @@ def test_refused_words(model_server, tmp_path):
     to, plan = ["--to", "%s:%d" % model_server], str(tmp_path / "plan")
     (tmp_path / "plan").write_text("# A plan.\n\nlose-reply READ 1 # The first.\ndrop READ 1\n")
     tasks = [partial(refuse, *to, "--rule", rule) for rule in NO_RULES]
-    tasks += [partial(refuse, *words) for words in (
-        [], ["--to", "nowhere"], ["--to", "127.0.0.1:x"], ["--to", "127.0.0.1:99999"], [*to, "--plan", plan],
-        [*to, "--plan", plan + ".none"], [*to, "--seed", "x"], [*to, "--listen", "%s:%d" % model_server],
-        [*to, "--listen", "nowhere"], [*to, "--no-such-option"])]
+    tasks += [
+        partial(refuse, *words)
+        for words in (
+            [],
+            ["--to", "nowhere"],
+            ["--to", "127.0.0.1:x"],
+            ["--to", "127.0.0.1:99999"],
+            [*to, "--plan", plan],
+            [*to, "--plan", plan + ".none"],
+            [*to, "--seed", "x"],
+            [*to, "--listen", "%s:%d" % model_server],
+            [*to, "--listen", "nowhere"],
+            [*to, "--no-such-option"],
+        )
+    ]
     in_turn(tasks)
 
 
@@ -599,8 +739,11 @@ def test_rules(model_server, tmp_path):
     lines = []
     for status, operations in (("GRACE", CHANGES), ("DELAY", CHANGES + DELAYED), ("RESOURCE", CHANGES + FREELY)):
         lines += [f"answer {status} {operation} 1" for operation in operations]
-    lines += [f"{fault} {operation} each 2" for fault in (*FAULTS, "away 0.5") for operation in
-              ("any", "NULL", "CB_NULL", "CB_RECALL", "OPEN")]
+    lines += [
+        f"{fault} {operation} each 2"
+        for fault in (*FAULTS, "away 0.5")
+        for operation in ("any", "NULL", "CB_NULL", "CB_RECALL", "OPEN")
+    ]
     (tmp_path / "plan").write_text("# A plan.\n\n" + "".join(f"  {line}  # So.\n" for line in lines))
     words = ["--listen", "127.0.0.1:0", "--to", "%s:%d" % model_server, "--plan", tmp_path / "plan"]
     status, output, errors = between_ends(*words)
@@ -628,8 +771,13 @@ def test_ends(server):
             if number is not None:
                 between.served.program.send_signal(number)
                 between.wait()
-        between.expect_told(1, told=["^never met: lose-reply NULL 2 \\(1 such calls\\)$",
-                                     "^between: 1 connections, 1 calls, 0 faults, 0 wrong$"])
+        between.expect_told(
+            1,
+            told=[
+                "^never met: lose-reply NULL 2 \\(1 such calls\\)$",
+                "^between: 1 connections, 1 calls, 0 faults, 0 wrong$",
+            ],
+        )
         with socket.socket() as late:
             expect("a connection behind its end", late.connect_ex(between.address) != 0, True)
 
@@ -667,11 +815,15 @@ def test_long_records():
             with Peer(between.address) as peer:
                 peer.send(begin)
                 expect("the end of its connection", peer.receive(), b"")
-    between.expect_told(told=[f"^connection {number}: closed, because its client sends a record of more than {LIMIT} "
-                              "bytes$"
-                              for number in (2, 3)])
-    with Listener(lambda heard: heard.send(words(0x80000000 + LIMIT + 1))) as server, \
-            Between(server.address) as between, Peer(between.address) as peer:
+    between.expect_told(
+        told=[
+            f"^connection {number}: closed, because its client sends a record of more than {LIMIT} " "bytes$"
+            for number in (2, 3)
+        ]
+    )
+    with Listener(lambda heard: heard.send(words(0x80000000 + LIMIT + 1))) as server, Between(
+        server.address
+    ) as between, Peer(between.address) as peer:
         peer.send(call(1, NULL))
         expect("the end of its connection", peer.receive(), b"")
     between.expect_told(told=[f"^connection 1: closed, because its server sends a record of more than {LIMIT} bytes$"])
@@ -703,9 +855,18 @@ def test_many_connections():
 def test_as_it_is():
     """What can't be read passes byte for byte, in both directions, and isn't counted by `any`."""
     draw = random.Random(5)
-    odd = [record(b""), record(b"abc"), record(draw.randbytes(1000)), words(3) + b"abc" + record(b"defg"),
-           words(0) + record(b"x"), call(1, 7), call(1, COMPOUND, draw.randbytes(60)),
-           compound(2, words(77), words(PUTROOTFH)), call(3, COMPOUND, words(0, 0, 99) + words(RENEW)), reply(9)]
+    odd = [
+        record(b""),
+        record(b"abc"),
+        record(draw.randbytes(1000)),
+        words(3) + b"abc" + record(b"defg"),
+        words(0) + record(b"x"),
+        call(1, 7),
+        call(1, COMPOUND, draw.randbytes(60)),
+        compound(2, words(77), words(PUTROOTFH)),
+        call(3, COMPOUND, words(0, 0, 99) + words(RENEW)),
+        reply(9),
+    ]
     with Echo() as server, Between(server.address) as between, Peer(between.address) as peer:
         for data in odd:
             peer.send(data)

@@ -139,8 +139,15 @@ def put_crate(top, name, text="fn f() {}\n"):
     """A crate of a checkout, with its library, or of a copy, which has none."""
     (top / name / "src").mkdir(parents=True)
     (top / name / "src/lib.rt").write_text(text)
-    return SimpleNamespace(name=name, folder=str(top / name), rlib=str(top / name / "out/rlib/it.rlib"), said={}, of_kit=[],
-                           below=lambda: [], stamp=lambda: f"stamp of {name}")
+    return SimpleNamespace(
+        name=name,
+        folder=str(top / name),
+        rlib=str(top / name / "out/rlib/it.rlib"),
+        said={},
+        of_kit=[],
+        below=lambda: [],
+        stamp=lambda: f"stamp of {name}",
+    )
 
 
 @pytest.fixture
@@ -149,8 +156,14 @@ def lending(tmp_path, monkeypatch):
     here, there = ([put_crate(tmp_path / top, name) for name in ("low", "program")] for top in ("here", "there"))
     toolchain = SimpleNamespace(crates_below=lambda top: there if top == "there" else here)
     monkeypatch.setattr(libraries.edits_kept, "toolchain", lambda: (str(tmp_path), toolchain))
-    monkeypatch.setattr(libraries.edits_kept, "Sums", lambda _: SimpleNamespace(
-        of_below=libraries.edits_kept.sum_of_crate, of_rlib=lambda crate: libraries.edits_kept.sum_of_folder(crate.rlib)))
+    monkeypatch.setattr(
+        libraries.edits_kept,
+        "Sums",
+        lambda _: SimpleNamespace(
+            of_below=libraries.edits_kept.sum_of_crate,
+            of_rlib=lambda crate: libraries.edits_kept.sum_of_folder(crate.rlib),
+        ),
+    )
     os.makedirs(here[0].rlib)
     with open(os.path.join(here[0].rlib, "code"), "w", encoding="utf-8") as code:
         code.write("code")
@@ -225,9 +238,19 @@ def test_release_in_the_tree():
 
 
 @quick
-@pytest.mark.parametrize("changes, refusal", [
-    (lambda patch: patch.setattr(release, "commit_here", lambda: copies.Commit(COMMIT, False)), "the tree isn't clean"),
-    (lambda patch: patch.setattr(release, "commit_here", lambda: copies.Commit(COMMIT, True)), "no gate was green here")])
+@pytest.mark.parametrize(
+    "changes, refusal",
+    [
+        (
+            lambda patch: patch.setattr(release, "commit_here", lambda: copies.Commit(COMMIT, False)),
+            "the tree isn't clean",
+        ),
+        (
+            lambda patch: patch.setattr(release, "commit_here", lambda: copies.Commit(COMMIT, True)),
+            "no gate was green here",
+        ),
+    ],
+)
 def test_refused_release(monkeypatch, changes, refusal):
     changes(monkeypatch)
     with pytest.raises(Unbuildable, match=refusal):
@@ -270,8 +293,13 @@ def test_build_that_is_ended(tmp_path):
         pytest.skip("the toolchain isn't here")
     room = tmp_path / "room"
     room.mkdir()
-    process = subprocess.Popen(["tools/build_unproved", str(tmp_path / "it")], cwd=TOP, stderr=subprocess.DEVNULL,
-                               env={**os.environ, "TMPDIR": str(room)}, start_new_session=True)
+    process = subprocess.Popen(
+        ["tools/build_unproved", str(tmp_path / "it")],
+        cwd=TOP,
+        stderr=subprocess.DEVNULL,
+        env={**os.environ, "TMPDIR": str(room)},
+        start_new_session=True,
+    )
     time.sleep(8)
     assert list(room.iterdir())
     os.kill(process.pid, signal.SIGTERM)

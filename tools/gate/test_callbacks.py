@@ -22,8 +22,18 @@ from resource import RLIMIT_NOFILE, setrlimit
 import pytest
 
 from gate.callback_client import Borrower, Opened
-from gate.callback_peers import (CALLBACK_PROGRAM, IDENT, accept_null, answer_another, bad_peers, callback_at,
-                                 deny_credential, deny_handle, nobody, refuse)
+from gate.callback_peers import (
+    CALLBACK_PROGRAM,
+    IDENT,
+    accept_null,
+    answer_another,
+    bad_peers,
+    callback_at,
+    deny_credential,
+    deny_handle,
+    nobody,
+    refuse,
+)
 from gate.trial import Late, lawful_journal, peer_of, tried_again
 from model.entries import Path, Revoke
 from model.journal import Growing, NotJournal
@@ -47,7 +57,8 @@ LEASE, RENEWAL = 3, 2.9
 # many such lines were left out.
 ON_CALLBACK = re.compile(
     rb"client (?P<client>\d+): callback to (?P<address>\S+ \S+)(?: failed|): (?P<reason>.*)\n"
-    rb"|callbacks: (?P<left_out>\d+) more lines left out\n")
+    rb"|callbacks: (?P<left_out>\d+) more lines left out\n"
+)
 # The lines of a kind that come in a second at most.
 LINES_A_SECOND = 10
 # The seconds after which a reply that is missing is told.
@@ -64,6 +75,7 @@ def expect_time(what, seconds, most):
 
 
 # A run of the server.
+
 
 class Run:
     """A server with its clients' connections. It goes on until its input ends, or it serves so many connections."""
@@ -126,6 +138,7 @@ def run(path_of):
         command = [PROGRAM, "serve", "--listen", "127.0.0.1:0", "--journal", path, *until, *options]
         with Served(command, stdin=subprocess.PIPE, **how) as served:
             yield Run(served, path, connections is None)
+
     return begin
 
 
@@ -169,6 +182,7 @@ class Renewals:
 
 
 # What is heard.
+
 
 def heard_by(listener, place, seconds=REPLY_PATIENCE):
     """The record of this place among those that came."""
@@ -217,6 +231,7 @@ def expect_none_granted(client, name):
 
 # Recalls.
 
+
 @pytest.mark.parametrize("is_nobody", [False, True], ids=["AUTH_SYS", "AUTH_NONE"])
 def test_recall_and_return(run, is_nobody):
     """CB_NULL is asked, and then a delegation granted; another client's OPEN is DELAY, and the delegation recalled.
@@ -242,14 +257,18 @@ def test_recall_and_return(run, is_nobody):
         expect("the marks", marks_of(entries, holder), [True, True])
 
 
-@pytest.mark.parametrize("answer, marks", [
-    (keep_silent, [True]), (accept, [True, True]), (deny_handle, [True, False])], ids=["no answer", "OK", "BADHANDLE"])
+@pytest.mark.parametrize(
+    "answer, marks",
+    [(keep_silent, [True]), (accept, [True, True]), (deny_handle, [True, False])],
+    ids=["no answer", "OK", "BADHANDLE"],
+)
 @tried_again
 def test_revocation(run, tell, answer, marks):
     """A recall isn't followed by DELEGRETURN, whatever is answered: the delegation is revoked after a lease, and then
     its stateid is BAD_STATEID. The OPEN that waited goes through. A recall without an answer is let go."""
-    with Listener(partial(accept_null, answer=answer)) as home, Listener(accept) as other_home, \
-            run("--lease", str(LEASE)) as server:
+    with Listener(partial(accept_null, answer=answer)) as home, Listener(accept) as other_home, run(
+        "--lease", str(LEASE)
+    ) as server:
         begun = time.monotonic()
         holder, other = server.client(1, home), server.client(2, other_home)
         with Renewals(server, begun, holder, other):
@@ -327,8 +346,11 @@ def test_reason(run, answer, reason):
         expect("the marks", server.marks(client, 1), [False])
         server.end()
         address = b"tcp " + universal_address(home.address).encode()
-        expect("the lines", server.told, [b"client %d: callback to %s failed: %s\n" % (
-            client.number, address, reason.encode())])
+        expect(
+            "the lines",
+            server.told,
+            [b"client %d: callback to %s failed: %s\n" % (client.number, address, reason.encode())],
+        )
 
 
 def test_missing_reply(run):
@@ -347,8 +369,10 @@ def test_odd_address(run):
     """The bytes of an address that don't print are escaped: whatever a client gives, its line is one."""
     lines = []
     with run() as server:
-        clients = [server.client(uid, Callback(CALLBACK_PROGRAM, *address, IDENT))
-                   for uid, address in ((1, (b"t\x1b[2J\n", b"\xff\"\\\r a")), (2, (b"", b"")))]
+        clients = [
+            server.client(uid, Callback(CALLBACK_PROGRAM, *address, IDENT))
+            for uid, address in ((1, (b"t\x1b[2J\n", b'\xff"\\\r a')), (2, (b"", b"")))
+        ]
         for client, shown in zip(clients, (rb"t\x1b[2J\n \xff\"\\\r\x20a", rb'"" ""')):
             expect("the marks", server.marks(client, 1), [False])
             lines.append(b"client %d: callback to %s failed: no usable address\n" % (client.number, shown))
@@ -398,8 +422,11 @@ when_answered = pytest.mark.parametrize("is_at_once", [True, False], ids=["at on
 
 
 @when_answered
-@pytest.mark.parametrize("answer, is_up, late_answer", [(accept, True, refuse), (refuse, False, accept)],
-                         ids=["accepts, old one refuses", "refuses, old one accepts"])
+@pytest.mark.parametrize(
+    "answer, is_up, late_answer",
+    [(accept, True, refuse), (refuse, False, accept)],
+    ids=["accepts, old one refuses", "refuses, old one accepts"],
+)
 def test_new_address(run, answer, is_up, late_answer, is_at_once):
     """A client gives another address while the old one hangs, is called at the new one, and its path is as that says.
     What the old one answers late, once the new one is confirmed or has been called, marks nothing."""
@@ -449,8 +476,9 @@ def test_slots_given_again(run, late_answer, is_at_once):
     """Two clients begin anew while calls to them hang, a recall and a CB_NULL, and others get their slots. What is
     answered to the old calls, before the others are called or behind that, marks no path; and who had the delegation
     has ended."""
-    with Listener(accept_null) as old, Listener(keep_silent) as silent, Listener(accept) as home, \
-            Listener(keep_silent) as new, run() as server:
+    with Listener(accept_null) as old, Listener(keep_silent) as silent, Listener(accept) as home, Listener(
+        keep_silent
+    ) as new, run() as server:
         holder, mute, other = server.client(1, old), server.client(2, silent), server.client(3, home)
         lent = holder.borrow(b"a", BOTH)
         expect("an OPEN of another file", other.open_by_name(b"b", READ).status, NFS4_OK)
@@ -481,9 +509,15 @@ def test_slots_given_again(run, late_answer, is_at_once):
         expect("how many calls came", [len(listener.heard) for listener in (old, silent, new)], [2, 1, 2])
 
 
-@pytest.mark.parametrize("goes_on, bad", [
-    pytest.param(goes_on, bad, id=bad.name + ("" if goes_on else ", so many connections"))
-    for bad in bad_peers() for goes_on in (True, False) if goes_on or bad.is_unanswered or bad.takes_connection])
+@pytest.mark.parametrize(
+    "goes_on, bad",
+    [
+        pytest.param(goes_on, bad, id=bad.name + ("" if goes_on else ", so many connections"))
+        for bad in bad_peers()
+        for goes_on in (True, False)
+        if goes_on or bad.is_unanswered or bad.takes_connection
+    ],
+)
 def test_bad_peer(run, goes_on, bad):
     """One client's peer is bad: another client is called and granted a delegation, and calls are answered."""
     connections = None if goes_on else 3 + bad.takes_connection
@@ -583,18 +617,25 @@ def test_many_recalls(run, path_of, tell):
         for place, holder in enumerate(holders):
             expect("the marks", server.marks(holder, 1 if place in MUTE else 11), [True] * (1 if place in MUTE else 11))
         server.end(seconds=SOON)
-        expect("how many calls came", [len(home.heard) for home in homes],
-              [2 if place in MUTE else 11 for place in range(HOLDERS)])
+        expect(
+            "how many calls came",
+            [len(home.heard) for home in homes],
+            [2 if place in MUTE else 11 for place in range(HOLDERS)],
+        )
         expect_time("all recalls", max(seconds), SOON)
-        tell(f"{HOLDERS * len(NAMES)} delegations of {HOLDERS} clients were recalled at once, of which {len(MUTE)} "
-             f"never answered: the others had theirs after {min(seconds):.2f} to {max(seconds):.2f} seconds")
+        tell(
+            f"{HOLDERS * len(NAMES)} delegations of {HOLDERS} clients were recalled at once, of which {len(MUTE)} "
+            f"never answered: the others had theirs after {min(seconds):.2f} to {max(seconds):.2f} seconds"
+        )
 
 
 def open_all(writer):
     """Opens all files to write, by calls that are sent at once, and all are DELAY: when they were sent."""
     expect("an OPEN of its own file", writer.open_by_name(b"own", READ).status, NFS4_OK)
-    calls = [compound(place, words(PUTROOTFH), writer.words_of_open(name, WRITE), uid=writer.uid)
-             for place, name in enumerate(NAMES)]
+    calls = [
+        compound(place, words(PUTROOTFH), writer.words_of_open(name, WRITE), uid=writer.uid)
+        for place, name in enumerate(NAMES)
+    ]
     begun = time.monotonic()
     writer.peer.send(b"".join(calls))
     delay = done(PUTROOTFH), done(OPEN, status=Status.DELAY)
@@ -667,8 +708,9 @@ def test_returning_tool(run):
         wait_until_open(other, b"a", READ, time.monotonic())
         stateid = f"1 1 {holder.number} {lent.number}"
         recall = f"CB_RECALL {stateid}, callback_ident {IDENT}, filehandle 8 0x6e666831 0x00000001"
-        tool.expect_lines(CALLED + "AUTH_NONE: CB_NULL", CALLED + f"AUTH_SYS 1: {recall}",
-                          rf"\S+ DELEGRETURN {stateid} -> NFS4_OK")
+        tool.expect_lines(
+            CALLED + "AUTH_NONE: CB_NULL", CALLED + f"AUTH_SYS 1: {recall}", rf"\S+ DELEGRETURN {stateid} -> NFS4_OK"
+        )
         server.end()
 
 

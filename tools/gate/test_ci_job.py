@@ -34,8 +34,9 @@ WRONG_ID = """row a CLOSE by a wrong id
 """
 
 
-@pytest.fixture(params=[pytest.param(PROGRAM, id="program", marks=pytest.mark.needs("nfs4state")),
-                        pytest.param(None, id="model")])
+@pytest.fixture(
+    params=[pytest.param(PROGRAM, id="program", marks=pytest.mark.needs("nfs4state")), pytest.param(None, id="model")]
+)
 def run_job(request, tmp_path):
     """Runs the job with this client, in a minute or in so many seconds: its status, what it prints, and what it says on
     standard error."""
@@ -51,9 +52,15 @@ def run_job(request, tmp_path):
             sample = room / "hurried/ci_job.sh"
             sample.parent.mkdir()
             sample.write_text(text.replace("--seconds 60", f"--seconds {seconds}"))
-        ran = subprocess.run(["sh", str(sample), str(tmp_path / "run.journal"), *client], cwd=room, capture_output=True,
-                             text=True, timeout=300)
+        ran = subprocess.run(
+            ["sh", str(sample), str(tmp_path / "run.journal"), *client],
+            cwd=room,
+            capture_output=True,
+            text=True,
+            timeout=300,
+        )
         return ran.returncode, ran.stdout, ran.stderr
+
     return run
 
 

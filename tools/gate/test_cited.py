@@ -71,17 +71,37 @@ fn by_drop() -> u32 { 1 }
 pub fn handed_on(f: Function) -> u32 { 1 }
 pub fn by_path(x: u32) -> u32 { 1 }
 pub fn a_law() ensures { Law } {}
-"""}
-RUN = {"main", "helper", "handed_on", "by_trait", "by_macro", "by_path", "by_drop", "told!", "Service::serve",
-       "Store::new", "Store::serve", "Store::answer", "Store::in_trait", "Store::first", "Store::drop", "Rows::change", "Row::row"}
+""",
+}
+RUN = {
+    "main",
+    "helper",
+    "handed_on",
+    "by_trait",
+    "by_macro",
+    "by_path",
+    "by_drop",
+    "told!",
+    "Service::serve",
+    "Store::new",
+    "Store::serve",
+    "Store::answer",
+    "Store::in_trait",
+    "Store::first",
+    "Store::drop",
+    "Rows::change",
+    "Row::row",
+}
 WORDS = {
     "`Store::answer`, `handed_on`, `base::by_path`, `inner::by_path`, `a_law`, `Store::law`, `apply`, `not_there`": [],
     "`Store::unused`": ["Store::unused: the program doesn't run it, and the table of docs/CONTRACTS.md hasn't got it"],
     "`not_run`": ["not_run: the program doesn't run it, and the table of docs/CONTRACTS.md hasn't got it"],
     "`other::not_run()`": [
-        "other::not_run(): the program doesn't run it, and the table of docs/CONTRACTS.md hasn't got it"],
+        "other::not_run(): the program doesn't run it, and the table of docs/CONTRACTS.md hasn't got it"
+    ],
     "`Store::apply`": ["Store::apply: the program doesn't run it, as docs/CONTRACTS.md says"],
-    "`Rows::unclear`": ["Rows::unclear: does main call Rows::unclear? `MEANT` has to say which unclear is meant"]}
+    "`Rows::unclear`": ["Rows::unclear: does main call Rows::unclear? `MEANT` has to say which unclear is meant"],
+}
 ROWS = f"""# A page
 
 {SECTION}
@@ -96,8 +116,11 @@ WRONG_ROWS = {
     "| `Store::nothing` | |": ["Store::nothing: no such function"],
     "| `Store::apply` | |": ["Store::apply: there already"],
     "| `Store::unused` | `not_run`, `a_law` |": [
-        "a_law: the program doesn't run it", "not_run: the program doesn't run it"],
-    "| `Rows::unclear` | |": ["Rows::unclear: does main call Rows::unclear? `MEANT` has to say which unclear is meant"]}
+        "a_law: the program doesn't run it",
+        "not_run: the program doesn't run it",
+    ],
+    "| `Rows::unclear` | |": ["Rows::unclear: does main call Rows::unclear? `MEANT` has to say which unclear is meant"],
+}
 
 
 def made_up(meant=None):
@@ -112,8 +135,11 @@ def citations():
 
 def faults_of(citations, words, rows=ROWS):
     specified = [f"{TABLE}: the table hasn't got"]
-    return [it for it in citations.faults([Page("docs/CLAIMS.md", words), Page(TABLE, rows)])
-            if not it.startswith(tuple(specified))]
+    return [
+        it
+        for it in citations.faults([Page("docs/CLAIMS.md", words), Page(TABLE, rows)])
+        if not it.startswith(tuple(specified))
+    ]
 
 
 def test_pages(tell):
@@ -133,7 +159,8 @@ def test_meant():
     assert {str(it) for it in found.runs} == RUN | {"Rows::unclear"} == {str(it) for it in found.may_run}
     needless = Citations(made_up({("main", "answer"): "Store::answer"}))
     assert faults_of(needless, "") == [
-        "MEANT: the call of answer in main tells by itself what is meant, or isn't there"]
+        "MEANT: the call of answer in main tells by itself what is meant, or isn't there"
+    ]
 
 
 def test_made_up(citations):
@@ -147,4 +174,5 @@ def test_specified(citations, monkeypatch):
     monkeypatch.setitem(SPECIFIED, "Store", "answer apply unused nothing law")
     faults = citations.faults([Page(TABLE, ROWS)])
     assert faults == [
-        f"{TABLE}: the table hasn't got Store::unused, which is specified and which the program doesn't run"]
+        f"{TABLE}: the table hasn't got Store::unused, which is specified and which the program doesn't run"
+    ]

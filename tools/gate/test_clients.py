@@ -42,8 +42,14 @@ LAWFUL = re.compile(r"start: lawful: [1-9][0-9]* entries\n")
 # The seconds that a command has, on however busy a machine.
 PATIENCE = 120
 # What may differ from run to run: moments, uids, the numbers of frames, and a journal's file.
-VARYING = [(NAMED, ""), (r"moment \d+", "moment N"), (r"AUTH_SYS \d+", "AUTH_SYS N"), (r"In \d+", "In N"),
-           (r"seen at \d+, now \d+", "seen at N, now N"), (r"start: journal: [^\s;]+", "start: journal: FILE")]
+VARYING = [
+    (NAMED, ""),
+    (r"moment \d+", "moment N"),
+    (r"AUTH_SYS \d+", "AUTH_SYS N"),
+    (r"In \d+", "In N"),
+    (r"seen at \d+, now \d+", "seen at N, now N"),
+    (r"start: journal: [^\s;]+", "start: journal: FILE"),
+]
 
 
 def sections(path):
@@ -98,8 +104,9 @@ class Session:
 
     def start(self, command, **how):
         """Starts a command in a group of its own, so that it can be ended with all that it starts."""
-        return subprocess.Popen(["bash", "-c", self.words(command)], text=True, cwd=self.room, start_new_session=True,
-                                **how)
+        return subprocess.Popen(
+            ["bash", "-c", self.words(command)], text=True, cwd=self.room, start_new_session=True, **how
+        )
 
     def serve(self, command, shown):
         """Begins a server that goes on, whose port the system chooses."""
@@ -122,8 +129,9 @@ class Session:
         """Begins a capture, and waits until it goes on."""
         log = os.path.join(self.folder, "capture")
         with open(log, "w") as errors:
-            self.capture = self.start(command.replace("tshark", "exec tshark", 1), stdin=subprocess.DEVNULL,
-                                      stdout=errors, stderr=errors)
+            self.capture = self.start(
+                command.replace("tshark", "exec tshark", 1), stdin=subprocess.DEVNULL, stdout=errors, stderr=errors
+            )
         for _ in range(10 * PATIENCE):
             with open(log, encoding="utf-8") as told:
                 if "Capture started" in told.read():
@@ -168,8 +176,15 @@ class Session:
             self.end_capture()
         # Of `start` the page shows what a terminal does, of other commands the output.
         errors = subprocess.STDOUT if command.startswith("./start") else subprocess.PIPE
-        ran = subprocess.run(["bash", "-c", self.words(command)], stdin=subprocess.DEVNULL, stdout=subprocess.PIPE,
-                             stderr=errors, text=True, timeout=PATIENCE, cwd=self.room)
+        ran = subprocess.run(
+            ["bash", "-c", self.words(command)],
+            stdin=subprocess.DEVNULL,
+            stdout=subprocess.PIPE,
+            stderr=errors,
+            text=True,
+            timeout=PATIENCE,
+            cwd=self.room,
+        )
         if ran.returncode != 0:
             raise Late(f"`{command}` ends with status {ran.returncode}:\n{ran.stdout}{ran.stderr}")
         compare(command, shown, ran.stdout)
@@ -190,15 +205,21 @@ def has_libnfs():
     """Whether there are a compiler and the headers of libnfs."""
     asking = "#if !__has_include(<nfsc/libnfs.h>)\n#error\n#endif\n"
     try:
-        ran = subprocess.run(["gcc", "-fsyntax-only", "-x", "c", "-"], input=asking, stderr=subprocess.DEVNULL,
-                             text=True, timeout=PATIENCE)
+        ran = subprocess.run(
+            ["gcc", "-fsyntax-only", "-x", "c", "-"],
+            input=asking,
+            stderr=subprocess.DEVNULL,
+            text=True,
+            timeout=PATIENCE,
+        )
     except FileNotFoundError:
         return False
     return ran.returncode == 0
 
 
-@pytest.fixture(params=[pytest.param(PROGRAM, id="program", marks=pytest.mark.needs("nfs4state")),
-                        pytest.param(None, id="model")])
+@pytest.fixture(
+    params=[pytest.param(PROGRAM, id="program", marks=pytest.mark.needs("nfs4state")), pytest.param(None, id="model")]
+)
 def room(request, tmp_path):
     """A folder where `./start` finds the program, or the model alone."""
     folder = tmp_path / "room"
@@ -226,8 +247,11 @@ def test_statuses():
     with open(os.path.join(TOP, "docs/CLIENTS.md"), encoding="utf-8") as page:
         shown = re.findall(r"^\| ([A-Z_]+) \| ([0-9]+) \|", page.read(), re.M)
     expect("that there are some", len(shown) > 10, True)
-    expect("their numbers", [(name, int(number)) for name, number in shown],
-           [(name, Status[name].value) for name, _ in shown])
+    expect(
+        "their numbers",
+        [(name, int(number)) for name, number in shown],
+        [(name, Status[name].value) for name, _ in shown],
+    )
 
 
 def test_first_command(room):
@@ -235,16 +259,24 @@ def test_first_command(room):
     with open(os.path.join(TOP, "README.md"), encoding="utf-8") as page:
         commands = re.findall(r"^    (\./start -- .*)$", page.read(), re.M)
     expect("how many there are", len(commands), 1)
-    ran = subprocess.run(["bash", "-c", commands[0]], stdin=subprocess.DEVNULL, capture_output=True, text=True,
-                         timeout=PATIENCE, cwd=room)
+    ran = subprocess.run(
+        ["bash", "-c", commands[0]],
+        stdin=subprocess.DEVNULL,
+        capture_output=True,
+        text=True,
+        timeout=PATIENCE,
+        cwd=room,
+    )
     expect("its output", (ran.returncode, ran.stdout), (0, "1 rows: 0 failed\n"))
     expect("the server's name", bool(NAMED.match(ran.stderr)), True)
     expect("the audit's line", "start: lawful: 5 entries\n" in ran.stderr, True)
     expect("the verdict", ran.stderr.splitlines()[-1].startswith("verdict: right"), True)
 
 
-@pytest.mark.parametrize("heading", [
-    pytest.param(heading, marks=[pytest.mark.by_hand] if CAPTURE in heading else []) for heading in SECTIONS])
+@pytest.mark.parametrize(
+    "heading",
+    [pytest.param(heading, marks=[pytest.mark.by_hand] if CAPTURE in heading else []) for heading in SECTIONS],
+)
 # A lease of a second ends too early if the machine has no time.
 @tried_again
 def test_section(tmp_path, pytestconfig, heading, room):

@@ -48,8 +48,22 @@ from nfs4.built import proved_path
 from nfs4.callback_listener import Listener, accept
 from nfs4.callbacks import recall_call
 from nfs4.client import Wrong, numbers_of
-from nfs4.messages import (GETATTR, NFS4_OK, NFS4ERR_RESOURCE, NULL, PUTROOTFH, SETATTR, TYPE_SIZE_FILEID, call,
-                           compound, opening, reply, split, words, xid)
+from nfs4.messages import (
+    GETATTR,
+    NFS4_OK,
+    NFS4ERR_RESOURCE,
+    NULL,
+    PUTROOTFH,
+    SETATTR,
+    TYPE_SIZE_FILEID,
+    call,
+    compound,
+    opening,
+    reply,
+    split,
+    words,
+    xid,
+)
 from nfs4.rows import Part, Row
 from nfs4.served import PROGRAM, Peer, Piped, REPLY_PATIENCE, Served, TOP
 from nfs4.wire import BOTH, Opnum, READ, Status, opaque, record, split_records
@@ -59,16 +73,37 @@ from sending.running import PIECE, WHOLE, run
 pytestmark = pytest.mark.needs("nfs4state")
 
 # Each a crate with tests, and a module or a test of it.
-TESTS = (("table_tests", "ranges"), ("table_tests", "rows"), ("table_tests", "opens"), ("table_tests", "delegations"),
-         ("table_tests", "sweeps"), ("server_tests", "streams"), ("callback_tests", "memory"))
+TESTS = (
+    ("table_tests", "ranges"),
+    ("table_tests", "rows"),
+    ("table_tests", "opens"),
+    ("table_tests", "delegations"),
+    ("table_tests", "sweeps"),
+    ("server_tests", "streams"),
+    ("callback_tests", "memory"),
+)
 # The operations that change the state. A new one that does has to be added here.
-CHANGING = ("SETCLIENTID", "SETCLIENTID_CONFIRM", "OPEN", "OPEN_CONFIRM", "OPEN_DOWNGRADE", "CLOSE", "LOCK", "LOCKU",
-            "RELEASE_LOCKOWNER", "DELEGRETURN", "WRITE", "SETATTR")
+CHANGING = (
+    "SETCLIENTID",
+    "SETCLIENTID_CONFIRM",
+    "OPEN",
+    "OPEN_CONFIRM",
+    "OPEN_DOWNGRADE",
+    "CLOSE",
+    "LOCK",
+    "LOCKU",
+    "RELEASE_LOCKOWNER",
+    "DELEGRETURN",
+    "WRITE",
+    "SETATTR",
+)
 # The words that begin lines between two parts of a row.
 DIVIDING = ("moment", "at", "sweep", "mark", "revoke", "take", "pending", "probe", "forget")
 # The rows whose journals are written.
-JOURNALED = (("client_ids.rows", "each case of client ids that comes without opens"),
-             ("lock.rows", "a write lock with a hole, as another owner meets it"))
+JOURNALED = (
+    ("client_ids.rows", "each case of client ids that comes without opens"),
+    ("lock.rows", "a write lock with a hole, as another owner meets it"),
+)
 # So many rows of a file are tried together, and fewer of those whose parts are also served by threads.
 TOGETHER, PARTS_TOGETHER = 8, 3
 # So many parts of the growths of a test are tried, each by itself.
@@ -77,13 +112,22 @@ SHARES = 4
 LEFT_OUT = ("client_slots.rows", "runs.rows")
 # Rows in which one sweep removes a client whose delegation is due: where memory is refused for the first, the
 # delegation is revoked by itself before, which the row doesn't want.
-LEFT_OUT_ROWS = ("a delegation that is due goes with its client",
-                 "a delegation of a client that isn't there any longer isn't revoked",
-                 "a delegation that is due goes with its client, and another one is revoked")
+LEFT_OUT_ROWS = (
+    "a delegation that is due goes with its client",
+    "a delegation of a client that isn't there any longer isn't revoked",
+    "a delegation that is due goes with its client, and another one is revoked",
+)
 # The files whose rows of one part are also run with threads, of which each makes more growths; but for rows of a WRITE
 # in one call with a READ or READDIR, which would tell of it when it is taken again.
-SHARED = ("client_ids.rows", "delegation_parts.rows", "lockt.rows", "read.rows", "readdir.rows",
-          "release_lockowner.rows", "setclientid.rows")
+SHARED = (
+    "client_ids.rows",
+    "delegation_parts.rows",
+    "lockt.rows",
+    "read.rows",
+    "readdir.rows",
+    "release_lockowner.rows",
+    "setclientid.rows",
+)
 UNSHARED_ROWS = ("the attributes of each child",)
 # By how the program of rows keeps the state: the pieces that its input comes in.
 PIECES = {ALONE: WHOLE, BY_THREADS: PIECE}
@@ -96,6 +140,7 @@ REASON = re.compile(r"(?m)^/.*\.toml: .*\n")
 
 
 # What is refused.
+
 
 class Memory:
     """The memory of programs, and the files of their runs, in a folder."""
@@ -163,6 +208,7 @@ def memory(tmp_path_factory, preloaded):
 
 # Rows of one part.
 
+
 def options_of(row, memory):
     """Those by which the server's program runs the row."""
     options = [f"--lease={row.lease}"] * (row.lease != 90) + [f"--epoch={row.epoch}"] * (row.epoch != 1)
@@ -205,7 +251,7 @@ def refused_results(got, wanted):
     if got[-12:] == words(SETATTR) + refusal + words(0):
         got = got[:-4]
     before = got[start:-8]
-    is_head = got[4:start - 4] == wanted[4:28] + refusal + wanted[32:start - 4]
+    is_head = got[4 : start - 4] == wanted[4:28] + refusal + wanted[32 : start - 4]
     is_last = wanted[start:].startswith(before + got[-8:-4]) and got[-4:] == refusal
     return before if is_head and is_last and len(got) >= start + 8 else None
 
@@ -213,7 +259,7 @@ def refused_results(got, wanted):
 def changes(before):
     """Whether an operation that changed the state is among these results, which are all NFS4_OK. (A refusal that is
     kept for an owner changes the state, too, but ends the list.)"""
-    at = [before[i:i + 8] for i in range(0, len(before), 4)]
+    at = [before[i : i + 8] for i in range(0, len(before), 4)]
     return any(words(Opnum[operation], NFS4_OK) in at for operation in CHANGING)
 
 
@@ -282,10 +328,12 @@ def refuse_in_row(memory, row, starting=0, after=None):
             raise Wrong(f"{row.name}, under {refusal}: {wrong}") from wrong
         again.append(count_again)
         return was_refused
+
     return growths_in(is_refused, 1 if "--tree" in options else starting + 1), sum(again)
 
 
 # Rows of several parts.
+
 
 def in_order(entries):
     """The entries, where those of one sweep come by the numbers of the clients, then of the delegations, and then by
@@ -299,7 +347,7 @@ def more_than(wanted, entries):
     """The entries in one place without which these are the wanted ones; or None where there is no such place."""
     more = len(entries) - len(wanted)
     places = range(len(wanted) + 1) if more >= 0 else ()
-    return next((entries[at:at + more] for at in places if entries[:at] + entries[at + more:] == wanted), None)
+    return next((entries[at : at + more] for at in places if entries[:at] + entries[at + more :] == wanted), None)
 
 
 def may_be_left(journal, wanted):
@@ -354,10 +402,12 @@ def refuse_in_parts(memory, way, row):
             expect_journal(row, wanted, outcome.journal, was_refused)
         answered.append(was_refused and outcome is not None)
         return was_refused
+
     return growths_in(is_refused), sum(answered)
 
 
 # All rows.
+
 
 @pytest.fixture(scope="session")
 def starting(memory):
@@ -378,8 +428,10 @@ def places():
         with open(path, encoding="utf-8") as source:
             total = 0 if file in LEFT_OUT else source.read().count("\nrow ")
         size = PARTS_TOGETHER if file.endswith("_parts.rows") else TOGETHER
-        yield from (pytest.param(file, range(first, min(first + size, total)), id=f"{file} {first}")
-                    for first in range(0, total, size))
+        yield from (
+            pytest.param(file, range(first, min(first + size, total)), id=f"{file} {first}")
+            for first in range(0, total, size)
+        )
 
 
 def rows_at(file, place):
@@ -388,7 +440,7 @@ def rows_at(file, place):
     with open(ROW_FILES[file], encoding="utf-8") as source:
         texts = re.split(r"(?m)^row ", source.read())[1:]
     single, several, shared = [], [], []
-    for row, text in list(zip(rows_of(file), texts, strict=True))[place.start:place.stop]:
+    for row, text in list(zip(rows_of(file), texts, strict=True))[place.start : place.stop]:
         if row.name in LEFT_OUT_ROWS:
             continue
         has_parts = len(parts_of(row)) > 1 or row.is_ordering
@@ -438,6 +490,7 @@ def test_new_piece(memory, tell):
 
 # Journals.
 
+
 def journal_after(row, output):
     """The file of the journal that a server has after these replies, some of which may refuse an operation for want of
     memory."""
@@ -462,8 +515,11 @@ def named_row(number):
     return replace(found, document=document, steps=[Part(sent=sent, fault="record too long")])
 
 
-FILES = {"whole": lambda: journal_bytes(sample()), "cut": lambda: journal_bytes(sample())[:-4],
-         "unlawful": lambda: file_of([*small().entries, small().entries[0]])}
+FILES = {
+    "whole": lambda: journal_bytes(sample()),
+    "cut": lambda: journal_bytes(sample())[:-4],
+    "unlawful": lambda: file_of([*small().entries, small().entries[0]]),
+}
 SINCE = pytest.mark.parametrize("since", [False, True], ids=["one", "all after it"])
 
 
@@ -477,6 +533,7 @@ def test_audit(name, program, memory, add_up):
         ending, was_refused = program.run(["audit", path], environment=refusal.environment), refusal.took_place()
         assert ending == wanted or was_refused and ending == (1, b"", b"fault: no memory\n"), f"growth {growth}"
         return was_refused
+
     growths = growths_in(is_refused)
     assert growths
     add_up(growths, "growths")
@@ -496,15 +553,19 @@ def test_once(number, since, program, memory, add_up):
         is_refusal = when is not None and status == 1 and errors in REFUSALS
         is_left_out = data is None and when == BEFORE and status == 1
         if not (is_undisturbed or is_refusal) or not (is_left_out or data == journal_after(row, output)):
-            raise Wrong(f"{row.name}, where growth {growth} is refused: status {status}, {errors}, {output.hex()}, and "
-                        f"the file {data and data.hex()}")
+            raise Wrong(
+                f"{row.name}, where growth {growth} is refused: status {status}, {errors}, {output.hex()}, and "
+                f"the file {data and data.hex()}"
+            )
         return when is not None
+
     growths = growths_in(is_refused)
     assert growths
     add_up(growths, "growths")
 
 
 # Servers on TCP.
+
 
 class Sending:
     """A connection to a server, by which these bytes are sent. Where the server has ended before, nothing comes."""
@@ -554,8 +615,17 @@ def entries_of(data):
 
 
 def serve_command(row, path, *options):
-    return [PROGRAM, "serve", "--listen", "127.0.0.1:0", f"--lease={row.lease}", f"--epoch={row.epoch}",
-            "--journal", path, *options]
+    return [
+        PROGRAM,
+        "serve",
+        "--listen",
+        "127.0.0.1:0",
+        f"--lease={row.lease}",
+        f"--epoch={row.epoch}",
+        "--journal",
+        path,
+        *options,
+    ]
 
 
 @SINCE
@@ -577,9 +647,12 @@ def test_serve(since, memory, tell):
         is_left_out = is_refusal and data is None and when == BEFORE
         is_written = data is not None and entries_of(data) == entries_of(journal_after(row, got))
         if not (is_undisturbed or is_refusal) or not (is_left_out or is_written):
-            raise Wrong(f"where growth {growth} is refused it ends with {ending}, after {got.hex()}, with the journal "
-                        f"{data and data.hex()}")
+            raise Wrong(
+                f"where growth {growth} is refused it ends with {ending}, after {got.hex()}, with the journal "
+                f"{data and data.hex()}"
+            )
         return when is not None
+
     growths = growths_in(is_refused)
     assert growths
     tell(f"{growths} growths")
@@ -587,9 +660,11 @@ def test_serve(since, memory, tell):
 
 # What a run that goes on may tell where memory is refused to a part of it; and the seconds after which the thread that
 # sweeps has looked at the journal.
-TOLD = re.compile(rb"(connection [0-9]+ from 127\.0\.0\.1:[0-9]+: no memory|.*\.part: .*; the run goes on without it|"
-                  rb"the input ended before a connection came; .*|no more connections: 2 of 2|"
-                  rb"client [0-9]+: callback to .*)\n")
+TOLD = re.compile(
+    rb"(connection [0-9]+ from 127\.0\.0\.1:[0-9]+: no memory|.*\.part: .*; the run goes on without it|"
+    rb"the input ended before a connection came; .*|no more connections: 2 of 2|"
+    rb"client [0-9]+: callback to .*)\n"
+)
 LOOKED = 1.5
 # How many runs there are at a time, each of which mostly waits for that.
 AT_ONCE = 32
@@ -642,9 +717,12 @@ def test_going_on(since, memory, tell):
         is_left_out = status == 1 and got == b"" and data is None
         is_written = data is not None and entries_of(data) == entries_of(journal_after(row, got))
         if not (is_ending and is_reply and part is None) or not (is_left_out or is_written):
-            raise Wrong(f"where growth {growth} is refused, it ends with {status, errors}, after {got.hex()}, with the "
-                        f"journal {data and data.hex()}")
+            raise Wrong(
+                f"where growth {growth} is refused, it ends with {status, errors}, after {got.hex()}, with the "
+                f"journal {data and data.hex()}"
+            )
         return was_refused
+
     growths = growths_at_once(is_refused)
     assert growths
     tell(f"{growths} growths")
@@ -705,12 +783,25 @@ def lend_and_recall(served, home, callback):
 
 def test_callbacks(memory, tell):
     """A server that calls a client back."""
+
     def is_refused(growth):
         path, refusal = memory.new_path("journal"), memory.refusal(growth, after=0)
-        command = [PROGRAM, "serve", "--listen", "127.0.0.1:0", "--until-input-ends", "--connections", "4",
-                   "--journal", path]
-        with (Listener(accept) as home, nobody() as callback,
-              Served(command, env=refusal.environment, stdin=subprocess.PIPE) as served):
+        command = [
+            PROGRAM,
+            "serve",
+            "--listen",
+            "127.0.0.1:0",
+            "--until-input-ends",
+            "--connections",
+            "4",
+            "--journal",
+            path,
+        ]
+        with (
+            Listener(accept) as home,
+            nobody() as callback,
+            Served(command, env=refusal.environment, stdin=subprocess.PIPE) as served,
+        ):
             try:
                 lend_and_recall(served, home, callback)
             except (Wrong, OSError) as wrong:
@@ -721,15 +812,19 @@ def test_callbacks(memory, tell):
         was_refused, fault = refusal.took_place(), TOLD.sub(b"", errors)
         is_ending = (status, fault) == (0, b"") or status == 1 and was_refused and fault in REFUSALS
         if not is_ending or count_heard != 2 or data is None or not verdict(data)[0]:
-            raise Wrong(f"where growth {growth} is refused, it ends with {status, errors}, after {count_heard} calls, "
-                        f"with the journal {data and data.hex()}")
+            raise Wrong(
+                f"where growth {growth} is refused, it ends with {status, errors}, after {count_heard} calls, "
+                f"with the journal {data and data.hex()}"
+            )
         return was_refused
+
     growths = growths_at_once(is_refused)
     assert growths
     tell(f"{growths} growths")
 
 
 # Behind the end of the input, where there are none.
+
 
 def model_row(name, document, sent):
     """A row of one connection that gets what the model gives."""
@@ -741,9 +836,12 @@ GET = compound(1, words(PUTROOTFH), *[words(GETATTR, 1, TYPE_SIZE_FILEID)] * 60)
 # Its record has as many bytes as one may have.
 LARGE = compound(2, words(PUTROOTFH), opening(1, 3, 0, words(1, 1) + opaque(b"o"), b"n" * 262044))
 # Rows whose journals are long, by the documents of their files and what they send.
-LONG = {"no entry": (None, b""), "many entries": (None, GET * 50), "large entries": (None, (LARGE * 2 + GET) * 3),
-        "a large tree": ("".join(f'[[file]]\npath = "f{number}"\ntext = "{"t" * 65536}"\n' for number in range(64)),
-                         GET)}
+LONG = {
+    "no entry": (None, b""),
+    "many entries": (None, GET * 50),
+    "large entries": (None, (LARGE * 2 + GET) * 3),
+    "a large tree": ("".join(f'[[file]]\npath = "f{number}"\ntext = "{"t" * 65536}"\n' for number in range(64)), GET),
+}
 
 
 @pytest.mark.parametrize("name", LONG)
@@ -774,6 +872,7 @@ def test_end_of_connection(memory):
 
 # The libraries' tests.
 
+
 def named_tests(path, named):
     """The test of this name, or all tests of the module."""
     listed = subprocess.run([path, "--list"], stdout=subprocess.PIPE, check=True, text=True).stdout
@@ -789,12 +888,20 @@ def test_tests(crate, named, share, memory, add_up):
     found = named_tests(path, named)
     assert found
     for test in found:
+
         def is_refused(growth):
             refusal = memory.refusal(growth)
-            ran = subprocess.run([path, test], stdout=subprocess.PIPE, stderr=subprocess.STDOUT, text=True,
-                                 errors="replace", env=refusal.environment)
+            ran = subprocess.run(
+                [path, test],
+                stdout=subprocess.PIPE,
+                stderr=subprocess.STDOUT,
+                text=True,
+                errors="replace",
+                env=refusal.environment,
+            )
             assert ran.returncode == 0, f"{test}, where growth {growth} is refused:\n{ran.stdout}"
             return refusal.took_place()
+
         growths = growths_in(is_refused, 1 + share, SHARES)
         # A run in which nothing was ever refused would show nothing.
         assert growths or share, f"{test} makes no growth"

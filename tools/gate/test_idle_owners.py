@@ -35,8 +35,12 @@ MANY, RATE, STEP = 100_000, 4_000, 100
 SPARE = 32 << 10
 
 
-@pytest.fixture(params=[pytest.param(PROGRAM_SERVES, id="program", marks=pytest.mark.needs("nfs4state")),
-                        pytest.param(MODEL_SERVES, id="model")])
+@pytest.fixture(
+    params=[
+        pytest.param(PROGRAM_SERVES, id="program", marks=pytest.mark.needs("nfs4state")),
+        pytest.param(MODEL_SERVES, id="model"),
+    ]
+)
 def command(request):
     """How a server is started: the program, then the model."""
     return request.param
@@ -48,8 +52,9 @@ def serve(command, *options, tree=NO_CALLBACKS):
 
 def tool(name, *words):
     """The lines that one of the tools prints."""
-    ran = subprocess.run([sys.executable, os.path.join(TOP, "tools", name), *words], stdout=subprocess.PIPE, check=True,
-                         text=True)
+    ran = subprocess.run(
+        [sys.executable, os.path.join(TOP, "tools", name), *words], stdout=subprocess.PIPE, check=True, text=True
+    )
     return ran.stdout.splitlines()
 
 
@@ -98,8 +103,10 @@ def test_forgotten(command, path_of, tell):
     name = client.owner.decode()
     line = f'{number}: open owner "{name}" of client 1 is forgotten, now {entry.now}'
     expect("the entry in words", tool("show_journal", path)[number], line)
-    reason = (f'    state 1, an open of file "/a" by open owner "{name}" of client 1, was ended by entry 4 (CLOSE), '
-              f"and its owner was forgotten by entry {number} (RULES: Idle owners; RFC 7530, 9.1.10)")
+    reason = (
+        f'    state 1, an open of file "/a" by open owner "{name}" of client 1, was ended by entry 4 (CLOSE), '
+        f"and its owner was forgotten by entry {number} (RULES: Idle owners; RFC 7530, 9.1.10)"
+    )
     expect("the reasons", tool("explain", "--each", path)[1::2], [reason] * 2)
     tell(f"an owner was forgotten {seconds:.1f} seconds after its CLOSE, with a lease of {LEASE}")
 
@@ -123,9 +130,11 @@ def test_locks_held(command, path_of):
     journal = judged(path, client)
     calls = [entry.opnum for entry in journal.entries if getattr(entry, "principal", None)]
     lock = journal.entries.index(next(it for it in journal.entries if getattr(it, "opnum", None) == LOCK))
-    expect("the calls behind the LOCK", calls[calls.index(LOCK) + 1:], [CLOSE, CLOSE, LOCKU, CLOSE])
-    held = (f'lock owner "{client.locker.decode()}" of client 1 holds bytes 1000 to 1009 of file "/a" for writing, in '
-            f"state 2, which was changed last by entry {lock} (LOCK)")
+    expect("the calls behind the LOCK", calls[calls.index(LOCK) + 1 :], [CLOSE, CLOSE, LOCKU, CLOSE])
+    held = (
+        f'lock owner "{client.locker.decode()}" of client 1 holds bytes 1000 to 1009 of file "/a" for writing, in '
+        f"state 2, which was changed last by entry {lock} (LOCK)"
+    )
     lines = tool("explain", path)[1::2]
     expect("the reason", lines[0], f"    {held} (RULES: CLOSE; RFC 7530, 16.2)")
     is_again = lines[1].endswith(f"{held} (RULES: Owners and sequenced operations; RFC 7530, 9.1.7)")
@@ -133,6 +142,7 @@ def test_locks_held(command, path_of):
 
 
 # Many owners.
+
 
 def life(client, number, owner, first, flags):
     """A call by which this owner opens, confirms and closes file a, by ids from this one on, and the reply; the open
@@ -187,7 +197,7 @@ def run_many(command, is_one):
 def send_paced(peer, calls, begun):
     for at in range(0, len(calls), STEP):
         time.sleep(max(0, begun + at / RATE - time.monotonic()))
-        peer.send(b"".join(calls[at:at + STEP]))
+        peer.send(b"".join(calls[at : at + STEP]))
 
 
 @pytest.mark.by_hand
@@ -195,8 +205,10 @@ def send_paced(peer, calls, begun):
 def test_many(command, tell):
     most, seconds = run_many(command, is_one=False)
     one, _ = run_many(command, is_one=True)
-    tell(f"{MANY} owners came within {seconds:.0f} seconds, and the program had at most {most >> 10} MiB in use; "
-         f"where one sent as many OPENs, {one >> 10} MiB")
+    tell(
+        f"{MANY} owners came within {seconds:.0f} seconds, and the program had at most {most >> 10} MiB in use; "
+        f"where one sent as many OPENs, {one >> 10} MiB"
+    )
     # The journal of the others has twice as many entries: for each owner two more. The model's memory isn't judged.
     if command is PROGRAM_SERVES:
         assert most <= 2 * one + SPARE

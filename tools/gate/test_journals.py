@@ -10,8 +10,19 @@ import random
 
 import pytest
 
-from gate.journal_cases import (BROKEN, NOT_JOURNAL, all_answers, beginnings, file_of, other_lengths, sample,
-                                sample_for_clients, small, whole_files, written_out)
+from gate.journal_cases import (
+    BROKEN,
+    NOT_JOURNAL,
+    all_answers,
+    beginnings,
+    file_of,
+    other_lengths,
+    sample,
+    sample_for_clients,
+    small,
+    whole_files,
+    written_out,
+)
 from gate.row_journals import ROW_FILES, journal_of, rows_of
 from gate.verdict_cases import verdicts
 from model.entries import ARGUMENT_BYTES, Call, Expire, NotJournal, RESTS, answer_bytes, entry_bytes
@@ -27,8 +38,17 @@ from nfs4.wire import Opnum, Status, u32
 # Of a journal whose answers have at most so many words, each is changed; of any other, so many.
 SHORT, DRAWN = 30, 3
 # The statuses of SETATTR that it has in the samples; each other one, which has the same form, it never has.
-OF_SETATTR = {Status.OK, Status.NOFILEHANDLE, Status.ISDIR, Status.INVAL, Status.FBIG, Status.ROFS, Status.BAD_STATEID,
-              Status.ATTRNOTSUPP, Status.BADXDR}
+OF_SETATTR = {
+    Status.OK,
+    Status.NOFILEHANDLE,
+    Status.ISDIR,
+    Status.INVAL,
+    Status.FBIG,
+    Status.ROFS,
+    Status.BAD_STATEID,
+    Status.ATTRNOTSUPP,
+    Status.BADXDR,
+}
 NEVER = {(Opnum.SETATTR, status) for status in set(Status) - OF_SETATTR}
 
 
@@ -38,6 +58,7 @@ def expect_audit(program, name, data):
 
 
 # The journals of rows.
+
 
 def lawful(journal):
     return True, f"lawful: {len(journal.entries)} entries"
@@ -74,9 +95,9 @@ def answer_places(journal):
 
 
 def with_other_word(data, place, draw):
-    word = int.from_bytes(data[place:place + 4], "big")
+    word = int.from_bytes(data[place : place + 4], "big")
     others = {(word + 1) % 2**32, (word - 1) % 2**32, word ^ 1 << draw.randrange(32), draw.getrandbits(32)} - {word}
-    return data[:place] + u32(draw.choice(sorted(others))) + data[place + 4:]
+    return data[:place] + u32(draw.choice(sorted(others))) + data[place + 4 :]
 
 
 def changed(journal, draw):
@@ -108,6 +129,7 @@ def test_rows(file, program, add_up):
 
 
 # Files and lists of nodes.
+
 
 def reason_of(data):
     """Why the file is no journal, or None where it is one."""
@@ -145,11 +167,15 @@ def test_whole_files(program, add_up):
 def node_lists():
     """All lists of at most three nodes by two names, and whether some document gives them."""
     paths = ["/".join(names) for depth in (1, 2, 3) for names in itertools.product("ab", repeat=depth)]
-    documents = ((chosen[:first_file], chosen[first_file:]) for chosen in at_most_three(paths)
-                 for first_file in range(len(chosen) + 1))
+    documents = (
+        (chosen[:first_file], chosen[first_file:])
+        for chosen in at_most_three(paths)
+        for first_file in range(len(chosen) + 1)
+    )
     given = {nodes_given(*document) for document in documents}
-    nodes = [Node(parent, name, is_file, b"")
-             for parent in range(4) for name in (b"a", b"b") for is_file in (False, True)]
+    nodes = [
+        Node(parent, name, is_file, b"") for parent in range(4) for name in (b"a", b"b") for is_file in (False, True)
+    ]
     return [(found, found in given) for found in at_most_three(nodes)]
 
 
@@ -187,6 +213,7 @@ def test_node_lists(part, program, add_up):
 
 # What is said of a journal.
 
+
 def test_verdicts(program, add_up):
     for name, data, line in verdicts():
         expect(name, verdict(data)[1], line)
@@ -196,8 +223,11 @@ def test_verdicts(program, add_up):
 
 def test_limit():
     data = file_of(small().entries + [Expire(1, 100, 191)])
-    for limit, line in ((4, "lawful: 4 entries"), (3, "fault: wrong answer at entry 3"),
-                        (2, "fault: wrong answer at entry 2")):
+    for limit, line in (
+        (4, "lawful: 4 entries"),
+        (3, "fault: wrong answer at entry 3"),
+        (2, "fault: wrong answer at entry 2"),
+    ):
         expect(f"a limit of {limit} entries", verdict(data, limit)[1], line)
 
 

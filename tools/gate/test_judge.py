@@ -39,8 +39,13 @@ def judged(path, *options):
 
 def findings_of(found, severity, *names):
     """The names of the findings of these clients that have this severity; calls that name no client have no name."""
-    return sorted(each["finding"] for client in found["clients"] if client["name"] in names
-                  for each in client["findings"] if each["severity"] == severity)
+    return sorted(
+        each["finding"]
+        for client in found["clients"]
+        if client["name"] in names
+        for each in client["findings"]
+        if each["severity"] == severity
+    )
 
 
 def test_each_finding_has_a_case():

@@ -15,8 +15,22 @@ from judging.findings import SORTS, Severity
 from model.journal import Recorder, journal_bytes
 from model.tree import Node, Policy, tree_of
 from nfs4.served import PATIENCE, TOP
-from nfs4.wire import (Callback, Claim, Close, Getattr, Open, OpenConfirm, OpenOwner, Openhow, Opnum, Read, Setclientid,
-                       SetclientidConfirm, Stateid, Status)
+from nfs4.wire import (
+    Callback,
+    Claim,
+    Close,
+    Getattr,
+    Open,
+    OpenConfirm,
+    OpenOwner,
+    Openhow,
+    Opnum,
+    Read,
+    Setclientid,
+    SetclientidConfirm,
+    Stateid,
+    Status,
+)
 
 pytestmark = pytest.mark.quick
 SCHEMA = os.path.join(TOP, "docs/verdict.schema.json")
@@ -112,6 +126,7 @@ def names_of(text, severity="error"):
 @pytest.fixture
 def judge(file_of, monkeypatch, capsys):
     """Runs the command on bytes, with these options: its status, and what it printed, on both outputs."""
+
     def run_on(data, *options, name="run.journal"):
         monkeypatch.setattr(sys, "argv", ["judge", *options, file_of(name, data)])
         try:
@@ -119,6 +134,7 @@ def judge(file_of, monkeypatch, capsys):
         except SystemExit as ended:
             status = ended.code
         return status, *capsys.readouterr()
+
     return run_on
 
 
@@ -140,11 +156,13 @@ def expect_by_schema(fields):
 
 # Statuses.
 
+
 def test_right(judge):
     status, text, _ = judge(right().bytes())
     assert (status, text.splitlines()[-1]) == (0, "verdict: right")
     assert text.splitlines()[0] == (
-        'client "right": 5 calls on the state, 1 open, 0 locks, 0 delegations, 0 retransmissions')
+        'client "right": 5 calls on the state, 1 open, 0 locks, 0 delegations, 0 retransmissions'
+    )
 
 
 def test_wrong(judge):
@@ -159,20 +177,23 @@ def test_wrong(judge):
     assert len(found) == 2
 
 
-@pytest.mark.parametrize("options, status", [
-    (["--warnings"], 1),
-    (["--allow", "sequence-id-skipped"], 0),
-    (["--allow", "sequence-id-skipped=skips"], 0),
-    (["--allow", "sequence-id-skipped=left"], 1),
-    (["--allow", "sequence-id-skipped="], 1),
-    (["--allow", "sequence-id-skipped", "--warnings"], 1),
-    (["--allow", "sequence-id-skipped", "--warnings", "--allow", "open-left=left"], 0),
-    (["--allow", "sequence-id-skipped", "--require", "client-restarted"], 1),
-    (["--allow", "sequence-id-skipped", "--require", "uncounted-bad-seqid"], 0),
-    (["--allow", "no-such-finding"], 2),
-    (["--require", "no-such-situation"], 2),
-    (["--report", "report.txt"], 2),
-])
+@pytest.mark.parametrize(
+    "options, status",
+    [
+        (["--warnings"], 1),
+        (["--allow", "sequence-id-skipped"], 0),
+        (["--allow", "sequence-id-skipped=skips"], 0),
+        (["--allow", "sequence-id-skipped=left"], 1),
+        (["--allow", "sequence-id-skipped="], 1),
+        (["--allow", "sequence-id-skipped", "--warnings"], 1),
+        (["--allow", "sequence-id-skipped", "--warnings", "--allow", "open-left=left"], 0),
+        (["--allow", "sequence-id-skipped", "--require", "client-restarted"], 1),
+        (["--allow", "sequence-id-skipped", "--require", "uncounted-bad-seqid"], 0),
+        (["--allow", "no-such-finding"], 2),
+        (["--require", "no-such-situation"], 2),
+        (["--report", "report.txt"], 2),
+    ],
+)
 def test_terms(options, status, judge):
     assert judge(wrong().bytes(), *options)[0] == status
 
@@ -190,6 +211,7 @@ def test_required(judge):
 
 
 # Files.
+
 
 @pytest.mark.parametrize("data", [b"", b"NFS", b"no journal at all", right().bytes() + b"\0"])
 def test_no_journal(data, judge):
@@ -233,11 +255,12 @@ def test_wrong_answer(judge):
 
 # JSON, and reports.
 
+
 @pytest.mark.parametrize("make", [right, wrong, kept])
 @pytest.mark.parametrize("cut", [0, 1, 40])
 def test_schema(make, cut, judge):
     data = make().bytes()
-    status, text, _ = judge(data[:len(data) - cut], "--json", "--require", "client-restarted")
+    status, text, _ = judge(data[: len(data) - cut], "--json", "--require", "client-restarted")
     fields = json.loads(text)
     expect_by_schema(fields)
     assert (fields["verdict"], fields["missing"], status) == ("wrong", ["client-restarted"], 1)
@@ -252,9 +275,11 @@ def test_json(judge, path_of):
     assert [it["name"] for it in fields["clients"]] == ["left", "skips", None]
     left, skips, _ = [it["findings"] for it in fields["clients"]]
     assert [(it["finding"], it["severity"], it["entries"], it["others"], it["allowed"]) for it in left] == [
-        ("open-left", "warning", [], [2], True)]
+        ("open-left", "warning", [], [2], True)
+    ]
     assert [(it["finding"], it["severity"], it["entries"], it["allowed"]) for it in skips] == [
-        ("sequence-id-skipped", "error", [8], False)]
+        ("sequence-id-skipped", "error", [8], False)
+    ]
 
 
 def cases_of(path):
@@ -271,8 +296,10 @@ def test_junit(judge, path_of):
     counts = [suite.get(name) for name in ("tests", "failures", "errors", "skipped")]
     assert counts == [str(3 * len(SORTS) + 2), "2", "0", "1"]
     assert {key: found for key, found in cases.items() if found} == {
-        ('client "left"', "open-left"): ["skipped"], ('client "skips"', "sequence-id-skipped"): ["failure"],
-        ("required situations", "client-restarted"): ["failure"]}
+        ('client "left"', "open-left"): ["skipped"],
+        ('client "skips"', "sequence-id-skipped"): ["failure"],
+        ("required situations", "client-restarted"): ["failure"],
+    }
 
 
 def test_junit_of_warnings(judge, path_of):
@@ -288,14 +315,16 @@ def test_unwritten_report(judge, path_of):
 
 # What a right client may do.
 
+
 def new_callback(server, keeps):
     """What a mark says then is of the new callback."""
     assert server.introduce(b"keeps") == keeps
     server.server.mark_path(keeps, 1)
 
 
-@pytest.mark.parametrize("had_recall", [
-    lambda server, keeps: None, lambda server, keeps: server.server.mark_path(keeps, 0), new_callback])
+@pytest.mark.parametrize(
+    "had_recall", [lambda server, keeps: None, lambda server, keeps: server.server.mark_path(keeps, 0), new_callback]
+)
 def test_recall_that_may_not_have_come(had_recall, judge):
     """A client that may not have had the recall isn't to blame, also if the delegation is revoked and used."""
     server = kept(had_recall)
@@ -322,6 +351,7 @@ def test_dead_clientid(judge):
 
 
 # How long it takes.
+
 
 def long_run(entries):
     """Clients that open the file, read it and close it, one after the other, until there are so many entries."""
@@ -352,6 +382,7 @@ def test_time(judge, tell):
 
 # The table of findings, and the command itself.
 
+
 def test_sorts():
     """Errors come before warnings, each with what a right client does in a sentence."""
     severities = [it.severity for it in SORTS.values()]
@@ -361,8 +392,12 @@ def test_sorts():
 
 def test_command(file_of):
     command = os.path.join(TOP, "tools/judge")
-    ran = subprocess.run([sys.executable, command, "--tried", "--words", file_of("run.journal", wrong().bytes())],
-                         capture_output=True, text=True, timeout=PATIENCE)
+    ran = subprocess.run(
+        [sys.executable, command, "--tried", "--words", file_of("run.journal", wrong().bytes())],
+        capture_output=True,
+        text=True,
+        timeout=PATIENCE,
+    )
     assert ran.returncode == 1 and "situations were met:" in ran.stdout and "CLOSE 7 2 1 2 2 -> " in ran.stdout
     listed = subprocess.run([sys.executable, command, "--situations"], capture_output=True, text=True, timeout=PATIENCE)
     assert listed.returncode == 0 and listed.stdout.startswith("setclientid-repeated (RFC 7530, ")

@@ -35,17 +35,19 @@ def result(opnum, status=Status.OK, rest=b""):
 
 # A step is operations with the results that are wanted of them.
 
+
 def coming(verifier, status=Status.OK, rest=b""):
     """The client's SETCLIENTID."""
     callback = u32(7) + opaque(b"tcp") + opaque(b"127.0.0.1.3.232") + u32(1)
-    return (u32(Opnum.SETCLIENTID) + u64(verifier) + opaque(b"c1") + callback,
-            result(Opnum.SETCLIENTID, status, rest))
+    return (u32(Opnum.SETCLIENTID) + u64(verifier) + opaque(b"c1") + callback, result(Opnum.SETCLIENTID, status, rest))
 
 
 def introduce(verifier, number):
     """The client comes, or begins anew; with each verifier one more confirm value was given."""
-    return [coming(verifier, rest=u32(1, number) + u64(verifier)),
-            (u32(Opnum.SETCLIENTID_CONFIRM, 1, number) + u64(verifier), result(Opnum.SETCLIENTID_CONFIRM))]
+    return [
+        coming(verifier, rest=u32(1, number) + u64(verifier)),
+        (u32(Opnum.SETCLIENTID_CONFIRM, 1, number) + u64(verifier), result(Opnum.SETCLIENTID_CONFIRM)),
+    ]
 
 
 def opening(owner, seqid, file, client=1, number=None, flags=4, state_seqid=1, status=Status.OK, access=READ, **more):
@@ -67,9 +69,13 @@ def confirming(seqid, number):
 
 def closing(seqid, state_seqid, number, file):
     handle = opaque(handle_of(file + 1))
-    return [(u32(Opnum.PUTFH) + handle, result(Opnum.PUTFH)),
-            (u32(Opnum.CLOSE, seqid, state_seqid, 1, 1, number),
-             result(Opnum.CLOSE, rest=u32(state_seqid + 1, 1, 1, number)))]
+    return [
+        (u32(Opnum.PUTFH) + handle, result(Opnum.PUTFH)),
+        (
+            u32(Opnum.CLOSE, seqid, state_seqid, 1, 1, number),
+            result(Opnum.CLOSE, rest=u32(state_seqid + 1, 1, 1, number)),
+        ),
+    ]
 
 
 def owners_at_their_limit(limit=OWNERS_LIMIT):
@@ -113,8 +119,10 @@ def opens_at_their_limit(owners=STATES_LIMIT // (FILES - 1), limit=STATES_LIMIT)
 
 def returning(number, file):
     """A DELEGRETURN of the state."""
-    return [(u32(Opnum.PUTFH) + opaque(handle_of(file + 1)), result(Opnum.PUTFH)),
-            (u32(Opnum.DELEGRETURN, 1, 1, 1, number), result(Opnum.DELEGRETURN))]
+    return [
+        (u32(Opnum.PUTFH) + opaque(handle_of(file + 1)), result(Opnum.PUTFH)),
+        (u32(Opnum.DELEGRETURN, 1, 1, 1, number), result(Opnum.DELEGRETURN)),
+    ]
 
 
 def delegations_at_their_limit(limit=STATES_LIMIT):
@@ -167,22 +175,24 @@ def writing(offset, data, status=Status.OK):
 
 def reading(text, offset, count):
     """So many bytes of a file that has this text."""
-    data = bytes(text[offset:offset + count])
-    return (u32(Opnum.READ, 0, 0, 0, 0) + u64(offset) + u32(count),
-            result(Opnum.READ, rest=u32(offset + count >= len(text)) + opaque(data)))
+    data = bytes(text[offset : offset + count])
+    return (
+        u32(Opnum.READ, 0, 0, 0, 0) + u64(offset) + u32(count),
+        result(Opnum.READ, rest=u32(offset + count >= len(text)) + opaque(data)),
+    )
 
 
 def on_a_file(pairs):
     """Steps of so many operations as there may be in a COMPOUND beside the PUTFH."""
     put = u32(Opnum.PUTFH) + opaque(handle_of(1)), result(Opnum.PUTFH)
-    return [[put, *pairs[first:first + 63]] for first in range(0, len(pairs), 63)]
+    return [[put, *pairs[first : first + 63]] for first in range(0, len(pairs), 63)]
 
 
 def bytes_at_their_limit(limit=TEXT_LIMIT):
     """They come one by one, and are read; then others at once; and then the first ones again, from the last to the
     first, where now and then the page of the last one that was written is read."""
     first, others = (bytes(place % prime for place in range(limit)) for prime in (251, 241))
-    one_by_one = [writing(at, first[at:at + 1]) for at in range(limit)]
+    one_by_one = [writing(at, first[at : at + 1]) for at in range(limit)]
     yield from on_a_file(one_by_one + [reading(first, 0, limit)])
     yield from on_a_file([reading(first, at, 1) for at in range(limit)])
     yield from on_a_file([writing(0, others), reading(others, 0, limit)])
@@ -369,6 +379,7 @@ def runs_past_their_limit(limit=RUNS_LIMIT):
 
 # All.
 
+
 def compounds(steps):
     """Steps together, as many as there may be in a COMPOUND; one that is refused ends it."""
     pairs = []
@@ -395,11 +406,16 @@ def reply(xid, pairs):
 
 
 SIDES = {
-    "owners": (owners_at_their_limit, TREE), "opens": (opens_at_their_limit, TREE),
-    "opens and delegations": (delegations_at_their_limit, LENDING), "bytes of a file": (bytes_at_their_limit, TREE),
-    "journal": (journal_at_its_limit, TREE), "owners of both kinds": (owners_of_both_kinds, TREE),
-    "opens and lock states": (states_at_their_limit, TREE), "runs, and one more": (runs_past_their_limit, TREE),
-    "runs": (runs_at_their_limit, TREE)}
+    "owners": (owners_at_their_limit, TREE),
+    "opens": (opens_at_their_limit, TREE),
+    "opens and delegations": (delegations_at_their_limit, LENDING),
+    "bytes of a file": (bytes_at_their_limit, TREE),
+    "journal": (journal_at_its_limit, TREE),
+    "owners of both kinds": (owners_of_both_kinds, TREE),
+    "opens and lock states": (states_at_their_limit, TREE),
+    "runs, and one more": (runs_past_their_limit, TREE),
+    "runs": (runs_at_their_limit, TREE),
+}
 # The seconds in which all calls have to be answered.
 PATIENCE = {"runs": 10}
 

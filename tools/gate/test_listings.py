@@ -48,10 +48,11 @@ def attributes_of(server, child, mask):
 
 def check_answer(server, directory, cookie, maxcount, mask, left):
     """Whether the answer has the first of these children, as many as fit; and how many they are."""
-    lengths = [ENTRY + len(opaque(server.tree.nodes[child].name)) + len(attributes_of(server, child, mask))
-               for child in left]
+    lengths = [
+        ENTRY + len(opaque(server.tree.nodes[child].name)) + len(attributes_of(server, child, mask)) for child in left
+    ]
     room, count = min(maxcount, LISTING_LIMIT) - ENDS, 0
-    while count < len(left) and sum(lengths[:count + 1]) <= room:
+    while count < len(left) and sum(lengths[: count + 1]) <= room:
         count += 1
     result = ask(server, directory, cookie, maxcount, mask)
     expect("the status", result.status, Status.OK)
@@ -61,8 +62,11 @@ def check_answer(server, directory, cookie, maxcount, mask, left):
     expect("the bytes", len(result.rest), ENDS + sum(lengths[:count]))
     expect("the cookies", [it.cookie for it in entries], [child + FIRST_COOKIE for child in left[:count]])
     expect("the names", [it.name for it in entries], [server.tree.nodes[child].name for child in left[:count]])
-    expect("the attributes", [bitmap(it.attributes[0]) + opaque(it.attributes[1]) for it in entries],
-           [attributes_of(server, child, mask) for child in left[:count]])
+    expect(
+        "the attributes",
+        [bitmap(it.attributes[0]) + opaque(it.attributes[1]) for it in entries],
+        [attributes_of(server, child, mask) for child in left[:count]],
+    )
     expect("the end", is_end, count == len(left))
     if left:
         less = ask(server, directory, cookie, ENDS + lengths[0] - 1, mask)
@@ -72,10 +76,15 @@ def check_answer(server, directory, cookie, maxcount, mask, left):
 
 def check_directory(server, directory, chance):
     """How many answers the listing takes."""
-    mask = tuple([chance.getrandbits(32), chance.getrandbits(32) & ~(1 << 16 | 1 << 22)][:chance.randint(0, 2)])
+    mask = tuple([chance.getrandbits(32), chance.getrandbits(32) & ~(1 << 16 | 1 << 22)][: chance.randint(0, 2)])
     left = [number for number, node in enumerate(server.tree.nodes) if node.parent == directory]
-    least = max([ENTRY + len(opaque(server.tree.nodes[child].name)) + len(attributes_of(server, child, mask))
-                 for child in left], default=0)
+    least = max(
+        [
+            ENTRY + len(opaque(server.tree.nodes[child].name)) + len(attributes_of(server, child, mask))
+            for child in left
+        ],
+        default=0,
+    )
     cookie, answers, is_begun = 0, 0, False
     while left or not is_begun:
         most = chance.choice([0, 1, 100, 1000, 100_000])

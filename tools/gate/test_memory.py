@@ -31,9 +31,30 @@ from model.entries import Call, Expire
 from model.pages import PAGE, PART
 from model.program import Program
 from nfs4.client import Client, done, expect, Wrong
-from nfs4.messages import (CLOSE, GETATTR, GETFH, LOCK, LOCKT, NFS4_OK, NULL, OPEN, PUTFH, READ, READDIR,
-                           RELEASE_LOCKOWNER, SETATTR, TYPE_SIZE_FILEID, WRITE, call, compound, handle, reply, results,
-                           setclientid, words)
+from nfs4.messages import (
+    CLOSE,
+    GETATTR,
+    GETFH,
+    LOCK,
+    LOCKT,
+    NFS4_OK,
+    NULL,
+    OPEN,
+    PUTFH,
+    READ,
+    READDIR,
+    RELEASE_LOCKOWNER,
+    SETATTR,
+    TYPE_SIZE_FILEID,
+    WRITE,
+    call,
+    compound,
+    handle,
+    reply,
+    results,
+    setclientid,
+    words,
+)
 from nfs4.served import PATIENCE, PROGRAM, REPLY_PATIENCE, Served, tree_for_clients
 from nfs4.wire import GUARDED4, OPEN4_CREATE, OWNER_LIMIT, SYSTEM_ERR, Status, opaque, record, u64
 
@@ -73,6 +94,7 @@ def serve(path_of):
     def begin(*options, until=("--until-input-ends",), **how):
         how = {"stdin": subprocess.PIPE, **how}
         return Served([PROGRAM, "serve", "--listen", "127.0.0.1:0", "--tree", tree, *until, *options], **how)
+
     return begin
 
 
@@ -100,8 +122,10 @@ class Lines:
     def expect_ended(self, count, words_of_it):
         """So many connections ended so, and none otherwise; and no kind of line came more than ten times a second."""
         if sum(self.ended.values()) + self.more != count or set(self.ended) - {words_of_it}:
-            raise Wrong(f"lines tell of {dict(self.ended)} connections and {self.more} more; {count} ended, wanted "
-                        f"'{words_of_it}'")
+            raise Wrong(
+                f"lines tell of {dict(self.ended)} connections and {self.more} more; {count} ended, wanted "
+                f"'{words_of_it}'"
+            )
 
     def expect_memory(self, bound, is_full):
         """How near the memory came to its bound of so many MiB: each tenth once at most, in order, up to the last one;
@@ -163,6 +187,7 @@ def entries_of(path):
 
 # Calls, each of one operation on a file.
 
+
 def read_words(count, offset=0):
     return words(READ) + ANYBODY + u64(offset) + words(count)
 
@@ -213,6 +238,7 @@ def status_of(got):
 
 # Without memory.
 
+
 class Tally:
     """What became of calls, by several threads."""
 
@@ -230,8 +256,10 @@ class Tally:
         try:
             return peer.receive()
         except TimeoutError:
-            raise Wrong(f"{what} gets no answer, and its connection no end, in {REPLY_PATIENCE} seconds; before it the "
-                        f"calls ended like this: {dict(self.ends)}") from None
+            raise Wrong(
+                f"{what} gets no answer, and its connection no end, in {REPLY_PATIENCE} seconds; before it the "
+                f"calls ended like this: {dict(self.ends)}"
+            ) from None
 
     def add(self, end, count=1):
         with self.lock:
@@ -307,9 +335,11 @@ def test_limited(serve, path_of, tell, kib):
     found, least = entries_of(path), tally.ends[OK] + tally.ends["GETATTR"]
     if not least <= found <= least + tally.ends["unanswered"]:
         raise Wrong(f"the journal has {found} entries, and the calls were answered like this: {dict(tally.ends)}")
-    tell(f"under {ADDRESSES >> 10} KB of addresses, of which {in_use} were in use, WRITEs of {kib} KiB had "
-         f"{tally.ends[OK]} answers OK, {tally.ends[RESOURCE]} RESOURCE and {tally.ends['SYSTEM_ERR']} SYSTEM_ERR, and "
-         f"{tally.ends[ENDED]} connections ended, in {time.monotonic() - begun:.0f} seconds")
+    tell(
+        f"under {ADDRESSES >> 10} KB of addresses, of which {in_use} were in use, WRITEs of {kib} KiB had "
+        f"{tally.ends[OK]} answers OK, {tally.ends[RESOURCE]} RESOURCE and {tally.ends['SYSTEM_ERR']} SYSTEM_ERR, and "
+        f"{tally.ends[ENDED]} connections ended, in {time.monotonic() - begun:.0f} seconds"
+    )
 
 
 def test_beforehand(serve):
@@ -349,6 +379,7 @@ def test_bounded(serve, path_of, kib):
 
 # At the bound.
 
+
 class Counted:
     """A connection, the client on it, what the entries of its calls count, and those that have one; and, once its run
     has ended, the lines of that."""
@@ -383,8 +414,10 @@ class Counted:
         self.peer.send(sent)
         reply = self.peer.receive()
         if (got := status_of(reply)) != status:
-            raise Wrong(f"{operation[:36].hex(' ', 4)} where {self.count} of {self.bound} are counted gets {got!r}, "
-                        f"wanted {status!r}")
+            raise Wrong(
+                f"{operation[:36].hex(' ', 4)} where {self.count} of {self.bound} are counted gets {got!r}, "
+                f"wanted {status!r}"
+            )
         if status != Status.RESOURCE:
             self.note(entry_of(sent, reply))
 
@@ -404,9 +437,18 @@ class Counted:
     def refuse_all(self):
         """Each call that needs an entry is refused, and others aren't."""
         clientid = self.client.clientid() if self.client.number else words(1, 77)
-        for operation in (words(GETATTR, 0), write_words(b""), read_words(0), read_words(5), read_words(PAGE),
-                          lockt_words(b"", clientid), release_words(b"", clientid), words(CLOSE, 1) + ANYBODY,
-                          setattr_words(5), setclientid(b"verifier", b"")):
+        for operation in (
+            words(GETATTR, 0),
+            write_words(b""),
+            read_words(0),
+            read_words(5),
+            read_words(PAGE),
+            lockt_words(b"", clientid),
+            release_words(b"", clientid),
+            words(CLOSE, 1) + ANYBODY,
+            setattr_words(5),
+            setclientid(b"verifier", b""),
+        ):
             self.ask(operation, Status.RESOURCE)
         for operation in open_words(b"", b"a", clientid), readdir_words(0), readdir_words(4096):
             self.ask(operation, Status.RESOURCE, node=0)
@@ -416,12 +458,14 @@ class Counted:
     def expect_entries(self, path, *more):
         """The journal has the entries of the calls, and of these kinds behind them, and they count what was counted."""
         entries = lawful_journal(PROGRAM, path).entries
-        calls, rest = entries[:len(self.answered)], entries[len(self.answered):]
+        calls, rest = entries[: len(self.answered)], entries[len(self.answered) :]
         got = [(entry.opnum, entry.answer.status) for entry in calls if isinstance(entry, Call)]
         if got != self.answered:
             place = next((place for place, pair in enumerate(zip(got, self.answered)) if pair[0] != pair[1]), len(got))
-            raise Wrong(f"the journal's entry {place} is another one than was answered: {got[place:place + 3]}, wanted "
-                        f"{self.answered[place:place + 3]}")
+            raise Wrong(
+                f"the journal's entry {place} is another one than was answered: {got[place:place + 3]}, wanted "
+                f"{self.answered[place:place + 3]}"
+            )
         expect("the entries behind the calls", [type(entry) for entry in rest], list(more))
         expect("what the calls' entries count", counted(calls), self.count)
 
@@ -435,47 +479,91 @@ def growing(least, step=1):
 # its own its entry counts, and how many a call has that counts more.
 Kind = namedtuple("Kind", "operation status node cases")
 KINDS = {
-    "WRITE": Kind(lambda client, length: write_words(bytes(length)), Status.OK, FILE, (
-        (0, 0, 1), (97, PAGE + 97, 98), (PAGE, PAGE, PAGE + 1), (PAGE + 97, 2 * PAGE + 97, PAGE + 98))),
-    "WRITE from byte 1 on": Kind(lambda client, length: write_words(bytes(length), 1), Status.OK, FILE, (
-        (PAGE - 1, 2 * PAGE - 1, PAGE), (PAGE, 3 * PAGE, PAGE + 1), (2 * PAGE - 1, 3 * PAGE - 1, 2 * PAGE))),
+    "WRITE": Kind(
+        lambda client, length: write_words(bytes(length)),
+        Status.OK,
+        FILE,
+        ((0, 0, 1), (97, PAGE + 97, 98), (PAGE, PAGE, PAGE + 1), (PAGE + 97, 2 * PAGE + 97, PAGE + 98)),
+    ),
+    "WRITE from byte 1 on": Kind(
+        lambda client, length: write_words(bytes(length), 1),
+        Status.OK,
+        FILE,
+        ((PAGE - 1, 2 * PAGE - 1, PAGE), (PAGE, 3 * PAGE, PAGE + 1), (2 * PAGE - 1, 3 * PAGE - 1, 2 * PAGE)),
+    ),
     "a WRITE that is refused": Kind(
-        lambda client, own: write_words(bytes(own), FILE_LIMIT), Status.FBIG, FILE, growing(1)),
-    "READ": Kind(lambda client, length: read_words(length), Status.OK, FILE, (
-        *growing(0), (PART - 1, PART - 1, PAGE + 1), (PART, 0, PART - 1), (PAGE, 0, PAGE + 1))),
-    "READ from byte 1 on": Kind(lambda client, length: read_words(length, 1), Status.OK, FILE, (
-        (PAGE - 1, 0, PAGE), (PAGE, PAGE, PAGE + 1))),
-    "GETATTR": Kind(
-        lambda client, own: words(GETATTR, own // 4, *[0] * (own // 4)), Status.OK, FILE, growing(0, 4)),
+        lambda client, own: write_words(bytes(own), FILE_LIMIT), Status.FBIG, FILE, growing(1)
+    ),
+    "READ": Kind(
+        lambda client, length: read_words(length),
+        Status.OK,
+        FILE,
+        (*growing(0), (PART - 1, PART - 1, PAGE + 1), (PART, 0, PART - 1), (PAGE, 0, PAGE + 1)),
+    ),
+    "READ from byte 1 on": Kind(
+        lambda client, length: read_words(length, 1), Status.OK, FILE, ((PAGE - 1, 0, PAGE), (PAGE, PAGE, PAGE + 1))
+    ),
+    "GETATTR": Kind(lambda client, own: words(GETATTR, own // 4, *[0] * (own // 4)), Status.OK, FILE, growing(0, 4)),
     # Each child takes 28 bytes of the reply, or 40 with a fileid, and 16 are behind the last one.
-    "READDIR": Kind(lambda client, maxcount: readdir_words(maxcount), Status.OK, 0, (
-        (44, LISTED + 1, 72), (72, 2 * (LISTED + 1), 100))),
-    "READDIR with attributes": Kind(lambda client, maxcount: readdir_words(maxcount, [1 << FILEID]), Status.OK, 0, (
-        (56, 4 + LISTED + 13, 96), (96, 4 + 2 * (LISTED + 13), 136))),
+    "READDIR": Kind(
+        lambda client, maxcount: readdir_words(maxcount),
+        Status.OK,
+        0,
+        ((44, LISTED + 1, 72), (72, 2 * (LISTED + 1), 100)),
+    ),
+    "READDIR with attributes": Kind(
+        lambda client, maxcount: readdir_words(maxcount, [1 << FILEID]),
+        Status.OK,
+        0,
+        ((56, 4 + LISTED + 13, 96), (96, 4 + 2 * (LISTED + 13), 136)),
+    ),
     "a READDIR that is refused": Kind(
-        lambda client, own: readdir_words(0, [0] * (own // 4)), Status.TOOSMALL, 0, growing(0, 4)),
-    "SETATTR": Kind(lambda client, size: setattr_words(size), Status.OK, FILE, (
-        (0, 12, 1), (PAGE, 12, PAGE + 1), (FILE_LIMIT, 12, FILE_LIMIT - 1))),
-    "SETATTR of a part of a page": Kind(lambda client, own: setattr_words(PAGE + 5, (own - PAGE) // 4 - 3), Status.OK,
-                                        FILE, growing(PAGE + 12, 4)),
+        lambda client, own: readdir_words(0, [0] * (own // 4)), Status.TOOSMALL, 0, growing(0, 4)
+    ),
+    "SETATTR": Kind(
+        lambda client, size: setattr_words(size),
+        Status.OK,
+        FILE,
+        ((0, 12, 1), (PAGE, 12, PAGE + 1), (FILE_LIMIT, 12, FILE_LIMIT - 1)),
+    ),
+    "SETATTR of a part of a page": Kind(
+        lambda client, own: setattr_words(PAGE + 5, (own - PAGE) // 4 - 3), Status.OK, FILE, growing(PAGE + 12, 4)
+    ),
     "a SETATTR that is refused": Kind(
-        lambda client, own: setattr_words(FILE_LIMIT + 5, own // 4 - 3), Status.FBIG, FILE, growing(12, 4)),
+        lambda client, own: setattr_words(FILE_LIMIT + 5, own // 4 - 3), Status.FBIG, FILE, growing(12, 4)
+    ),
     "OPEN by its name": Kind(
-        lambda client, own: open_words(b"o", b"n" * (own - 1), client.clientid()), Status.NOENT, 0, growing(2)),
+        lambda client, own: open_words(b"o", b"n" * (own - 1), client.clientid()), Status.NOENT, 0, growing(2)
+    ),
     "OPEN by its owner": Kind(
-        lambda client, own: open_words(b"o" * (own - 1), b"a", client.clientid()), Status.OK, 0, growing(1)),
+        lambda client, own: open_words(b"o" * (own - 1), b"a", client.clientid()), Status.OK, 0, growing(1)
+    ),
     "OPEN by its attributes": Kind(
-        lambda client, own: create_words(b"o", bytes(own - 6), client.clientid()), Status.EXIST, 0, growing(6)),
+        lambda client, own: create_words(b"o", bytes(own - 6), client.clientid()), Status.EXIST, 0, growing(6)
+    ),
     "SETCLIENTID by its id": Kind(
-        lambda client, own: setclientid(b"verifier", b"i" * (own - 18)), Status.OK, FILE, growing(18)),
+        lambda client, own: setclientid(b"verifier", b"i" * (own - 18)), Status.OK, FILE, growing(18)
+    ),
     "SETCLIENTID by its address": Kind(
-        lambda client, own: setclientid(b"verifier", b"", b"1" * (own - 3)), Status.OK, FILE, growing(3)),
-    "LOCK": Kind(lambda client, own: words(LOCK, 2, 0) + client.span() + words(1, client.last + 1)
-                 + client.open_stateid() + words(1) + client.clientid() + opaque(b"l" * own), Status.OK, FILE,
-                 growing(0)),
+        lambda client, own: setclientid(b"verifier", b"", b"1" * (own - 3)), Status.OK, FILE, growing(3)
+    ),
+    "LOCK": Kind(
+        lambda client, own: words(LOCK, 2, 0)
+        + client.span()
+        + words(1, client.last + 1)
+        + client.open_stateid()
+        + words(1)
+        + client.clientid()
+        + opaque(b"l" * own),
+        Status.OK,
+        FILE,
+        growing(0),
+    ),
     "LOCKT": Kind(lambda client, own: lockt_words(b"l" * own, client.clientid()), Status.OK, FILE, growing(0)),
     "RELEASE_LOCKOWNER": Kind(
-        lambda client, own: release_words(b"l" * own, client.clientid()), Status.OK, FILE, growing(0))}
+        lambda client, own: release_words(b"l" * own, client.clientid()), Status.OK, FILE, growing(0)
+    ),
+}
 
 
 @pytest.fixture
@@ -495,6 +583,7 @@ def bounded(serve, path_of):
             counted.lines = expect_end(served)
             counted.lines.expect_ended(0, None)
         counted.expect_entries(path, *more)
+
     return begin
 
 
@@ -585,11 +674,17 @@ def race(served, uid, all_here):
         for _ in range(RACES):
             own = draw.choice((0, 1, draw.randrange(100), draw.randrange(8000)))
             offset, name = draw.choice((0, 1, draw.randrange(3 * PAGE))), b"n" * max(1, own)
-            operation, node, most = draw.choice((
-                (write_words(draw.randbytes(own), offset), FILE, write_len(offset, own)),
-                (read_words(own, offset), FILE, own), (words(GETATTR, 0), FILE, 0),
-                (setattr_words(offset), FILE, 12 + PAGE), (readdir_words(own), 0, 3 * (LISTED + 1)),
-                (open_words(b"o", name), 0, 1 + len(name)), (lockt_words(name[:OWNER_LIMIT]), FILE, len(name))))
+            operation, node, most = draw.choice(
+                (
+                    (write_words(draw.randbytes(own), offset), FILE, write_len(offset, own)),
+                    (read_words(own, offset), FILE, own),
+                    (words(GETATTR, 0), FILE, 0),
+                    (setattr_words(offset), FILE, 12 + PAGE),
+                    (readdir_words(own), 0, 3 * (LISTED + 1)),
+                    (open_words(b"o", name), 0, 1 + len(name)),
+                    (lockt_words(name[:OWNER_LIMIT]), FILE, len(name)),
+                )
+            )
             sent = under(operation, node, uid)
             peer.send(sent)
             asked.append(Asked(sent, peer.receive(), ENTRY + most))
@@ -624,6 +719,7 @@ def test_race(serve, path_of, tell):
 
 # No large blocks.
 
+
 def test_large(serve, path_of, preloaded):
     """No list of the entries asks for much at once."""
     path, mark = path_of("large.journal"), path_of("large.mark")
@@ -638,8 +734,10 @@ def test_large(serve, path_of, preloaded):
                 peer.send(sent)
                 for place in range(some):
                     if (got := peer.receive()) != wanted:
-                        raise Wrong(f"of {GETATTRS} GETATTRs, {each} in a call, those from {turn + each * place} on "
-                                    f"get {status_of(got)!r}; a block was refused: {os.path.exists(mark)}")
+                        raise Wrong(
+                            f"of {GETATTRS} GETATTRs, {each} in a call, those from {turn + each * place} on "
+                            f"get {status_of(got)!r}; a block was refused: {os.path.exists(mark)}"
+                        )
         lines = expect_end(served)
     lines.expect_ended(0, None)
     expect("the other lines", lines.others, [])
@@ -647,6 +745,7 @@ def test_large(serve, path_of, preloaded):
 
 
 # A standard error that takes nothing.
+
 
 def fill_errors(served):
     """Fills the pipe that is its standard error, of which nobody reads: how many bytes."""
@@ -709,8 +808,10 @@ def test_full_errors(serve, path_of, tell):
     expect_journal_of(path, client)
     if took > AT_ONCE:
         raise Late(f"a run whose standard error is full ends {took:.1f} seconds after its input")
-    tell(f"a run whose standard error is full ended {took:.1f} seconds after its input, behind {RESETS} connections "
-         "that were reset")
+    tell(
+        f"a run whose standard error is full ended {took:.1f} seconds after its input, behind {RESETS} connections "
+        "that were reset"
+    )
 
 
 def test_read_late(serve):

@@ -31,8 +31,23 @@ from model.server import CLIENTS_LIMIT
 from model.serving import Desk
 from model.state import JOURNAL_LIMIT
 from nfs4.client import Client, done, expect, Wrong
-from nfs4.messages import (COMPOUND, GETATTR, GETFH, NFS4ERR_STALE_CLIENTID, NFS4_OK, NULL, PUTROOTFH, RENEW, call,
-                           compound, confirmation, lookup, reply, setclientid, words)
+from nfs4.messages import (
+    COMPOUND,
+    GETATTR,
+    GETFH,
+    NFS4ERR_STALE_CLIENTID,
+    NFS4_OK,
+    NULL,
+    PUTROOTFH,
+    RENEW,
+    call,
+    compound,
+    confirmation,
+    lookup,
+    reply,
+    setclientid,
+    words,
+)
 from nfs4.served import NO_CALLBACKS, PATIENCE, PROGRAM, Served, TOP, is_silent, with_interrupts
 from nfs4.wire import opaque, record, split_records
 
@@ -61,12 +76,14 @@ def serve_on(*options, **how):
 
 def run(*command, **how):
     """The status of a command, and what it prints."""
-    ran = subprocess.run(command, stdout=subprocess.PIPE, stderr=subprocess.STDOUT, timeout=300, text=True, cwd=TOP,
-                         **how)
+    ran = subprocess.run(
+        command, stdout=subprocess.PIPE, stderr=subprocess.STDOUT, timeout=300, text=True, cwd=TOP, **how
+    )
     return ran.returncode, ran.stdout
 
 
 # In the place of the program.
+
 
 @pytest.mark.parametrize("name", ROWS)
 def test_rows(tell, name):
@@ -80,11 +97,23 @@ def test_rows(tell, name):
 
 # Arguments that are refused before a server begins, and runs that end by a fault before they listen.
 REFUSED = [
-    "--until-input-ends --until-killed", "--connections 0", "--connections 65", "--connections +4", "--lease 86401",
-    "--epoch 4294967296", "--tre x", "more", "--lease 5 --lease=6", "--until-killed --until-killed",
-    "--each --journal x"]
-FAULTS = [("--tree tools/missing", "file not read"), ("--listen 127.0.0.1", "socket"),
-          ("--listen 127.0.0.1:0 --tree README.md", "tree refused (1)")]
+    "--until-input-ends --until-killed",
+    "--connections 0",
+    "--connections 65",
+    "--connections +4",
+    "--lease 86401",
+    "--epoch 4294967296",
+    "--tre x",
+    "more",
+    "--lease 5 --lease=6",
+    "--until-killed --until-killed",
+    "--each --journal x",
+]
+FAULTS = [
+    ("--tree tools/missing", "file not read"),
+    ("--listen 127.0.0.1", "socket"),
+    ("--listen 127.0.0.1:0 --tree README.md", "tree refused (1)"),
+]
 
 
 @pytest.mark.parametrize("given", REFUSED)
@@ -99,21 +128,26 @@ def test_faults_at_first(given, fault):
 
 # A run that goes on.
 
+
 def test_crowd(path_of, tell):
     """All connections come before anything is done on one, and end before the run does."""
     path = path_of("crowd.journal")
     with serve_on("--epoch", "7", "--journal", path) as served:
         peers = [peer_of(served, receive_buffer=4096) for _ in range(MOST)]
-        names = [f"connection {place + 1} from 127.0.0.1:{peer.socket.getsockname()[1]}"
-                 for place, peer in enumerate(peers)]
+        names = [
+            f"connection {place + 1} from 127.0.0.1:{peer.socket.getsockname()[1]}" for place, peer in enumerate(peers)
+        ]
         expect("that all are there", served.next_line(), f"no more connections: {MOST} of {MOST}\n".encode())
         clients = run_crowd(peers)
         for client in clients:
             client.peer.socket.close()
         status, output, errors = served.end()
         expect("the end of a run with faults of connections", (status, output), (0, b""))
-    expect_told([line.rsplit(": ", 1) for line in errors.decode().splitlines()], set(names),
-                {names[peers.index(client.peer)] for client in clients})
+    expect_told(
+        [line.rsplit(": ", 1) for line in errors.decode().splitlines()],
+        set(names),
+        {names[peers.index(client.peer)] for client in clients},
+    )
     judged(path, *clients)
     tell(f"{GOOD} clients among {MOST} connections got each reply")
 
@@ -149,8 +183,7 @@ def test_most():
     """The connection above the most that there may be waits until one of them has ended; so does one for which the
     process may have no more files open, of which there are four before the first connection."""
     wait_above("no more connections: 2 of 2", "--connections", "2")
-    wait_above("a connection isn't accepted; it is tried again",
-               preexec_fn=lambda: setrlimit(RLIMIT_NOFILE, (6, 6)))
+    wait_above("a connection isn't accepted; it is tried again", preexec_fn=lambda: setrlimit(RLIMIT_NOFILE, (6, 6)))
 
 
 def wait_above(line, *options, **how):
@@ -184,6 +217,7 @@ def test_limits():
 
     def ask(operation):
         desk.answer(1, split_records(compound(1, words(PUTROOTFH), operation))[0][0])
+
     with redirect_stderr(lines):
         for number in [*range(1, CLIENTS_LIMIT + 1), *range(257, 257 + CLIENTS_LIMIT)]:
             ask(setclientid(bytes(8), b"%d" % number))
@@ -196,8 +230,11 @@ def test_limits():
         for number in range(2):
             print(number, file=lines)
             ask(words(GETATTR, 0))
-    expect("the limits", lines.getvalue().splitlines(), ["255", "no client slot is left: 255 of 255", "511", "0",
-           "the journal is full: 1000000 of 1000000", "1"])
+    expect(
+        "the limits",
+        lines.getvalue().splitlines(),
+        ["255", "no client slot is left: 255 of 255", "511", "0", "the journal is full: 1000000 of 1000000", "1"],
+    )
 
 
 @tried_again
@@ -205,10 +242,15 @@ def test_clock():
     """The moments of calls and of sweeps are by one clock, which begins with the run: a lease of 90 seconds that is
     renewed after 60 stands after 120, and has ended after 211."""
     desk = Desk(Recorder(lease=90))
-    for number, (seconds, operation, status) in enumerate([
-            (0, setclientid(bytes(8), b"one"), NFS4_OK), (0, confirmation(1, 1, 1), NFS4_OK),
-            (60, words(RENEW, 1, 1), NFS4_OK), (120, words(RENEW, 1, 2), NFS4ERR_STALE_CLIENTID),
-            (211, words(RENEW, 1, 1), NFS4ERR_STALE_CLIENTID)]):
+    for number, (seconds, operation, status) in enumerate(
+        [
+            (0, setclientid(bytes(8), b"one"), NFS4_OK),
+            (0, confirmation(1, 1, 1), NFS4_OK),
+            (60, words(RENEW, 1, 1), NFS4_OK),
+            (120, words(RENEW, 1, 2), NFS4ERR_STALE_CLIENTID),
+            (211, words(RENEW, 1, 1), NFS4ERR_STALE_CLIENTID),
+        ]
+    ):
         desk.begun = time.monotonic() - seconds - 0.1
         desk.sweep()
         found = desk.answer(1, split_records(compound(number, operation))[0][0])
@@ -219,6 +261,7 @@ def test_clock():
 
 
 # Ends.
+
 
 @tried_again
 def test_replies_before_a_fault():
@@ -336,11 +379,16 @@ def test_file(path_of):
 
 # Traces.
 
+
 def test_trace():
     """A line for each call, and for the lease that ends."""
     read, readdir = words(25, 0, 0, 0, 0, 0, 0, 5), words(26)
-    answered = [call(1, NULL), call(2, 7), call(3, COMPOUND, words(0, 1, 0)),
-                compound(4, words(PUTROOTFH), lookup(b"a"), read, readdir, words(GETFH))]
+    answered = [
+        call(1, NULL),
+        call(2, 7),
+        call(3, COMPOUND, words(0, 1, 0)),
+        compound(4, words(PUTROOTFH), lookup(b"a"), read, readdir, words(GETFH)),
+    ]
     with serve_on("--trace", "--lease", "1") as served, peer_of(served) as peer:
         peer.send(record(words(9)) + b"".join(answered))
         for _ in answered:
@@ -355,13 +403,14 @@ def test_trace():
 
 
 TRACE = [
-    'connection 1, moment N: 4 bytes -> no reply',
-    'connection 1, xid 1, moment N: NULL -> answered',
-    'connection 1, xid 2, moment N: a call -> PROC_UNAVAIL',
-    'connection 1, xid 3, moment N, AUTH_NONE: COMPOUND of 0 operations -> NFS4ERR_MINOR_VERS_MISMATCH',
+    "connection 1, moment N: 4 bytes -> no reply",
+    "connection 1, xid 1, moment N: NULL -> answered",
+    "connection 1, xid 2, moment N: a call -> PROC_UNAVAIL",
+    "connection 1, xid 3, moment N, AUTH_NONE: COMPOUND of 0 operations -> NFS4ERR_MINOR_VERS_MISMATCH",
     'connection 1, xid 4, moment N, AUTH_NONE: PUTROOTFH -> NFS4_OK; LOOKUP "a" -> NFS4_OK; READ 0 0 0 0 u64:0 5 -> '
     'NFS4_OK 1 "hello"; READDIR -> NFS4ERR_NOTSUPP',
     'connection 1, xid 1, moment N, AUTH_SYS 5: SETCLIENTID hex:7665726966696572 "client 5" 0x40000000 "tcp" '
     '"127.0.0.1.3.232" 1 -> NFS4_OK 1 1 u64:1',
-    'connection 1, xid 2, moment N, AUTH_SYS 5: SETCLIENTID_CONFIRM 1 1 u64:1 -> NFS4_OK',
-    'client 1 expires, seen at N, now N']
+    "connection 1, xid 2, moment N, AUTH_SYS 5: SETCLIENTID_CONFIRM 1 1 u64:1 -> NFS4_OK",
+    "client 1 expires, seen at N, now N",
+]

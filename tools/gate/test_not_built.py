@@ -17,8 +17,13 @@ TOOLCHAIN = '#!/bin/sh\ntouch "$STARTED"\nexit 1\n'
 # What a folder of tests has in common with the gate's.
 HOOKS = "from gate.conftest import pytest_addoption, pytest_runtest_setup\n"
 # The tools that run a program, each with words with which it needs nothing else, and the program.
-TOOLS = [("rows", "rows"), ("stress", "nfs4state"), ("stress", "rows"), ("fuzz_serve", "nfs4state"),
-         ("model/fuzz.py", "rows")]
+TOOLS = [
+    ("rows", "rows"),
+    ("stress", "nfs4state"),
+    ("stress", "rows"),
+    ("fuzz_serve", "nfs4state"),
+    ("model/fuzz.py", "rows"),
+]
 
 
 @pytest.fixture
@@ -33,8 +38,14 @@ def nothing_built(path_of, file_of):
 
 
 def run(command, environment):
-    ran = subprocess.run([sys.executable, *command], env=environment, stdin=subprocess.DEVNULL, capture_output=True,
-                         text=True, timeout=PATIENCE)
+    ran = subprocess.run(
+        [sys.executable, *command],
+        env=environment,
+        stdin=subprocess.DEVNULL,
+        capture_output=True,
+        text=True,
+        timeout=PATIENCE,
+    )
     return ran.returncode, ran.stdout, ran.stderr
 
 
@@ -74,10 +85,12 @@ def test_order(top, monkeypatch):
     """The file that the environment names comes first, then a proved program, then another."""
     proved, unproved = top / "crates/rows/out/rows", top / "out/unproved/rows"
     assert built.program_path("rows") == str(proved)
-    assert built.lack_of(str(proved)) == ("crates/rows/out/rows is not built: ./start --build rows, or `rt run` in "
-                                          "crates/rows (a proof)")
+    assert built.lack_of(str(proved)) == (
+        "crates/rows/out/rows is not built: ./start --build rows, or `rt run` in " "crates/rows (a proof)"
+    )
     assert built.lack_of(built.program_path("nfs4state")) == (
-        "crates/nfs4state/out/nfs4state is not built: ./start --build, or `rt run` in crates/nfs4state (a proof)")
+        "crates/nfs4state/out/nfs4state is not built: ./start --build, or `rt run` in crates/nfs4state (a proof)"
+    )
     put(unproved)
     assert built.program_path("rows") == str(unproved) and built.lack_of(str(unproved)) is None
     put(proved)

@@ -16,8 +16,28 @@ from nfs4.client import expect
 from nfs4.messages import NULL, PUTROOTFH, call, compound, confirmation, setclientid, split, words
 from nfs4.preload import preloading
 from nfs4.wire import Opnum, Status, u32, u64
-from sending.driver import (ALONE, Driver, FORGET, FULL, Forgotten, MARK, Marked, NOT_LIVE, PENDING, PROBE, PROGRAM,
-                            REVOKE, Revoked, SERVE, SHARED, SWEEP, Swept, TAKE, head, part)
+from sending.driver import (
+    ALONE,
+    Driver,
+    FORGET,
+    FULL,
+    Forgotten,
+    MARK,
+    Marked,
+    NOT_LIVE,
+    PENDING,
+    PROBE,
+    PROGRAM,
+    REVOKE,
+    Revoked,
+    SERVE,
+    SHARED,
+    SWEEP,
+    Swept,
+    TAKE,
+    head,
+    part,
+)
 
 pytestmark = pytest.mark.needs("rows")
 ROOT = compound(9, words(PUTROOTFH))
@@ -36,11 +56,12 @@ int sched_yield(void) {
 
 class Counting(Driver):
     """A driver that keeps how many bytes were left of each connection."""
+
     rests = ()
 
     def ended(self):
         _, rest = self.word(), self.word()
-        self.rests += rest,
+        self.rests += (rest,)
         self.at -= 8
         return super().ended()
 
@@ -59,8 +80,10 @@ def introduction(xid, name):
 def test_clock(way):
     """Two connections of one order have one clock, which a second order begins anew; and each gets its receipts."""
     with begin(way, seats=4 * way) as driver:
-        first = [b"".join(introduction(xid, b"%s%d" % (name, xid)) for xid in range(count))
-                 for name, count in ((b"a", 3), (b"b", 2))]
+        first = [
+            b"".join(introduction(xid, b"%s%d" % (name, xid)) for xid in range(count))
+            for name, count in ((b"a", 3), (b"b", 2))
+        ]
         ended = driver.serve(first, 100, 1000, pace=2).ended
         ended += driver.serve([introduction(7, b"c")] * 2, 50, 1000).ended
         moments = [entry.moment for entry in read_journal(driver.end()).entries]
@@ -89,8 +112,11 @@ def test_sweeps():
         driver.serve([introduction(1, b"gone") + compound(2, confirmation(1, 1, 1))], 0, 1000)
         none = driver.serve([], 1, 1000, is_swept=True)
         calls = driver.serve([ROOT * 300], 1, 1, pace=300, is_swept=True)
-        ends = [(entry.client, entry.seen, entry.now) for entry in read_journal(driver.end()).entries
-                if isinstance(entry, Expire)]
+        ends = [
+            (entry.client, entry.seen, entry.now)
+            for entry in read_journal(driver.end()).entries
+            if isinstance(entry, Expire)
+        ]
     expect("sweeps with nothing sent", (none.sweeps in (1, 2), none.expired), (True, 0))
     expect("sweeps", (calls.sweeps in (1, 2, 3), calls.expired, ends), (True, 1, [(1, 0, 2)]))
 
@@ -134,17 +160,53 @@ def forgetting(moment):
 LAST = 2**40 - 3
 SHARING = head(SHARED, seats=1)
 LONE = head(ALONE)
-INVALID = [b"", head(2), head(ALONE, lease=0), head(ALONE, lease=86401), SHARING[:-1],
-           u32(ALONE, 90, 1, 0) + part(b"\xff"), SHARING + serving(2), SHARING + serving(1) * 2, SHARING + u32(9),
-           SHARING + serving(1)[:-1], SHARING + b"\0", SHARING + sweeping(LAST + 1),
-           SHARING + serving(1, moment=LAST + 1), LONE + serving(1, swept=1), SHARING + serving(1, swept=2),
-           LONE + u32(0), LONE + u32(MARK, 1, 2), LONE + u32(MARK, 1), LONE + revoking(LAST + 1),
-           LONE + revoking(0)[:-1], SHARING + revoking(0), LONE + u32(TAKE), LONE + u32(PENDING)[:-1],
-           SHARING + u32(PROBE), LONE + forgetting(LAST + 1), LONE + forgetting(0)[:-1], SHARING + forgetting(0)]
-VALID = [SHARING, SHARING + serving(1), head(SHARED, seats=3) + serving(2), SHARING + sweeping(LAST),
-         LONE + serving(2), head(ALONE, lease=86400), LONE + u32(MARK, 2**32 - 1, 0), SHARING + u32(MARK, 0, 1),
-         LONE + revoking(LAST), LONE + forgetting(LAST), LONE + u32(TAKE, 2**32 - 1), SHARING + u32(TAKE, 0),
-         LONE + u32(PENDING), SHARING + u32(PENDING), SHARING + u32(PROBE, 0), LONE + u32(PROBE, 2**32 - 1)]
+INVALID = [
+    b"",
+    head(2),
+    head(ALONE, lease=0),
+    head(ALONE, lease=86401),
+    SHARING[:-1],
+    u32(ALONE, 90, 1, 0) + part(b"\xff"),
+    SHARING + serving(2),
+    SHARING + serving(1) * 2,
+    SHARING + u32(9),
+    SHARING + serving(1)[:-1],
+    SHARING + b"\0",
+    SHARING + sweeping(LAST + 1),
+    SHARING + serving(1, moment=LAST + 1),
+    LONE + serving(1, swept=1),
+    SHARING + serving(1, swept=2),
+    LONE + u32(0),
+    LONE + u32(MARK, 1, 2),
+    LONE + u32(MARK, 1),
+    LONE + revoking(LAST + 1),
+    LONE + revoking(0)[:-1],
+    SHARING + revoking(0),
+    LONE + u32(TAKE),
+    LONE + u32(PENDING)[:-1],
+    SHARING + u32(PROBE),
+    LONE + forgetting(LAST + 1),
+    LONE + forgetting(0)[:-1],
+    SHARING + forgetting(0),
+]
+VALID = [
+    SHARING,
+    SHARING + serving(1),
+    head(SHARED, seats=3) + serving(2),
+    SHARING + sweeping(LAST),
+    LONE + serving(2),
+    head(ALONE, lease=86400),
+    LONE + u32(MARK, 2**32 - 1, 0),
+    SHARING + u32(MARK, 0, 1),
+    LONE + revoking(LAST),
+    LONE + forgetting(LAST),
+    LONE + u32(TAKE, 2**32 - 1),
+    SHARING + u32(TAKE, 0),
+    LONE + u32(PENDING),
+    SHARING + u32(PENDING),
+    SHARING + u32(PROBE, 0),
+    LONE + u32(PROBE, 2**32 - 1),
+]
 
 
 @each_way
@@ -165,6 +227,7 @@ def test_changes(way):
 
 # Owners that are idle.
 
+
 def serve_steps(driver, steps, moment):
     """Serves a connection with these steps at the moment, and compares its replies."""
     found = list(enumerate(limits.compounds(steps), 1))
@@ -178,8 +241,11 @@ def idle_owners(count):
     yield limits.introduce(1, 1)
     for owner in range(count):
         number = owner + 1
-        yield (limits.opening(owner, 1, 0, number=number, flags=6) + limits.confirming(2, number)
-               + limits.closing(3, 2, number, 0))
+        yield (
+            limits.opening(owner, 1, 0, number=number, flags=6)
+            + limits.confirming(2, number)
+            + limits.closing(3, 2, number, 0)
+        )
 
 
 RENEWAL = [[(u32(Opnum.RENEW, 1, 1), limits.result(Opnum.RENEW))]]
@@ -208,7 +274,7 @@ def test_full_journal():
     # Two entries of the client, three of each owner, and one that is left.
     whole, rest = divmod(JOURNAL_LIMIT - 2 - 6 - 1, 63)
     with begin(ALONE, document=limits.TREE) as driver:
-        serve_steps(driver, [*idle_owners(2), *[asked] * whole, asked[:1 + rest]], 100)
+        serve_steps(driver, [*idle_owners(2), *[asked] * whole, asked[: 1 + rest]], 100)
         serve_steps(driver, RENEWAL, 150)
         expect("nobody is due", driver.forget(190), Forgotten(0, 0, 0))
         expect("a sweep with one entry left", driver.sweep(191), Swept(0, 1, 0, 0, 0, 1, 1))

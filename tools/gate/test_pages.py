@@ -4,8 +4,17 @@ import pytest
 
 from gate.numbers import told
 from gate.pages import Page, Sources, faults_of, helps, pages
-from gate.sentences import (EXCEPTIONS, GLOSSARY, counted, faults_of_all, items_of, sentences_of, unused,
-                            wrong_sentences, wrong_words)
+from gate.sentences import (
+    EXCEPTIONS,
+    GLOSSARY,
+    counted,
+    faults_of_all,
+    items_of,
+    sentences_of,
+    unused,
+    wrong_sentences,
+    wrong_words,
+)
 
 pytestmark = pytest.mark.quick
 
@@ -19,14 +28,18 @@ RIGHT = [
     "`tools/show_journal --follow FILE`, `--journal FILE`, `nfs4state --version`, `rt try --foreign`, `--foreign`",
     "    $ ./start --with model --serve --trace -- tools/send_rows --only N {host} {port} samples/two_owners.rows",
     "    $ tools/between --to HOST --rule R -- tools/send_rows --only N {host} {port} samples/two_owners.rows",
-    "    (cd crates/nfs4state && rt try -- serve --listen ADDR) | tools/model/serve.py --trace --lease 9"]
+    "    (cd crates/nfs4state && rt try -- serve --listen ADDR) | tools/model/serve.py --trace --lease 9",
+]
 WRONG = {
     "[a page](NOWHERE.md)": ["a link to NOWHERE.md, which isn't there"],
     "[a\nheading](CLAIMS.md#no-such)": ["a link to CLAIMS.md#no-such, and there is no such heading"],
     "[here](#no-such)": ["a link to #no-such, and there is no such heading"],
     "`crates/nfs_core/src/nothing.rt`": ["the path crates/nfs_core/src/nothing.rt"],
     "`nothing.py`, `nfs_core/nothing`": ["the path nfs_core/nothing", "the path nothing.py"],
-    "`tools/{floors,stressed}`, `crates/NAME/nothing`": ["the path crates/NAME/nothing", "the path tools/{floors,stressed}"],
+    "`tools/{floors,stressed}`, `crates/NAME/nothing`": [
+        "the path crates/NAME/nothing",
+        "the path tools/{floors,stressed}",
+    ],
     "    tools/nothing < samples/nothing.rows": ["the path samples/nothing.rows", "the path tools/nothing"],
     "```\nsamples/nothing.toml\n```": ["the path samples/nothing.toml"],
     "`Core::aply`": ["the name Core::aply"],
@@ -38,7 +51,8 @@ WRONG = {
     "`rows_index --serve`": ["the option --serve of tools/rows_index"],
     "`serve --now 1`": ["the option --now of nfs4state serve"],
     "`./start --trace`": ["the option --trace of start"],
-    "    rt run; crates/nfs4state/out/nfs4state once --listen 1 < x": ["the option --listen of nfs4state once"]}
+    "    rt run; crates/nfs4state/out/nfs4state once --listen 1 < x": ["the option --listen of nfs4state once"],
+}
 HEADING = "# A page, in 2 parts!\n\n"
 
 
@@ -65,8 +79,11 @@ def test_sentences(tell):
 def test_helps():
     """The help of each command of tools is written as the pages are."""
     used = set()
-    faults = [f"{path}:{line}: {fault}" for path, text in helps().items()
-              for line, fault in [*wrong_sentences(path, text, used), *wrong_words(path, text, used)]]
+    faults = [
+        f"{path}:{line}: {fault}"
+        for path, text in helps().items()
+        for line, fault in [*wrong_sentences(path, text, used), *wrong_words(path, text, used)]
+    ]
     assert not faults, "\n".join(faults)
 
 
@@ -89,27 +106,37 @@ LONG = "Word " + "word " * 29
 # The text of a page, and its sentences as (line, words).
 SENTENCES = {
     "One two. Three `four five. Six` and\nseven, e.g. eight; nine: ten.": [(1, 2), (1, 8)],
-    "Is it so? (Yes!) \"No.\" *Or* 3.5 - of 9.1.": [(1, 3), (1, 1), (1, 1), (1, 4)],
+    'Is it so? (Yes!) "No." *Or* 3.5 - of 9.1.': [(1, 3), (1, 1), (1, 1), (1, 4)],
     "# A heading of words\n\n- an item\n  goes on\n- another. With two\n  1. nested\n\n  A paragraph.": [
-        (3, 4), (5, 1), (5, 2), (6, 1), (8, 2)],
+        (3, 4),
+        (5, 1),
+        (5, 2),
+        (6, 1),
+        (8, 2),
+    ],
     "> A quotation\n> goes on.\n\n[A link](to/a.page#part) of four.": [(1, 4), (4, 4)],
     "| A head | two |\n|---|:--|\n| a cell. Of two `a | b` | |": [(1, 2), (1, 1), (3, 2), (3, 3)],
     "Code:\n\n    $ one two three\n    four\n\n```\nfive six\n```\nAnd so on.": [(1, 1), (9, 3)],
-    "- item\n\n      code in it\n\n- with - a dash": [(1, 1), (5, 3)]}
+    "- item\n\n      code in it\n\n- with - a dash": [(1, 1), (5, 3)],
+}
 # The same, and the faults of its sentences.
 ILL_WRITTEN = {
     f"Yes. {LONG}more.": ["1: a sentence of 31 words: Word word word word word word word word .."],
     f"- {LONG}\n- {LONG}\n\n| {LONG} | {LONG}more |": [
-        "4: a sentence of 31 words: Word word word word word word word word .."],
+        "4: a sentence of 31 words: Word word word word word word word word .."
+    ],
     "Right.\n\nIt comes\nBehind it, and `behind`, behind-hand.": ["3: the word 'Behind': after"],
     "It called the\nclient back; a lock in its way.": [
-        "1: the word 'called the client back': recalled, sends a callback", "1: the word 'in its way': conflicts with"],
+        "1: the word 'called the client back': recalled, sends a callback",
+        "1: the word 'in its way': conflicts with",
+    ],
     "It lets go of a growth.": ["1: the word 'growth': allocation", "1: the word 'lets go': cancels"],
     "A call of a client goes back. An understanding, behindhand, of standard input that misunderstood.": [],
     "A seat. A [seat](#seats).": ["1: 'seat' isn't linked at its first use"],
     "A [seat](../docs/GLOSSARY.md). Seats.": [],
     "A *seat* is a place, and a **mutant** a wrong body. `seat`": [],
-    "# Seats\n\n[its place](seats.md); *so* the seat *is*": ["3: 'seat' isn't linked at its first use"]}
+    "# Seats\n\n[its place](seats.md); *so* the seat *is*": ["3: 'seat' isn't linked at its first use"],
+}
 
 
 def test_made_up_sentences():

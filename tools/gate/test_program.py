@@ -15,10 +15,35 @@ from building.copies import version_here
 from model.journal import verdict
 from model.program import bytes_of
 from nfs4.client import Wrong, done, expect
-from nfs4.messages import (GETATTR, GETFH, LEASE_TIME, LOOKUP, NFS4ERR_BADHANDLE, NFS4ERR_NOENT, NFS4ERR_RESOURCE,
-                           NFS4ERR_STALE_CLIENTID, NFS4_OK, NULL, OPEN, PUTFH, PUTROOTFH, RENEW, SETCLIENTID,
-                           SETCLIENTID_CONFIRM, TYPE_SIZE_FILEID, call, compound, confirmation, given, handle, lookup,
-                           reply, results, setclientid, words)
+from nfs4.messages import (
+    GETATTR,
+    GETFH,
+    LEASE_TIME,
+    LOOKUP,
+    NFS4ERR_BADHANDLE,
+    NFS4ERR_NOENT,
+    NFS4ERR_RESOURCE,
+    NFS4ERR_STALE_CLIENTID,
+    NFS4_OK,
+    NULL,
+    OPEN,
+    PUTFH,
+    PUTROOTFH,
+    RENEW,
+    SETCLIENTID,
+    SETCLIENTID_CONFIRM,
+    TYPE_SIZE_FILEID,
+    call,
+    compound,
+    confirmation,
+    given,
+    handle,
+    lookup,
+    reply,
+    results,
+    setclientid,
+    words,
+)
 from nfs4.served import PROGRAM, Piped, TOP
 from nfs4.wire import opaque
 
@@ -51,8 +76,10 @@ def want(arguments, sent=b"", output=b"", fault=None, status=None, what=None, **
     elif what is not None:
         errors = what.encode() + b": .. and " + errors
     if (ran.returncode, got, said) != (wanted, output, errors):
-        raise Wrong(f"nfs4state {arguments}: status {ran.returncode}, wanted {wanted}; output {shown(got)}, wanted "
-                    f"{shown(output)}; errors {ran.stderr}, wanted {errors}")
+        raise Wrong(
+            f"nfs4state {arguments}: status {ran.returncode}, wanted {wanted}; output {shown(got)}, wanted "
+            f"{shown(output)}; errors {ran.stderr}, wanted {errors}"
+        )
 
 
 def decline(message, usage, *arguments):
@@ -79,8 +106,10 @@ def handle_is(node):
 
 def node_is(kind, size, fileid):
     """The type, the size and the fileid of the current node."""
-    return (words(GETATTR, 1, TYPE_SIZE_FILEID),
-            words(GETATTR, NFS4_OK, 1, TYPE_SIZE_FILEID, 20, kind, 0, size, 0, fileid))
+    return (
+        words(GETATTR, 1, TYPE_SIZE_FILEID),
+        words(GETATTR, NFS4_OK, 1, TYPE_SIZE_FILEID, 20, kind, 0, size, 0, fileid),
+    )
 
 
 def exchange(xid, *pairs, uid=None):
@@ -108,23 +137,64 @@ def test_letters():
     has = words(GETATTR, 1, 0x1A), words(GETATTR, NFS4_OK, 1, 0x1A, 20, 1, 0, 0, 0, 5)
     first = exchange(1, ROOT, look(b"letters"), look(b"first"), has, handle_is(3))
     with open(os.path.join(TOP, "samples/letters.records"), "rb") as records:
-        want(["once", "--tree", os.path.join(TOP, "samples/letters.toml")], records.read(),
-             first[1] + exchange(2, ROOT, look(b"a", NFS4ERR_NOENT))[1])
+        want(
+            ["once", "--tree", os.path.join(TOP, "samples/letters.toml")],
+            records.read(),
+            first[1] + exchange(2, ROOT, look(b"a", NFS4ERR_NOENT))[1],
+        )
 
 
 def test_nodes():
     """Type, size and fileid of the root, `a`, `b`, `d` and `d/c`, and no `c` in the root, as samples/files.toml says
     too. The policy shows in none of these answers."""
-    nodes = exchange(1, ROOT, node_is(2, 0, 1), look(b"a"), node_is(1, 5, 2), ROOT, look(b"b"), node_is(1, 0, 3), ROOT,
-                     look(b"d"), node_is(2, 0, 4), look(b"c"), node_is(1, 0, 5), ROOT, look(b"c", NFS4ERR_NOENT))
+    nodes = exchange(
+        1,
+        ROOT,
+        node_is(2, 0, 1),
+        look(b"a"),
+        node_is(1, 5, 2),
+        ROOT,
+        look(b"b"),
+        node_is(1, 0, 3),
+        ROOT,
+        look(b"d"),
+        node_is(2, 0, 4),
+        look(b"c"),
+        node_is(1, 0, 5),
+        ROOT,
+        look(b"c", NFS4ERR_NOENT),
+    )
     want(["once"], *nodes)
     want(["once", "--tree", SAMPLE], *nodes)
 
 
 def test_attributes():
     """Attributes of nodes by the mask that asks for them, of two words at most: the mask and the values that come."""
-    all_of = lambda kind, size, node: [1, 0x180FFF, kind, 0, 0, 0, 0, size, 0, 0, 0, 0, 1, 0, 0, 1, 90, 0,
-                                       8, 0x6E666831, node, 0, node + 1]
+    all_of = lambda kind, size, node: [
+        1,
+        0x180FFF,
+        kind,
+        0,
+        0,
+        0,
+        0,
+        size,
+        0,
+        0,
+        0,
+        0,
+        1,
+        0,
+        0,
+        1,
+        90,
+        0,
+        8,
+        0x6E666831,
+        node,
+        0,
+        node + 1,
+    ]
     table = [
         (1, [0x1A], [0x1A], [1, 0, 0, 0, 5]),
         (3, [0x1A], [0x1A], [2, 0, 0, 0, 0]),
@@ -157,16 +227,23 @@ def test_lease_and_epoch():
 
 def test_now():
     """At whatever moment the calls come, a client that was confirmed is live, and another isn't."""
-    pairs = [(setclientid(bytes(range(1, 9)), b"c1"), given(1, 1, 1)),
-             (confirmation(1, 1, 1), done(SETCLIENTID_CONFIRM)), (words(RENEW, 1, 1), done(RENEW)),
-             (words(RENEW, 1, 2), done(RENEW, status=NFS4ERR_STALE_CLIENTID))]
+    pairs = [
+        (setclientid(bytes(range(1, 9)), b"c1"), given(1, 1, 1)),
+        (confirmation(1, 1, 1), done(SETCLIENTID_CONFIRM)),
+        (words(RENEW, 1, 1), done(RENEW)),
+        (words(RENEW, 1, 2), done(RENEW, status=NFS4ERR_STALE_CLIENTID)),
+    ]
     for options in [], ["--now", "0"], ["--now=1"], ["--now", "4294967296"], ["--now", "1099511627773"]:
         want(["once", *options], *exchange(1, *pairs))
 
 
 def test_help():
-    for name, arguments in (("help", []), ("help_once", ["once"]), ("help_serve", ["serve"]),
-                            ("help_audit", ["audit"])):
+    for name, arguments in (
+        ("help", []),
+        ("help_once", ["once"]),
+        ("help_serve", ["serve"]),
+        ("help_audit", ["audit"]),
+    ):
         with open(os.path.join(TOP, f"tools/{name}.txt"), "rb") as file:
             text = file.read()
         for word in "--help", "-h":
@@ -177,22 +254,32 @@ def test_help():
 def test_version():
     """It names its version, and claims no proof if it is of no release."""
     said = subprocess.run([PROGRAM, "--version"], stdout=subprocess.PIPE, text=True, check=True).stdout
-    assert re.fullmatch(rf"nfs4state {re.escape(version_here())}(, of no release| \([0-9a-f]{{8}}\+?\), NOT proved)\n", said)
+    assert re.fullmatch(
+        rf"nfs4state {re.escape(version_here())}(, of no release| \([0-9a-f]{{8}}\+?\), NOT proved)\n", said
+    )
     want(["--version"], output=said.encode())
     decline("unexpected argument '--version' found", "nfs4state once [OPTIONS]", "once", "--version")
 
 
 # What options take: the name of the value, and of a number its limits.
 OPTIONS = {
-    "--tree": ("FILE", None), "--lease": ("SECONDS", (1, 86400)), "--epoch": ("NUMBER", (0, 2**32 - 1)),
-    "--now": ("SECONDS", (0, 2**40 - 3)), "--journal": ("FILE", None), "--listen": ("ADDR", None),
-    "--connections": ("NUMBER", (1, 64)), "--memory": ("MIB", (1, 1048576)),
+    "--tree": ("FILE", None),
+    "--lease": ("SECONDS", (1, 86400)),
+    "--epoch": ("NUMBER", (0, 2**32 - 1)),
+    "--now": ("SECONDS", (0, 2**40 - 3)),
+    "--journal": ("FILE", None),
+    "--listen": ("ADDR", None),
+    "--connections": ("NUMBER", (1, 64)),
+    "--memory": ("MIB", (1, 1048576)),
 }
 COMMON = ["--tree", "--lease", "--epoch", "--journal"]
 
 
-@pytest.mark.parametrize("command, names", [
-    ("once", [*COMMON, "--now"]), ("serve", [*COMMON, "--listen", "--connections", "--memory"])], ids=["once", "serve"])
+@pytest.mark.parametrize(
+    "command, names",
+    [("once", [*COMMON, "--now"]), ("serve", [*COMMON, "--listen", "--connections", "--memory"])],
+    ids=["once", "serve"],
+)
 def test_options(command, names):
     """Numbers outside their limits or in another spelling, and options given twice or without a value. None of these
     runs begins to serve."""
@@ -224,8 +311,13 @@ def test_words(path_of):
     audit = "nfs4state audit <FILE>"
     decline("the following required arguments were not provided:\n  <FILE>", audit, "audit")
     decline("unexpected argument 'more' found", audit, "audit", "file", "more")
-    decline("unexpected argument '--lease' found\n\n  tip: to pass '--lease' as a value, use '-- --lease'", audit,
-            "audit", "--lease", "9")
+    decline(
+        "unexpected argument '--lease' found\n\n  tip: to pass '--lease' as a value, use '-- --lease'",
+        audit,
+        "audit",
+        "--lease",
+        "9",
+    )
     decline("unrecognized subcommand 'help'", alone, "help")
     decline("unrecognized subcommand 'twice'", alone, "twice")
     want(["once", "--tree", b"\xff"], fault="error: a word isn't UTF-8", status=2)
@@ -237,8 +329,12 @@ def test_words(path_of):
     decline("the argument '--until-input-ends' cannot be used with '--until-killed'", serve, "serve", *flags)
     for flag in flags:
         decline(f"the argument '{flag}' cannot be used multiple times", serve, "serve", flag, flag)
-        decline(f"unexpected value '1' for '{flag}' found; no more were expected", f"nfs4state serve {flag}", "serve",
-                f"{flag}=1")
+        decline(
+            f"unexpected value '1' for '{flag}' found; no more were expected",
+            f"nfs4state serve {flag}",
+            "serve",
+            f"{flag}=1",
+        )
     decline(reason, serve, "serve", "--tree", path_of("missing"), "--listen", "nowhere", "--lease", "0")
 
 
@@ -261,9 +357,15 @@ SYNTAX, NAME, TOO_MANY, DUPLICATE = (f"fault: tree refused ({number})" for numbe
 # Documents, by how many nodes their trees have with the root, or by why they are refused. The 65th file is judged before
 # what its path says, but not before its name; and a directory may be named again, and needed by a file.
 DOCUMENTS = {
-    1: ["", "# none\n[policy]\n", '[policy]\ndelegations = "none"\n', 'policy = { delegations = "read" }\n',
-        'policy.callbacks = "assume"\n', '[policy]\ndelegations = "all"\ncallbacks = "probe"\nclose_locks = "free"\n',
-        'policy.close_locks = "refuse"\n'],
+    1: [
+        "",
+        "# none\n[policy]\n",
+        '[policy]\ndelegations = "none"\n',
+        'policy = { delegations = "read" }\n',
+        'policy.callbacks = "assume"\n',
+        '[policy]\ndelegations = "all"\ncallbacks = "probe"\nclose_locks = "free"\n',
+        'policy.close_locks = "refuse"\n',
+    ],
     2: [file("n" * 255, ""), file("n", "t" * 65536)],
     3: [directory("a/b") + directory("a")],
     4: [file("f") + directory("d/e")],
@@ -273,17 +375,34 @@ DOCUMENTS = {
     67: [numbered(64, 1, file("d0/a"))],
     129: [numbered(64, 64)],
     SYNTAX: [
-        'policy.close_locks = "Refuse"\n', 'policy.close_locks = "keep"\n', 'policy.close_locks = true\n', "file = 1",
-        b"# \xff", b'[[file]]\npath = "\xff"\n', '[[file]]\nname = "x"\n'],
+        'policy.close_locks = "Refuse"\n',
+        'policy.close_locks = "keep"\n',
+        "policy.close_locks = true\n",
+        "file = 1",
+        b"# \xff",
+        b'[[file]]\npath = "\xff"\n',
+        '[[file]]\nname = "x"\n',
+    ],
     NAME: [
-        file("x/../y"), 'file = [{ path = "x/../y" }]', 'directory = [{ path = "a/a/a/a/a/a/a/a/a" }]',
-        file("n" * 256, ""), file("n" * 256, "t" * 65537), numbered(0, 64, file(".."))],
+        file("x/../y"),
+        'file = [{ path = "x/../y" }]',
+        'directory = [{ path = "a/a/a/a/a/a/a/a/a" }]',
+        file("n" * 256, ""),
+        file("n" * 256, "t" * 65537),
+        numbered(0, 64, file("..")),
+    ],
     TOO_MANY: [
-        file("n", "t" * 65537), numbered(0, 65), numbered(0, 64, file("f0")), numbered(0, 64, file("f0/a")),
-        numbered(0, 65, file("..")), numbered(65, 0), numbered(64, 1, file("f0/a/b")),
-        numbered(63, 0, directory("e/f")), numbered(63, 0, file("e/f/g"))],
-    DUPLICATE: [
-        file("x") + file("x/y"), 'file = [{ path = "x" }, { path = "x/y" }]', numbered(64, 1, file("f0/a"))],
+        file("n", "t" * 65537),
+        numbered(0, 65),
+        numbered(0, 64, file("f0")),
+        numbered(0, 64, file("f0/a")),
+        numbered(0, 65, file("..")),
+        numbered(65, 0),
+        numbered(64, 1, file("f0/a/b")),
+        numbered(63, 0, directory("e/f")),
+        numbered(63, 0, file("e/f/g")),
+    ],
+    DUPLICATE: [file("x") + file("x/y"), 'file = [{ path = "x" }, { path = "x/y" }]', numbered(64, 1, file("f0/a"))],
 }
 
 
@@ -297,8 +416,10 @@ def test_documents(path_of, file_of):
         want(["once", "--tree", path], *exchange(1, put(wanted - 1), put(wanted, NFS4ERR_BADHANDLE)))
     # Directories come first, wherever they stand.
     path = file_of("tree.toml", file("f") + directory("d/e"))
-    want(["once", "--tree", path], *exchange(1, ROOT, look(b"d"), handle_is(1), look(b"e"), handle_is(2), ROOT,
-                                             look(b"f"), handle_is(3)))
+    want(
+        ["once", "--tree", path],
+        *exchange(1, ROOT, look(b"d"), handle_is(1), look(b"e"), handle_is(2), ROOT, look(b"f"), handle_is(3)),
+    )
     for path in path_of("missing"), path_of(""):
         want(["once", "--tree", path], fault="fault: file not read", what=path)
 
@@ -366,8 +487,30 @@ def test_journal(file_of):
 
 
 # Nodes as a journal's file has them, with their number: those of the default tree, and one file `b`.
-NODES = words(4, 0, 1, 1, 0x61000000, 5, 0x68656C6C, 0x6F000000, 0, 1, 1, 0x62000000, 0, 0, 0, 1, 0x64000000,
-              3, 1, 1, 0x63000000, 0)
+NODES = words(
+    4,
+    0,
+    1,
+    1,
+    0x61000000,
+    5,
+    0x68656C6C,
+    0x6F000000,
+    0,
+    1,
+    1,
+    0x62000000,
+    0,
+    0,
+    0,
+    1,
+    0x64000000,
+    3,
+    1,
+    1,
+    0x63000000,
+    0,
+)
 NODE_B = words(1, 0, 1, 1, 0x62000000, 0)
 
 
@@ -423,8 +566,7 @@ def test_journal_file(path_of, file_of):
     asked = node_is(1, 0, 2)
     entry = entry_of(*asked, (0xFF, 0xFFFFFFFD), (1, 5), (1, 1))
     wanted = journal_of(entry, epoch=7, lease=86400, policy=(1, 1, 1), nodes=NODE_B)
-    want_journal(path, wanted, [*options, file_of("tree.toml", document)],
-                 *exchange(1, ROOT, look(b"b"), asked, uid=5))
+    want_journal(path, wanted, [*options, file_of("tree.toml", document)], *exchange(1, ROOT, look(b"b"), asked, uid=5))
     want(["audit", path], output=b"lawful: 1 entries\n")
 
 
@@ -465,12 +607,28 @@ def test_long_journal(path_of, preloaded):
     expect("the model's verdict", verdict(wanted), (True, line))
     for most in "1000", "65537":
         want_journal(path, wanted, [], sent, replies, env=preloaded("short_writes.c", MOST_WRITTEN=most))
-    want_journal(path, b"", [], sent, replies, "fault: file not written", what=path,
-                 env=preloaded("short_writes.c", MOST_WRITTEN="0"))
+    want_journal(
+        path,
+        b"",
+        [],
+        sent,
+        replies,
+        "fault: file not written",
+        what=path,
+        env=preloaded("short_writes.c", MOST_WRITTEN="0"),
+    )
     for limit in 1, 65536, 100001, 600000, len(wanted) - 1:
         for rest, fault in (b"", "file not written"), (b"\0", "input ends inside a record"):
-            want_journal(path, wanted[:limit], [], sent + rest, replies, f"fault: {fault}", what=path,
-                         preexec_fn=lambda: limit_files(limit))
+            want_journal(
+                path,
+                wanted[:limit],
+                [],
+                sent + rest,
+                replies,
+                f"fault: {fault}",
+                what=path,
+                preexec_fn=lambda: limit_files(limit),
+            )
 
 
 # The bytes that are written together, and those of the buffer that they are gathered in.
@@ -506,14 +664,19 @@ def test_audit(path_of, file_of):
         (journal_of(other_value, CONFIRMED, CONFIRMED), "fault: wrong answer at entry 0"),
         (journal_of(*CLIENT_IDS, ended(190)), "fault: wrong answer at entry 3"),
         (journal_of(resource), "fault: wrong answer at entry 0"),
-        (journal_of(renewed), no_journal), (journal_of(padded, CONFIRMED, CONFIRMED), no_journal),
-        (whole[:-4], no_journal), (whole + words(0), no_journal), (b"", no_journal),
+        (journal_of(renewed), no_journal),
+        (journal_of(padded, CONFIRMED, CONFIRMED), no_journal),
+        (whole[:-4], no_journal),
+        (whole + words(0), no_journal),
+        (b"", no_journal),
         (journal_of(other_value, renewed), no_journal),
         (journal_of(*CLIENT_IDS, forgotten), "fault: wrong answer at entry 3"),
-        (earlier(*CLIENT_IDS, forgotten), no_journal), (journal_of(*CLIENT_IDS, words(6)), no_journal),
+        (earlier(*CLIENT_IDS, forgotten), no_journal),
+        (journal_of(*CLIENT_IDS, words(6)), no_journal),
         (journal_of(*CLIENT_IDS, policy=(2, 0, 2)), no_journal),
         (earlier(*CLIENT_IDS, ended(190)), "fault: wrong answer at entry 3"),
-        (whole.replace(b"NFSJRN03", b"NFSJRN01"), no_journal), (whole.replace(b"NFSJRN03", b"NFSJRN04"), no_journal),
+        (whole.replace(b"NFSJRN03", b"NFSJRN01"), no_journal),
+        (whole.replace(b"NFSJRN03", b"NFSJRN04"), no_journal),
     ]:
         want(["audit", file_of("other.journal", data)], fault=fault)
     for data, count in (journal_of(*CLIENT_IDS, ended(191)), 4), (earlier(*CLIENT_IDS), 3), (earlier(), 0):
@@ -533,6 +696,7 @@ def test_peer():
     def ask(sent, xid):
         peer.send(sent)
         expect("a reply behind pipes", peer.receive(PATIENCE), reply(xid))
+
     ask(call(7, NULL), 7)
     for cut in range(len(record)):
         ask(call(8, NULL) + record[:cut], 8)

@@ -31,8 +31,9 @@ finally:
 
 def started():
     """The files of Python that are started: those with this first line that may be executed."""
-    listed = subprocess.run(["git", "ls-files", "-s", "tools", "samples"], cwd=TOP, stdout=subprocess.PIPE, check=True,
-                            text=True).stdout
+    listed = subprocess.run(
+        ["git", "ls-files", "-s", "tools", "samples"], cwd=TOP, stdout=subprocess.PIPE, check=True, text=True
+    ).stdout
     for line in listed.splitlines():
         path = os.path.join(TOP, line.partition("\t")[2])
         if line.startswith("100755"):
@@ -49,8 +50,12 @@ def older():
     paths = glob.glob("/usr/bin/python3.*") + glob.glob(os.path.expanduser("~/.pyenv/versions/3.*/bin/python3"))
     found = {}
     for path in paths:
-        ran = subprocess.run([path, "-c", "import sys; print('%d.%d' % sys.version_info[:2])"], stdout=subprocess.PIPE,
-                             stderr=subprocess.DEVNULL, text=True)
+        ran = subprocess.run(
+            [path, "-c", "import sys; print('%d.%d' % sys.version_info[:2])"],
+            stdout=subprocess.PIPE,
+            stderr=subprocess.DEVNULL,
+            text=True,
+        )
         if ran.returncode == 0 and OLDEST <= tuple(map(int, ran.stdout.split("."))) < NEEDED:
             found.setdefault(ran.stdout.strip(), path)
     return sorted(found.items(), key=lambda item: int(item[0].partition(".")[2]))
@@ -58,8 +63,14 @@ def older():
 
 def expect_line(command, path, version):
     """This command, which starts the file, ends with the line: what it prints besides."""
-    ran = subprocess.run(command, stdin=subprocess.DEVNULL, capture_output=True, text=True, timeout=PATIENCE,
-                         env={**os.environ, "PYTHONPATH": os.path.dirname(path)})
+    ran = subprocess.run(
+        command,
+        stdin=subprocess.DEVNULL,
+        capture_output=True,
+        text=True,
+        timeout=PATIENCE,
+        env={**os.environ, "PYTHONPATH": os.path.dirname(path)},
+    )
     line = f"{os.path.basename(path)}: Python 3.11 or later is needed; this is {version}\n"
     assert (ran.returncode, ran.stderr) == (2, line), f"{path} by Python {version}"
     return ran.stdout

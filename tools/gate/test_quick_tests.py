@@ -38,8 +38,9 @@ def run_tests(*words):
     """Their status, their lines, and by the name of each part how many passed and failed."""
     command = [sys.executable, os.path.join(TOP, "tools/quick_tests"), "--named", NAME, *words]
     environment = {**os.environ, "PYTHONPATH": os.path.join(TOP, "tools"), "PROGRAM": PROGRAM}
-    ran = subprocess.run(command, stdout=subprocess.PIPE, stderr=subprocess.STDOUT, text=True, timeout=2 * PATIENCE,
-                         env=environment)
+    ran = subprocess.run(
+        command, stdout=subprocess.PIPE, stderr=subprocess.STDOUT, text=True, timeout=2 * PATIENCE, env=environment
+    )
     print(ran.stdout)
     found = re.findall(r"(?m)^(.*): (\d+) passed, (\d+) failed", ran.stdout)
     return ran.returncode, ran.stdout, {part: (int(passed), int(failed)) for part, passed, failed in found}
@@ -124,10 +125,14 @@ def test_late():
     assert re.fullmatch(rf"{re.escape(late)}\n0 passed, 1 failed in \d+ s: {NAME}\n", said)
 
 
-@pytest.mark.parametrize("words, fault", [
-    (["--server", "/nowhere/nfs4state serve"], "there is no program /nowhere/nfs4state"),
-    (["--server", "true"], "the server is `true`, whose last word isn't `serve`: --kind model?"),
-    (["--rows", "/nowhere"], "there is no folder /nowhere")])
+@pytest.mark.parametrize(
+    "words, fault",
+    [
+        (["--server", "/nowhere/nfs4state serve"], "there is no program /nowhere/nfs4state"),
+        (["--server", "true"], "the server is `true`, whose last word isn't `serve`: --kind model?"),
+        (["--rows", "/nowhere"], "there is no folder /nowhere"),
+    ],
+)
 def test_words(words, fault):
     status, said, _ = run_tests(*words)
     assert status == 2 and said.endswith(f"quick_tests: error: {fault}\n")

@@ -13,8 +13,11 @@ pytestmark = [pytest.mark.needs("nfs4state"), pytest.mark.quick]
 CALLS = 200
 
 
-@pytest.mark.parametrize("ids, seeds", [(IDS, range(12)), (IDS, range(12, 24)), (300, range(4)), (300, range(4, 8))],
-                         ids=["few clients", "few clients again", "many clients", "many clients again"])
+@pytest.mark.parametrize(
+    "ids, seeds",
+    [(IDS, range(12)), (IDS, range(12, 24)), (300, range(4)), (300, range(4, 8))],
+    ids=["few clients", "few clients again", "many clients", "many clients again"],
+)
 def test_runs(ids, seeds, add_up):
     counts = sum((run(PROGRAM, seed, CALLS, ids) for seed in seeds), Counter())
     assert not missing(counts, ids), "the runs show too little"

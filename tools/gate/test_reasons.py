@@ -92,11 +92,13 @@ def test_story(story_of, headings, add_up):
             texts[it.number] = sentence(it.reason, replay.server), it.reason.heading
     assert texts == story.wanted
     # A sentence is the same when the replay has gone on.
-    assert texts == {it.number: (sentence(it.reason, replay.server), it.reason.heading) for it in told
-                     if is_refusal(it.entry)}
+    assert texts == {
+        it.number: (sentence(it.reason, replay.server), it.reason.heading) for it in told if is_refusal(it.entry)
+    }
     assert {it.number: it.events for it in told if it.events} == story.events
-    assert {it.number: again_words(it.entry, it.reason.again) for it in told
-            if it.reason and it.reason.again} == story.again
+    assert {
+        it.number: again_words(it.entry, it.reason.again) for it in told if it.reason and it.reason.again
+    } == story.again
 
 
 def folded(journal, is_each=False):
@@ -106,8 +108,10 @@ def folded(journal, is_each=False):
     paragraphs = Paragraphs(given, replay.server)
     for told in replay.run():
         paragraphs.add(told)
-    return {int(lines[0].split(":")[0]): [line.strip() for line in lines[2:]]
-            for lines in (list(it.text()) for it in paragraphs.all)}
+    return {
+        int(lines[0].split(":")[0]): [line.strip() for line in lines[2:]]
+        for lines in (list(it.text()) for it in paragraphs.all)
+    }
 
 
 @pytest.mark.parametrize("story_of, wanted", FOLDED, ids=lambda it: getattr(it, "__name__", ""))

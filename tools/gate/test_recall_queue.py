@@ -29,8 +29,24 @@ from model.row_checks import is_marked
 from model.tree import Tree
 from nfs4.callbacks import recall_call
 from nfs4.client import Wrong
-from nfs4.messages import (DELEGRETURN, GETATTR, NFS4ERR_RESOURCE, NFS4_OK, OPEN, OPEN_CONFIRM, PUTFH, PUTROOTFH, RENEW,
-                           TYPE_SIZE_FILEID, compound, confirmation, handle, results, setclientid, words)
+from nfs4.messages import (
+    DELEGRETURN,
+    GETATTR,
+    NFS4ERR_RESOURCE,
+    NFS4_OK,
+    OPEN,
+    OPEN_CONFIRM,
+    PUTFH,
+    PUTROOTFH,
+    RENEW,
+    TYPE_SIZE_FILEID,
+    compound,
+    confirmation,
+    handle,
+    results,
+    setclientid,
+    words,
+)
 from nfs4.wire import Opnum, Status, opaque, record
 from sending.driver import Driver, Failed, MEMORY, Marked, NOT_LIVE, NoMemory, SHARED, Swept, TAKE
 
@@ -63,6 +79,7 @@ def shown(value):
 
 # The calls.
 
+
 def document_of(files):
     lines = [f'[[file]]\npath = "f{number}"\n' for number in range(files)]
     return 'policy.callbacks = "assume"\npolicy.delegations = "all"\n' + "".join(lines)
@@ -88,8 +105,9 @@ def borrowing(client, number, files):
     """A call by which a client gets a delegation of each file: of the first, whose open has this number, when it opens
     it a second time, since its owner is confirmed by then."""
     opens = [opening(client, 1, 3 + file, READ, file) for file in range(files)]
-    return compound(client, *introduction(client), *opening(client, 1, 1, READ, 0), confirming(client, number, 2),
-                    *sum(opens, ()))
+    return compound(
+        client, *introduction(client), *opening(client, 1, 1, READ, 0), confirming(client, number, 2), *sum(opens, ())
+    )
 
 
 def beginning(number, owner):
@@ -138,6 +156,7 @@ def is_delay(entry):
 
 
 # The program beside the model.
+
 
 class Both:
     """The program and the model, which are told the same and have to answer the same. The first connection has these
@@ -259,7 +278,8 @@ def holds_of(both):
         "a GETATTR": lambda: both.serve(compound(1, words(PUTROOTFH), words(GETATTR, 1, TYPE_SIZE_FILEID))),
         "an OPEN that calls nothing back": lambda: both.serve(writing(0, seqid=4)),
         "a DELEGRETURN": lambda: both.serve(compound(3, words(PUTFH) + handle(1), stateid)),
-        "a sweep that ends all": lambda: both.sweep(LEASE + 1)}
+        "a sweep that ends all": lambda: both.sweep(LEASE + 1),
+    }
 
 
 def test_holds(driver):
@@ -299,8 +319,10 @@ class Wanted:
 
     def __init__(self, lending):
         model = copy.deepcopy(lending.model)
-        self.steps = [Step(call, reply_of(model, call), len(model.recalls))
-                      for call in (*lending.opens, writing(lending.files - 1, seqid=4))]
+        self.steps = [
+            Step(call, reply_of(model, call), len(model.recalls))
+            for call in (*lending.opens, writing(lending.files - 1, seqid=4))
+        ]
         model.mark_path(1, True)
         self.recalls = [recall_call(0, recall) for recall in model.recalls]
         self.journal = journal_bytes(model.journal())
@@ -379,7 +401,7 @@ class Run:
         """Takes the next recalls, so many."""
         self.driver.send(words(TAKE, 0) * times)
         taken = [self.driver.part() for _ in range(times)]
-        expect("whether they are the next ones", taken == self.wanted.recalls[self.taken:self.taken + times], True)
+        expect("whether they are the next ones", taken == self.wanted.recalls[self.taken : self.taken + times], True)
         self.taken += times
 
     def expect_none(self):
@@ -407,8 +429,12 @@ def test_refused(part, driver, lending, path_of, preloaded, tell):
     wanted = Wanted(lending)
     undisturbed = Run(driver, lending, wanted)
     undisturbed.go()
-    environment = preloaded("refuse_growth.c", REFUSED_AFTER=str(undisturbed.first),
-                            REFUSED_UNTIL=str(undisturbed.last), REFUSED_MARK=path_of("mark"))
+    environment = preloaded(
+        "refuse_growth.c",
+        REFUSED_AFTER=str(undisturbed.first),
+        REFUSED_UNTIL=str(undisturbed.last),
+        REFUSED_MARK=path_of("mark"),
+    )
     answered = []
     for growth in count(1 + part, PARTS):
         was_refused, has_memory = is_refused(lending, wanted, environment, growth)

@@ -29,8 +29,13 @@ each_way = pytest.mark.parametrize("words", WAYS.values(), ids=WAYS)
 
 def run(*words, program=PROGRAM):
     """The status of the command with these words, and what it reports, of which the end is shown where a test fails."""
-    ran = subprocess.run([sys.executable, os.path.join(TOP, "tools/rows"), "--program", program, *words],
-                         stdout=subprocess.PIPE, stderr=subprocess.STDOUT, timeout=600, text=True)
+    ran = subprocess.run(
+        [sys.executable, os.path.join(TOP, "tools/rows"), "--program", program, *words],
+        stdout=subprocess.PIPE,
+        stderr=subprocess.STDOUT,
+        timeout=600,
+        text=True,
+    )
     print(ran.stdout[-10_000:])
     return ran.returncode, ran.stdout
 
@@ -38,7 +43,7 @@ def run(*words, program=PROGRAM):
 @pytest.fixture(params=range(PARTS), ids="part {}".format)
 def files(request):
     """The files of a part of the rows."""
-    return list(files_of(DATA))[request.param::PARTS]
+    return list(files_of(DATA))[request.param :: PARTS]
 
 
 @needs_rows
@@ -66,8 +71,10 @@ def test_journals(files):
 
 def rows_of(text):
     """A file's lines by its rows, without what comes before the first."""
-    return [["row " + part] if "\n" not in part else ("row " + part).splitlines()
-            for part in re.split(r"(?m)^row ", text)[1:]]
+    return [
+        ["row " + part] if "\n" not in part else ("row " + part).splitlines()
+        for part in re.split(r"(?m)^row ", text)[1:]
+    ]
 
 
 def changed_byte(lines):
@@ -107,7 +114,7 @@ def changed_orders(lines):
     for word in ORDERS:
         at = max((i for i, line in enumerate(lines) if line.startswith(f"  {word} ")), default=None)
         if at is not None:
-            yield [*lines[:at], *otherwise(lines[at], lines[at + 1:])]
+            yield [*lines[:at], *otherwise(lines[at], lines[at + 1 :])]
 
 
 def otherwise(line, rest):
@@ -150,8 +157,9 @@ def test_changed(words, files, path_of, file_of, tell):
             rows = rows_of(source.read())
         for change in counts:
             others = [other for lines in rows for other in change(lines)]
-            path = file_of(f"{change.__name__}.{os.path.basename(file)}",
-                           "".join("\n".join(lines) + "\n" for lines in others))
+            path = file_of(
+                f"{change.__name__}.{os.path.basename(file)}", "".join("\n".join(lines) + "\n" for lines in others)
+            )
             places += places_of(path, others)
             counts[change] += len(others)
     status, report = run(*words, path_of(""))
@@ -169,28 +177,57 @@ SECOND_LINES = {
     "a word is no number": ["want compound 9 OK"],
     "the line goes on after its message": ["want compound 9 NFS4_OK 1", "want null 9 NFS4_OK", "take record 5"],
     "a lease is 1 to 86,400 seconds": [
-        "lease 0", "lease 86401", "lease +5", "epoch 4294967296", "moment 1099511627774", "at 1099511627774", "at",
-        "sweep 1099511627774 expired 0 kept 0", "revoke 1099511627774 none", "forget 1099511627774 none"],
+        "lease 0",
+        "lease 86401",
+        "lease +5",
+        "epoch 4294967296",
+        "moment 1099511627774",
+        "at 1099511627774",
+        "at",
+        "sweep 1099511627774 expired 0 kept 0",
+        "revoke 1099511627774 none",
+        "forget 1099511627774 none",
+    ],
     "no sweep": [
-        "sweep 9", "sweep 9 expired 0", "sweep 9 kept 0 expired 0", "sweep 9 expired one kept 0",
-        "sweep 9 expired +0 kept 0", "sweep 9 expired 0 kept 0 1", "sweep 9 expired 0 kept 0 revoked",
-        "sweep 9 expired 0 kept 0 revoked 0 1", "sweep 9 expired 0 kept 0 forgotten",
-        "sweep 9 expired 0 kept 0 forgotten one", "sweep 9 expired 0 kept 0 forgotten 1 revoked 1"],
+        "sweep 9",
+        "sweep 9 expired 0",
+        "sweep 9 kept 0 expired 0",
+        "sweep 9 expired one kept 0",
+        "sweep 9 expired +0 kept 0",
+        "sweep 9 expired 0 kept 0 1",
+        "sweep 9 expired 0 kept 0 revoked",
+        "sweep 9 expired 0 kept 0 revoked 0 1",
+        "sweep 9 expired 0 kept 0 forgotten",
+        "sweep 9 expired 0 kept 0 forgotten one",
+        "sweep 9 expired 0 kept 0 forgotten 1 revoked 1",
+    ],
     "no mark of a path": [
-        "mark 1 up", "mark 1 done", "mark 1 sideways done", "mark 4294967296 up done", "mark 1 up not",
-        "mark 1 up done 1"],
+        "mark 1 up",
+        "mark 1 done",
+        "mark 1 sideways done",
+        "mark 4294967296 up done",
+        "mark 1 up not",
+        "mark 1 up done 1",
+    ],
     "no revocation": ["revoke 9", "revoke 9 state", "revoke 9 state one", "revoke 9 none 1"],
     "no forgetting": [
-        "forget 9", "forget 9 owner 1", "forget 9 owner 1 A", 'forget 9 owner A "A"', 'forget 9 owner 1 "A" 1',
-        "forget 9 none 1"],
+        "forget 9",
+        "forget 9 owner 1",
+        "forget 9 owner 1 A",
+        'forget 9 owner A "A"',
+        'forget 9 owner 1 "A" 1',
+        "forget 9 none 1",
+    ],
     "a text has no closing quote": ['forget 9 owner 1 "A'],
     "no recall that is taken": ["take", "take bytes"],
     "no number of recalls": ["pending", "pending 1 2", "pending +1"],
     "no client to be tried": ["probe", "probe 0 1", "probe 0 client", "probe 4294967296 none"],
-    "no fault of a connection": ["fault input too short"]}
+    "no fault of a connection": ["fault input too short"],
+}
 WORDS = {
     "a word is no number": ["4294967296", "0x", "hex:123", "u64:18446744073709551616", "1*2*3", "+1", "u64:+1"],
-    "a message above 1,048,576 bytes": ["1000000*1000000"]}
+    "a message above 1,048,576 bytes": ["1000000*1000000"],
+}
 # Lines of other files, with the number of the one at fault and why it can't be read.
 BROKEN = [
     (["send null 7"], 1, "no row has begun"),
@@ -210,8 +247,12 @@ BROKEN = [
     (["row a", "  take nothing", "    5", "  want nothing"], 3, "no message has begun"),
     (["row a", "  want nothing", "  take record", "    LOKUP"], 4, "a word is no number"),
     *[(["row a", f"  {line}"], 2, reason) for reason, lines in SECOND_LINES.items() for line in lines],
-    *[(["row a", "  want nothing", "  send record", f"    {word}"], 4, reason) for reason, words in WORDS.items()
-      for word in words]]
+    *[
+        (["row a", "  want nothing", "  send record", f"    {word}"], 4, reason)
+        for reason, words in WORDS.items()
+        for word in words
+    ],
+]
 
 
 @needs_rows
@@ -276,9 +317,16 @@ os.write(1, journal[:-1] + bytes([journal[-1] ^ int.from_bytes(head, "big")]))
 PROGRAMS = {
     "no memory": ("#!/bin/sh\necho rows: out of memory >&2; exit 2\n", (2, "rows: out of memory\n"), ()),
     "ended": ("#!/bin/sh\nexit 7\n", (2, "rows: the program ends with status 7: \n"), ()),
-    "other journal": (OTHER_JOURNAL.format(python=sys.executable, program=PROGRAM),
-                      (1, "{row}:1: NULL\n    the journal differs from that of a run without shared state\n"
-                       "1 rows in 1 files: 1 failed, 0 files not read\n"), ("--shared",))}
+    "other journal": (
+        OTHER_JOURNAL.format(python=sys.executable, program=PROGRAM),
+        (
+            1,
+            "{row}:1: NULL\n    the journal differs from that of a run without shared state\n"
+            "1 rows in 1 files: 1 failed, 0 files not read\n",
+        ),
+        ("--shared",),
+    ),
+}
 
 
 @needs_rows

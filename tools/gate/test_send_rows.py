@@ -35,8 +35,10 @@ DATA = os.path.join(TOP, "crates/rows/data")
 GOES_ON = ["--listen", "127.0.0.1:0", "--until-input-ends"]
 MODEL = [sys.executable, os.path.join(TOP, "tools/model/serve.py"), *GOES_ON]
 needs_program = pytest.mark.needs("nfs4state")
-SERVERS = [pytest.param(MODEL, id="model"),
-           pytest.param([PROGRAM, "serve", *GOES_ON], id="program", marks=needs_program)]
+SERVERS = [
+    pytest.param(MODEL, id="model"),
+    pytest.param([PROGRAM, "serve", *GOES_ON], id="program", marks=needs_program),
+]
 # How many ids of clients a run of send_rows may have: each may be that of a live client until its lease is over.
 IDS_LIMIT = 250
 # How often a row is sent of which a reply is waited for a short while.
@@ -77,13 +79,18 @@ def port():
 @pytest.fixture(params=range(PARTS), ids="part {}".format)
 def files(request):
     """The files of a part of the rows."""
-    return list(files_of(DATA))[request.param::PARTS]
+    return list(files_of(DATA))[request.param :: PARTS]
 
 
 def send(*words):
     """The status of send_rows, and what it prints, of which the end is shown where a test fails."""
-    ran = subprocess.run([sys.executable, os.path.join(TOP, "tools/send_rows"), *words], stdout=subprocess.PIPE,
-                         stderr=subprocess.STDOUT, text=True, timeout=PATIENCE)
+    ran = subprocess.run(
+        [sys.executable, os.path.join(TOP, "tools/send_rows"), *words],
+        stdout=subprocess.PIPE,
+        stderr=subprocess.STDOUT,
+        text=True,
+        timeout=PATIENCE,
+    )
     print(ran.stdout[-10_000:])
     return ran.returncode, ran.stdout
 
@@ -108,11 +115,14 @@ def count_alone():
 def ending(known=0):
     """What is told at last, where all rows are sent that can be."""
     told = f", {known} differ as is known" if known else ""
-    return (f"{len(all_rows()) - count_alone()} rows: 0 failed{told}, {count_alone()} that need a server that has just "
-            "been started are left out\n")
+    return (
+        f"{len(all_rows()) - count_alone()} rows: 0 failed{told}, {count_alone()} that need a server that has just "
+        "been started are left out\n"
+    )
 
 
 # By names.
+
 
 @pytest.mark.parametrize("command", SERVERS)
 def test_all(command, path_of, tell):
@@ -133,14 +143,17 @@ def test_elsewhere(path_of, file_of):
     tree, known = file_of("tree.toml", TREE), file_of("known", KNOWN)
     tap, junit = path_of("tap"), path_of("junit")
     with serving([*MODEL, "--epoch", "7", "--tree", tree]) as port:
-        got = send_named(port, DATA, "--path", "export/rows", "--uid", "500", "--known", known, "--tap", tap, "--junit",
-                         junit)
+        got = send_named(
+            port, DATA, "--path", "export/rows", "--uid", "500", "--known", known, "--tap", tap, "--junit", junit
+        )
     assert got == (0, ending(known=2))
     count, alone = len(all_rows()), count_alone()
     with open(tap, encoding="utf-8") as source:
         lines = source.read().split("\n")
-    *kinds, sections = [sum(bool(re.search(kind, line)) for line in lines) for kind in (
-        "^ok .* # SKIP", "^not ok", "^not ok .* # TODO", "^ok [0-9]+ - [^#]*$", "^# RFC 7530, ")]
+    *kinds, sections = [
+        sum(bool(re.search(kind, line)) for line in lines)
+        for kind in ("^ok .* # SKIP", "^not ok", "^not ok .* # TODO", "^ok [0-9]+ - [^#]*$", "^# RFC 7530, ")
+    ]
     assert lines[1] == f"1..{count}" and kinds == [alone, 2, 2, count - alone - 2]
     assert sections > (count - alone) // 2
     suite = ElementTree.parse(junit).getroot()
@@ -185,12 +198,19 @@ OPENED = """
     OPEN NFS4_OK 1 1 1 7 1 u64:0 u64:0 6 0 0"""
 # Rows that have to fail, with what is said of them; each that opens a file keeps all others from it.
 WRONG = [
-    ("sections RFC 7530, 16.16, 9.1.4" + INTRODUCED + OPENED.replace("OPEN NFS4_OK 1", "OPEN NFS4_OK 2"),
-     "(RFC 7530, 16.16, 9.1.4)\n    call 2, OPEN: seqid wanted 2, got 1\n"),
+    (
+        "sections RFC 7530, 16.16, 9.1.4" + INTRODUCED + OPENED.replace("OPEN NFS4_OK 1", "OPEN NFS4_OK 2"),
+        "(RFC 7530, 16.16, 9.1.4)\n    call 2, OPEN: seqid wanted 2, got 1\n",
+    ),
     (INTRODUCED + OPENED.replace("6 0 0", "4 0 0"), "call 2, OPEN: rflags wanted 4, got 6\n"),
-    (INTRODUCED + OPENED + OPENED.replace(" 1 1 1 7 ", " 1 1 1 8 "),
-     "call 3, OPEN: stateid wanted a new one (the row's 1 1 8), got "),
-    (INTRODUCED + OPENED + """
+    (
+        INTRODUCED + OPENED + OPENED.replace(" 1 1 1 7 ", " 1 1 1 8 "),
+        "call 3, OPEN: stateid wanted a new one (the row's 1 1 8), got ",
+    ),
+    (
+        INTRODUCED
+        + OPENED
+        + """
   send compound 3
     PUTROOTFH
     LOOKUP "a"
@@ -198,26 +218,41 @@ WRONG = [
   want compound 3 NFS4_OK
     PUTROOTFH NFS4_OK
     LOOKUP NFS4_OK
-    CLOSE NFS4_OK 2 1 1 8""", "call 3, CLOSE: status wanted NFS4_OK, got NFS4ERR_BAD_STATEID\n"),
-    (INTRODUCED + INTRODUCED.replace("u64:1", "u64:2").replace("OK 1 1", "OK 1 2"),
-     "call 2, SETCLIENTID: clientid wanted a new one (the row's 1 2), got "),
-    (INTRODUCED.replace("_CONFIRM 1 1 u64:1", "_CONFIRM 1 1 u64:3"),
-     "call 1, SETCLIENTID_CONFIRM: status wanted NFS4_OK, got NFS4ERR_STALE_CLIENTID\n"),
-    ("""send compound 1
+    CLOSE NFS4_OK 2 1 1 8""",
+        "call 3, CLOSE: status wanted NFS4_OK, got NFS4ERR_BAD_STATEID\n",
+    ),
+    (
+        INTRODUCED + INTRODUCED.replace("u64:1", "u64:2").replace("OK 1 1", "OK 1 2"),
+        "call 2, SETCLIENTID: clientid wanted a new one (the row's 1 2), got ",
+    ),
+    (
+        INTRODUCED.replace("_CONFIRM 1 1 u64:1", "_CONFIRM 1 1 u64:3"),
+        "call 1, SETCLIENTID_CONFIRM: status wanted NFS4_OK, got NFS4ERR_STALE_CLIENTID\n",
+    ),
+    (
+        """send compound 1
     PUTROOTFH
     GETFH
   want compound 1 NFS4_OK
     PUTROOTFH NFS4_OK
-    GETFH NFS4_OK 8 0x6e666831 1""", "call 1, GETFH: filehandle wanted "),
-    ("""send compound 1
+    GETFH NFS4_OK 8 0x6e666831 1""",
+        "call 1, GETFH: filehandle wanted ",
+    ),
+    (
+        """send compound 1
     PUTROOTFH
   want compound 1 NFS4_OK
     PUTROOTFH NFS4_OK
-    GETFH NFS4_OK 8 0x6e666831 0""", "call 1, operation 2: wanted GETFH, got no result\n"),
+    GETFH NFS4_OK 8 0x6e666831 0""",
+        "call 1, operation 2: wanted GETFH, got no result\n",
+    ),
     ("send null 1\n  want compound 1 NFS4_OK", "call 1: number of results wanted 0, got none\n"),
-    ("""send arguments 1
+    (
+        """send arguments 1
     0 1 0
-  want compound 1 NFS4_OK""", "call 1: status of the COMPOUND wanted NFS4_OK, got NFS4ERR_MINOR_VERS_MISMATCH\n"),
+  want compound 1 NFS4_OK""",
+        "call 1: status of the COMPOUND wanted NFS4_OK, got NFS4ERR_MINOR_VERS_MISMATCH\n",
+    ),
     ("send bytes\n    0x80040001 1\n  want null 1", "call 1: the connection ends without a reply\n"),
     ("send null 1\n  want null 1\n  want null 2", "    after the last call: no reply\n"),
 ]
@@ -238,8 +273,10 @@ def test_wrong(port, file_of):
     status, said = send_named(port, path)
     for number, (_, words) in enumerate(WRONG):
         assert re.search(rf": wrong {number}( .*)?\n", said) and words in said
-    assert status == 1 and said.endswith(f"\n{len(WRONG) + 1} rows: {len(WRONG)} failed, 1 that need a server that has "
-                                         "just been started are left out\n")
+    assert status == 1 and said.endswith(
+        f"\n{len(WRONG) + 1} rows: {len(WRONG)} failed, 1 that need a server that has "
+        "just been started are left out\n"
+    )
     assert send_named(port, path, "--only", "it passes") == (0, "1 rows: 0 failed\n")
     got = send_named(port, path, "--only", "no such row")
     assert got == (1, "send_rows: there is no row 'no such row'\n")
@@ -283,10 +320,12 @@ def test_refused(kind, text, words, file_of):
 def test_other_server():
     """The rows that another server is known to answer otherwise are there."""
     assert set(read_known(os.path.join(TOP, "tools/ganesha.known"))) <= {
-        title(row) for row in all_rows() if not row.is_alone}
+        title(row) for row in all_rows() if not row.is_alone
+    }
 
 
 # Byte by byte.
+
 
 def test_plain(port, file_of):
     """Without names a row that comes again fails, by words."""
@@ -302,8 +341,16 @@ SWEEP = "row NULL\n  send null 7\n  want null 7\nrow of a sweep\n  want nothing\
 
 
 def test_model(file_of):
-    with Served([sys.executable, os.path.join(TOP, "tools/model/serve.py"), "--each", "--until-killed", "--listen",
-                 "127.0.0.1:0"]) as served:
+    with Served(
+        [
+            sys.executable,
+            os.path.join(TOP, "tools/model/serve.py"),
+            "--each",
+            "--until-killed",
+            "--listen",
+            "127.0.0.1:0",
+        ]
+    ) as served:
         server = "127.0.0.1", str(served.port)
         files = [f"{DATA}/{name}.rows" for name in ("rpc", "lookup", "open", "lock")]
         for words in ["--portable", *server, DATA], [*server, *files]:
@@ -325,6 +372,7 @@ def test_no_server():
 
 
 # With a server for each row.
+
 
 def is_refused(row):
     """Whether it wants its tree refused."""
@@ -365,7 +413,8 @@ WRONG_ALONE = {
   want compound 9 NFS4_OK
     PUTROOTFH NFS4_OK
     GETATTR NFS4_OK 1 0x400 4 90
-"""}
+""",
+}
 
 
 @needs_program

@@ -11,6 +11,7 @@ pytestmark = pytest.mark.needs("rt")
 
 @pytest.mark.long
 def test_serial():
-    ran = subprocess.run([os.path.join(TOP, "tools/try_serial")], stdout=subprocess.PIPE, stderr=subprocess.STDOUT,
-                         text=True)
+    ran = subprocess.run(
+        [os.path.join(TOP, "tools/try_serial")], stdout=subprocess.PIPE, stderr=subprocess.STDOUT, text=True
+    )
     assert ran.returncode == 0, ran.stdout

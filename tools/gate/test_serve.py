@@ -22,16 +22,35 @@ from resource import RLIMIT_AS, RLIMIT_NOFILE, setrlimit
 
 import pytest
 
-from gate.crowd import (GOOD, MOST, garbage, never_read, read_late, reset, run_crowd, send_garbage, stop_within,
-                        wait_for)
+from gate.crowd import GOOD, MOST, garbage, never_read, read_late, reset, run_crowd, send_garbage, stop_within, wait_for
 from gate.trial import Late, greet, judged, lawful_journal, peer_of, tried_again
 from model.entries import Expire, Revoke
 from model.program import Program, bytes_of
 from model.tree import DEFAULT
 from nfs4.client import FILES, Client, done, expect, under, Wrong
-from nfs4.messages import (CLOSE, COMPOUND, DELEGRETURN, GETATTR, LOCKT, LOOKUP, NFS4ERR_RESOURCE, NFS4_OK, NULL, OPEN,
-                           PUTFH, PUTROOTFH, RENEW, TYPE_SIZE_FILEID, call, compound, handle, lookup, reply, results,
-                           words)
+from nfs4.messages import (
+    CLOSE,
+    COMPOUND,
+    DELEGRETURN,
+    GETATTR,
+    LOCKT,
+    LOOKUP,
+    NFS4ERR_RESOURCE,
+    NFS4_OK,
+    NULL,
+    OPEN,
+    PUTFH,
+    PUTROOTFH,
+    RENEW,
+    TYPE_SIZE_FILEID,
+    call,
+    compound,
+    handle,
+    lookup,
+    reply,
+    results,
+    words,
+)
 from nfs4.served import NO_CALLBACKS, PATIENCE, PROGRAM, Served, TOP, with_interrupts
 from nfs4.wire import Status, opaque, split_records
 
@@ -65,6 +84,7 @@ def expect_end(served, *faults, what=None):
 
 
 # What is wrong with a connection.
+
 
 def test_garbage():
     for data in garbage():
@@ -118,6 +138,7 @@ def test_replies_before_a_fault():
 
 # The crowd.
 
+
 def test_crowd(path_of, tell):
     path = path_of("crowd.journal")
     with serve("--epoch", "7", "--journal", path, connections=MOST) as served:
@@ -134,8 +155,10 @@ def test_crowd(path_of, tell):
     numbers = [client.number for client in clients]
     expect("how many client numbers", len(set(numbers)), GOOD)
     calls = sum(len(client.sent) for client in clients)
-    tell(f"{GOOD} clients among {MOST} connections got each of their {calls} replies, and the journal of "
-         f"{len(journal.entries)} entries is lawful")
+    tell(
+        f"{GOOD} clients among {MOST} connections got each of their {calls} replies, and the journal of "
+        f"{len(journal.entries)} entries is lawful"
+    )
 
 
 # A lease.
@@ -227,8 +250,15 @@ def after_the_lease(gone, watcher):
     """Stateids of a client whose lease has ended are EXPIRED, also from another connection, and its clientid is
     STALE_CLIENTID."""
     last = gone.last + 1
-    gone.refuse(Status.EXPIRED, gone.close_words(last), gone.downgrade_words(last), gone.open_confirm_words(last),
-                gone.first_lock_words(last), gone.next_lock_words(2), gone.locku_words(2))
+    gone.refuse(
+        Status.EXPIRED,
+        gone.close_words(last),
+        gone.downgrade_words(last),
+        gone.open_confirm_words(last),
+        gone.first_lock_words(last),
+        gone.next_lock_words(2),
+        gone.locku_words(2),
+    )
     watcher.want(*under(1, gone.close_words(last), done(CLOSE, status=Status.EXPIRED)))
     for operation in gone.renew_words(), gone.release_words():
         opnum = int.from_bytes(operation[:4], "big")
@@ -242,7 +272,7 @@ def expect_expiry(path, journal, gone):
     """The journal says that this client's lease ended, and nobody else's, and so do its words."""
     ends = [(number, entry) for number, entry in enumerate(journal.entries) if isinstance(entry, Expire)]
     expect("who expires", [entry.client for _, entry in ends], [gone.number])
-    (number, entry), = ends
+    ((number, entry),) = ends
     if not entry.seen + journal.lease < entry.now:
         raise Wrong(f"an end of the lease at {entry.now}, seen at {entry.seen}")
     show = [os.path.join(TOP, "tools/show_journal"), path]
@@ -262,7 +292,7 @@ def test_lease(path_of, tell):
     journal = judged(path, gone, other, watcher)
     expect_expiry(path, journal, gone)
     # All connections' moments are whole seconds since the same start.
-    last, = (entry.moment for entry in journal.entries if getattr(entry, "principal", None) == (1, LATE))
+    (last,) = (entry.moment for entry in journal.entries if getattr(entry, "principal", None) == (1, LATE))
     if not moment <= last <= time.monotonic() - begun:
         raise Wrong(f"a call comes at {last}, {moment} seconds after the first")
     tell(f"a lease of 1 second ended after {seconds:.1f}")
@@ -344,11 +374,14 @@ def test_quiet(path_of, tell):
     if took > HARDLY_ANY:
         raise Wrong(f"a server that nobody calls takes {took:.2f} seconds of processor time in {QUIET}")
     expect_expiry(path, lawful_journal(PROGRAM, path), gone)
-    tell(f"in {QUIET} seconds without a call it took {took:.2f} of processor time, and a lease of as many ended "
-         f"after {seconds:.1f}")
+    tell(
+        f"in {QUIET} seconds without a call it took {took:.2f} of processor time, and a lease of as many ended "
+        f"after {seconds:.1f}"
+    )
 
 
 # Beginnings and ends.
+
 
 @tried_again
 def test_addresses(path_of):
@@ -432,9 +465,13 @@ def test_defaults():
             expect("it runs", served.is_running(), True)
             greet(served, uid)
         expect_end(served)
-    for options, words_of_it in (((), b"3 files, lease 90 s, epoch 1"), (
+    for options, words_of_it in (
+        ((), b"3 files, lease 90 s, epoch 1"),
+        (
             ("--tree", os.path.join(TOP, "samples/letters.toml"), "--lease", "33", "--epoch", "7"),
-            b"1 files, lease 33 s, epoch 7")):
+            b"1 files, lease 33 s, epoch 7",
+        ),
+    ):
         with begin("--listen", "127.0.0.1:0", "--connections", "1", *options) as served:
             expect("what is served", served.read_line(), b"serving " + words_of_it + b"\n")
             peer_of(served).socket.close()
@@ -515,6 +552,7 @@ def test_full_journal(path_of):
 
 # Memory and threads, and records that are cut.
 
+
 def long_call(xid, uid):
     """A record of 262,144 bytes, and its reply, which is nearly as long."""
     tag = 262144 - len(call(xid, COMPOUND, words(0, 0, 2, PUTROOTFH, GETATTR, 0), uid=uid)) + 4 - 2048
@@ -571,8 +609,10 @@ def test_memory(tell):
         expect_end(served)
     if in_use * 1024 > IN_USE:
         raise Wrong(f"{in_use} kB in use, above {IN_USE // 1024}")
-    tell(f"{MOST} connections, each within a record of 262,144 bytes, took {in_use >> 10} MB, of "
-         f"{addresses >> 10} MB of addresses")
+    tell(
+        f"{MOST} connections, each within a record of 262,144 bytes, took {in_use >> 10} MB, of "
+        f"{addresses >> 10} MB of addresses"
+    )
 
 
 def test_threads(preloaded):
@@ -642,8 +682,9 @@ def test_cuts():
         client = Client(peer, 1)
         client.introduce()
         sent = compound(9, words(PUTROOTFH), lookup(b"a"), words(GETATTR, 1, TYPE_SIZE_FILEID), uid=1)
-        wanted = results(9, NFS4_OK, done(PUTROOTFH), done(LOOKUP),
-                         done(GETATTR, words(1, TYPE_SIZE_FILEID, 20, 1, 0, 5, 0, 2)))
+        wanted = results(
+            9, NFS4_OK, done(PUTROOTFH), done(LOOKUP), done(GETATTR, words(1, TYPE_SIZE_FILEID, 20, 1, 0, 5, 0, 2))
+        )
         for cut in range(len(sent) + 1):
             peer.send(call(8, NULL) + sent[:cut])
             expect(f"a reply before a cut at {cut}", peer.receive(), reply(8))

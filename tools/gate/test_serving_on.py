@@ -24,8 +24,21 @@ from model.journal import Growing, journal_bytes
 from model.program import bytes_of
 from model.server import CLIENTS_LIMIT
 from nfs4.client import FILES, Client, done, expect, Wrong
-from nfs4.messages import (GETATTR, NFS4ERR_RESOURCE, NFS4_OK, NULL, PUTROOTFH, SETCLIENTID, call, compound, opening,
-                           reply, results, setclientid, words)
+from nfs4.messages import (
+    GETATTR,
+    NFS4ERR_RESOURCE,
+    NFS4_OK,
+    NULL,
+    PUTROOTFH,
+    SETCLIENTID,
+    call,
+    compound,
+    opening,
+    reply,
+    results,
+    setclientid,
+    words,
+)
 from nfs4.served import NO_CALLBACKS, PATIENCE, PROGRAM, REPLY_PATIENCE, Served, TOP
 from nfs4.wire import opaque
 
@@ -70,6 +83,7 @@ def expect_no_part(path):
 
 # Many connections.
 
+
 def be_client(served, uid, rounds):
     """A client over a connection of its own."""
     with peer_of(served) as peer:
@@ -106,6 +120,7 @@ def test_many(path_of, tell):
 
 
 # The journal as it goes.
+
 
 def beginning(data):
     """The journal of a beginning, all of whose entries are whole."""
@@ -187,8 +202,8 @@ def test_journal(path_of):
     expect_no_part(path)
     journal = lawful_journal(PROGRAM, path)
     empty = journal_bytes(journal._replace(entries=[]))
-    expect("the beginning of the journal", bytes_of(path)[len(empty):].startswith(part[len(empty):]), True)
-    expect("its head", part[:len(empty)], empty)
+    expect("the beginning of the journal", bytes_of(path)[len(empty) :].startswith(part[len(empty) :]), True)
+    expect("its head", part[: len(empty)], empty)
 
 
 def expect_replies(peer, sent, count=1):
@@ -215,7 +230,7 @@ def test_long_entries(path_of):
         part = part_of(path, 84 + 4 * 50 * 63)
         expect_end(served)
     empty = journal_bytes(lawful_journal(PROGRAM, path)._replace(entries=[]))
-    expect("the journal as it went", part[len(empty):], bytes_of(path)[len(empty):])
+    expect("the journal as it went", part[len(empty) :], bytes_of(path)[len(empty) :])
 
 
 def test_unwritten(path_of):
@@ -229,8 +244,10 @@ def test_unwritten(path_of):
     with open(taken + ".part", "wb") as file:
         file.write(b"an earlier one")
     for path, told_first, fault in [
-            (missing, [re.escape(f"{missing}.part: ") + ".*"], "No such file.*"),
-            (folder, [], "Is a directory.*"), (taken, [re.escape(f"{taken}.part: ") + ".*"], None)]:
+        (missing, [re.escape(f"{missing}.part: ") + ".*"], "No such file.*"),
+        (folder, [], "Is a directory.*"),
+        (taken, [re.escape(f"{taken}.part: ") + ".*"], None),
+    ]:
         with serve("--journal", path) as served:
             clients[path] = be_client(served, 1, 2)
             # More than is written at once.
@@ -268,6 +285,7 @@ def test_cut(path_of):
 
 
 # Ends.
+
 
 def replies_to(peer, sent, count):
     """The replies to so many calls, of which each is empty once the connection has ended. Where the calls come behind
@@ -424,7 +442,7 @@ def test_refused():
             peer.send(call(7, NULL))
         for place, peer in enumerate(peers):
             expect("the reply to one for which there is room", peer.receive(), reply(7))
-            for other in peers[place + 1:]:
+            for other in peers[place + 1 :]:
                 expect("a reply to one that waits", not waits_for_reply(other), True)
             begun, pause = served.processor_seconds(), 0.5
             time.sleep(pause)

@@ -9,22 +9,61 @@ import pytest
 from gate.judge_clients import Direct, LAST, NOWHERE, RightClient, Span, ZEROS, read_span, write_span
 from gate.row_journals import ROW_FILES, journal_of, rows_of
 from judging.findings import SORTS
-from judging.situations import (CLIENTS, DELEGATIONS, LOCKS, OPENS, SEQUENCE_IDS, SITUATIONS, listing, missing, require,
-                                situation_name, table)
+from judging.situations import (
+    CLIENTS,
+    DELEGATIONS,
+    LOCKS,
+    OPENS,
+    SEQUENCE_IDS,
+    SITUATIONS,
+    listing,
+    missing,
+    require,
+    situation_name,
+    table,
+)
 from judging.situations_met import SituationsMet
 from model.journal import Recorder
 from model.ranges import ALL_ONES
 from model.reasons import Replay
 from model.tree import DEFAULT, Tree
-from nfs4.wire import (CLAIM_PREVIOUS, Claim, Close, Nothing, OPEN_DELEGATE_NONE, Opnum, Putfh, Read, Setclientid,
-                       Stateid, Status, WRITEW_LT)
+from nfs4.wire import (
+    CLAIM_PREVIOUS,
+    Claim,
+    Close,
+    Nothing,
+    OPEN_DELEGATE_NONE,
+    Opnum,
+    Putfh,
+    Read,
+    Setclientid,
+    Stateid,
+    Status,
+    WRITEW_LT,
+)
 
 pytestmark = pytest.mark.quick
 
 # How many sections the RFC has below each of these; in section 16 each operation has its own.
-PARTS = {"": 21, "9": 14, "9.1": 11, "9.1.4": 6, "9.6": 3, "9.6.3": 4, "10": 9, "10.4": 7, "13": 4, "13.1": 12,
-         "13.1.1": 7, "16": 38, **{f"16.{number}": 5 for number in range(1, 39)}, "16.5": 4, "16.6": 4, "16.16": 6,
-         "16.19": 4}
+PARTS = {
+    "": 21,
+    "9": 14,
+    "9.1": 11,
+    "9.1.4": 6,
+    "9.6": 3,
+    "9.6.3": 4,
+    "10": 9,
+    "10.4": 7,
+    "13": 4,
+    "13.1": 12,
+    "13.1.1": 7,
+    "16": 38,
+    **{f"16.{number}": 5 for number in range(1, 39)},
+    "16.5": 4,
+    "16.6": 4,
+    "16.16": 6,
+    "16.19": 4,
+}
 FILE, LENT = (b"a",), '[policy]\ndelegations = "all"\ncallbacks = "assume"\n'
 
 
@@ -38,6 +77,7 @@ def counts_of(journal):
 
 
 # The situations themselves.
+
 
 def test_names():
     """One name for each, and none is a finding's."""
@@ -66,6 +106,7 @@ def test_row(name):
 
 # Stories.
 
+
 class Story:
     """A server in memory, and clients that do right."""
 
@@ -91,7 +132,6 @@ class Story:
     def reopen(self, client, opened, share=(3, 0)):
         """Its owner opens `a` once more."""
         assert client.do(client.opening(opened.owner, FILE, share)) == Status.OK
-
 
     def expire(self, client):
         """Its lease ends."""
@@ -124,11 +164,27 @@ def lost_replies(story):
     done(client, client.unlocking(held))
     done(client, client.downgrading(opened, (1, 0)))
     done(client, client.closing(opened))
-    retransmitted = {f"retransmission-of-{name}": 1 for name in (
-        "setclientid-confirm", "open-confirm", "open-downgrade", "close", "lock-of-new-owner", "lock-of-known-owner",
-        "locku")}
-    return {b"c1": {"open-confirmed": 1, "open-downgraded": 1, "setclientid-repeated": 1, "retransmission-of-open": 2,
-                    **retransmitted}}
+    retransmitted = {
+        f"retransmission-of-{name}": 1
+        for name in (
+            "setclientid-confirm",
+            "open-confirm",
+            "open-downgrade",
+            "close",
+            "lock-of-new-owner",
+            "lock-of-known-owner",
+            "locku",
+        )
+    }
+    return {
+        b"c1": {
+            "open-confirmed": 1,
+            "open-downgraded": 1,
+            "setclientid-repeated": 1,
+            "retransmission-of-open": 2,
+            **retransmitted,
+        }
+    }
 
 
 def lost_refusals(story):
@@ -142,8 +198,16 @@ def lost_refusals(story):
     first.stateid = first.stateid._replace(seqid=9)
     done(client, client.closing(first), Status.BAD_STATEID)
     client.again()
-    return {b"c1": {"open-confirmed": 1, "share-denied": 2, "counted-refusal-of-open-downgrade": 1,
-                    "retransmission-of-open-downgrade": 1, "retransmission-of-refusal": 1, "uncounted-bad-stateid": 2}}
+    return {
+        b"c1": {
+            "open-confirmed": 1,
+            "share-denied": 2,
+            "counted-refusal-of-open-downgrade": 1,
+            "retransmission-of-open-downgrade": 1,
+            "retransmission-of-refusal": 1,
+            "uncounted-bad-stateid": 2,
+        }
+    }
 
 
 def refusals(story):
@@ -164,9 +228,17 @@ def refusals(story):
     client.call((Opnum.CLOSE, Close(8, opened.stateid)))
     opened.stateid = ZEROS
     done(client, client.closing(opened), Status.BAD_STATEID)
-    return {b"c1": {"open-confirmed": 2, "share-denied": 1, "lock-denied": 1, "blocking-lock-denied": 1,
-                    "uncounted-nofilehandle": 1, **{f"counted-refusal-of-{name}": 1 for name in (
-                        "open", "lock", "locku", "open-confirm", "close")}}, None: {"uncounted-bad-stateid": 1}}
+    return {
+        b"c1": {
+            "open-confirmed": 2,
+            "share-denied": 1,
+            "lock-denied": 1,
+            "blocking-lock-denied": 1,
+            "uncounted-nofilehandle": 1,
+            **{f"counted-refusal-of-{name}": 1 for name in ("open", "lock", "locku", "open-confirm", "close")},
+        },
+        None: {"uncounted-bad-stateid": 1},
+    }
 
 
 def unconfirmed(story):
@@ -212,8 +284,15 @@ def locks_that_meet(story):
     """Only bytes of one mode are joined, if one of them isn't held yet."""
     client = story.client()
     opened = story.open(client)
-    for span in (write_span(0, 5), read_span(5, 5), read_span(20, 5), read_span(10, 10), read_span(6, 12),
-                 write_span(40, 5), read_span(40, 10)):
+    for span in (
+        write_span(0, 5),
+        read_span(5, 5),
+        read_span(20, 5),
+        read_span(10, 10),
+        read_span(6, 12),
+        write_span(40, 5),
+        read_span(40, 10),
+    ):
         story.lock(client, opened, span)
     return {b"c1": {"open-confirmed": 1, "lock-merged": 1, "lock-downgraded": 1}}
 
@@ -246,9 +325,18 @@ def denied(story):
     story.lock(second, opened)
     done(second, second.testing(second.locker(b"x"), opened.handle, read_span()))
     story.lock(second, opened)
-    return {b"c1": {"open-confirmed": 1},
-            b"c2": {"open-confirmed": 1, "counted-refusal-of-lock": 3, "lock-denied": 3, "lock-denied-then-given": 1,
-                    "lock-merged": 1, "lock-test-denied": 1, "two-lock-owners": 1}}
+    return {
+        b"c1": {"open-confirmed": 1},
+        b"c2": {
+            "open-confirmed": 1,
+            "counted-refusal-of-lock": 3,
+            "lock-denied": 3,
+            "lock-denied-then-given": 1,
+            "lock-merged": 1,
+            "lock-test-denied": 1,
+            "two-lock-owners": 1,
+        },
+    }
 
 
 def lock_owners(story):
@@ -265,8 +353,15 @@ def lock_owners(story):
     done(client, client.closing(opened))
     done(client, client.releasing(client.locker(b"z")))
     done(client, client.releasing(client.locker(b"x")))
-    return {b"c1": {"open-confirmed": 1, "two-lock-owners": 1, "close-frees-locks": 1, "known-lock-owner-as-new": 1,
-                    "lock-owner-released": 1}}
+    return {
+        b"c1": {
+            "open-confirmed": 1,
+            "two-lock-owners": 1,
+            "close-frees-locks": 1,
+            "known-lock-owner-as-new": 1,
+            "lock-owner-released": 1,
+        }
+    }
 
 
 def restarts(story):
@@ -293,8 +388,15 @@ def principals(story):
     done(first, first.introducing(), Status.CLID_INUSE)
     story.expire(other)
     done(first, first.introducing())
-    return {b"c1": {"two-principals": 2, "client-restarted": 1, "open-confirmed": 1, "lease-ended": 1,
-                    "lease-ended-and-back": 1}}
+    return {
+        b"c1": {
+            "two-principals": 2,
+            "client-restarted": 1,
+            "open-confirmed": 1,
+            "lease-ended": 1,
+            "lease-ended-and-back": 1,
+        }
+    }
 
 
 def another_run(story):
@@ -306,8 +408,10 @@ def another_run(story):
     opened.stateid = opened.stateid._replace(epoch=7)
     done(client, client.closing(opened), Status.STALE_STATEID)
     done(client, client.reading(opened), Status.STALE_STATEID)
-    return {b"c1": {"open-confirmed": 1},
-            None: {"uncounted-stale-clientid": 1, "uncounted-stale-stateid": 1, "server-restarted": 3}}
+    return {
+        b"c1": {"open-confirmed": 1},
+        None: {"uncounted-stale-clientid": 1, "uncounted-stale-stateid": 1, "server-restarted": 3},
+    }
 
 
 def wrapped(story):
@@ -328,8 +432,16 @@ def wrapped(story):
     story.open(client, b"D")
     client.owner(b"D").seqid = 4
     story.open(client, b"D")
-    return {b"c1": {"open-confirmed": 1, "sequence-id-wrapped": 3, "two-lock-owners": 1, "known-lock-owner-as-new": 1,
-                    "two-open-owners": 3, "owner-begun-anew": 1}}
+    return {
+        b"c1": {
+            "open-confirmed": 1,
+            "sequence-id-wrapped": 3,
+            "two-lock-owners": 1,
+            "known-lock-owner-as-new": 1,
+            "two-open-owners": 3,
+            "owner-begun-anew": 1,
+        }
+    }
 
 
 def forgotten(story):
@@ -355,8 +467,25 @@ def special(story):
     return {b"c1": {"open-confirmed": 1, "read-or-write-by-lock": 1}, None: {"special-stateid": 1}}
 
 
-STORIES = [plain, lost_replies, lost_refusals, refusals, unconfirmed, shares, locks_that_change, locks_that_meet,
-           far_locks, denied, lock_owners, restarts, principals, another_run, wrapped, forgotten, special]
+STORIES = [
+    plain,
+    lost_replies,
+    lost_refusals,
+    refusals,
+    unconfirmed,
+    shares,
+    locks_that_change,
+    locks_that_meet,
+    far_locks,
+    denied,
+    lock_owners,
+    restarts,
+    principals,
+    another_run,
+    wrapped,
+    forgotten,
+    special,
+]
 
 
 def recalled(story):
@@ -372,9 +501,17 @@ def recalled(story):
     done(first, first.giving_back(first.lent[0]))
     story.open(second)
     story.open(second)
-    return {b"c1": {"open-confirmed": 1, "delegation-for-writing": 1, "read-by-delegation": 1,
-                    "write-by-delegation": 1, "open-by-delegation": 1, "recall-returned-in-time": 1},
-            b"c2": {"open-confirmed": 1, "delay-and-retry": 1}}
+    return {
+        b"c1": {
+            "open-confirmed": 1,
+            "delegation-for-writing": 1,
+            "read-by-delegation": 1,
+            "write-by-delegation": 1,
+            "open-by-delegation": 1,
+            "recall-returned-in-time": 1,
+        },
+        b"c2": {"open-confirmed": 1, "delay-and-retry": 1},
+    }
 
 
 def revoked(story):
@@ -389,8 +526,15 @@ def revoked(story):
     story.server.mark_path(second.clientid[1], 1)
     story.server.revoke(story.server.moment + 91)
     done(first, first.reading(first.lent[0]), Status.BAD_STATEID)
-    return {b"c1": {"open-confirmed": 1, "delegation-for-reading": 2, "delegation-returned-unasked": 1,
-                    "callback-path-down": 1, "delegation-revoked": 1}}
+    return {
+        b"c1": {
+            "open-confirmed": 1,
+            "delegation-for-reading": 2,
+            "delegation-returned-unasked": 1,
+            "callback-path-down": 1,
+            "delegation-revoked": 1,
+        }
+    }
 
 
 def delayed_then_denied(story):
@@ -402,8 +546,10 @@ def delayed_then_denied(story):
     story.reopen(first, first.opens[0], (1, 2))
     done(first, first.giving_back(first.lent[0]))
     story.open(second, wanted=Status.SHARE_DENIED)
-    return {b"c1": {"open-confirmed": 1, "delegation-for-reading": 1, "open-upgraded": 1, "recall-returned-in-time": 1},
-            b"c2": {"share-denied": 1}}
+    return {
+        b"c1": {"open-confirmed": 1, "delegation-for-reading": 1, "open-upgraded": 1, "recall-returned-in-time": 1},
+        b"c2": {"share-denied": 1},
+    }
 
 
 STORIES_OF_DELEGATIONS = [recalled, revoked, delayed_then_denied]
@@ -419,8 +565,11 @@ def test_story(tell):
 
 # The lines.
 
-COUNTS = {b"c1": Counter({"lock-split": 2, "share-denied": 1}), b"c2": Counter({"lock-split": 1}),
-          None: Counter({"special-stateid": 4})}
+COUNTS = {
+    b"c1": Counter({"lock-split": 2, "share-denied": 1}),
+    b"c2": Counter({"lock-split": 1}),
+    None: Counter({"special-stateid": 4}),
+}
 
 
 def test_table():
@@ -430,8 +579,10 @@ def test_table():
     told = [line.split(None, 2) for line in lines]
     assert [name for name, *_ in told] == list(SITUATIONS)
     assert {name: words for name, *words in told if words != ["0"]} == {
-        "lock-split": ["3", '"c1" 2, "c2" 1'], "share-denied": ["1", '"c1" 1'],
-        "special-stateid": ["4", "of no client 4"]}
+        "lock-split": ["3", '"c1" 2, "c2" 1'],
+        "share-denied": ["1", '"c1" 1'],
+        "special-stateid": ["4", "of no client 4"],
+    }
 
 
 def test_listing():
@@ -439,9 +590,10 @@ def test_listing():
     lines = listing()
     assert lines[::3] == [f"{it.name} (RFC 7530, {it.section})" for it in SITUATIONS.values()]
     place = lines.index("share-denied (RFC 7530, 9.9)")
-    assert lines[place + 1:place + 3] == [
+    assert lines[place + 1 : place + 3] == [
         "    OPEN is refused by SHARE_DENIED, because an open of another owner conflicts.",
-        "    crates/rows/data/share.rows, row the deny of an open meets the access of an OPEN"]
+        "    crates/rows/data/share.rows, row the deny of an open meets the access of an OPEN",
+    ]
 
 
 def test_required():
@@ -451,7 +603,8 @@ def test_required():
     assert require(names, COUNTS) == [
         "lock-merged (RFC 7530, 16.10.5) was required, and no client met it: LOCK adds bytes to others that the "
         "owner holds in the same mode: the ranges become one. An example: crates/rows/data/lock.rows, row locks that "
-        "touch"]
+        "touch"
+    ]
     assert require(names[:2], COUNTS) == []
 
 

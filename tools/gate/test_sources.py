@@ -14,8 +14,12 @@ pytestmark = pytest.mark.quick
 @pytest.mark.parametrize("words", [["rows_index", "--check"], ["floors"], ["check_clauses"]], ids=" ".join)
 def test_sources(words, tell):
     command, *options = words
-    ran = subprocess.run([sys.executable, os.path.join(TOP, "tools", command), *options], stdout=subprocess.PIPE,
-                         stderr=subprocess.STDOUT, text=True)
+    ran = subprocess.run(
+        [sys.executable, os.path.join(TOP, "tools", command), *options],
+        stdout=subprocess.PIPE,
+        stderr=subprocess.STDOUT,
+        text=True,
+    )
     assert ran.returncode == 0, ran.stdout
     for line in ran.stdout.splitlines():
         tell(line)

@@ -110,6 +110,7 @@ def tree(tmp_path):
 
 # Which server serves.
 
+
 def test_best_server(tree):
     """The first of the kinds that are there, and what each lacks."""
     head = tree.head()[:8]
@@ -123,8 +124,10 @@ def test_best_server(tree):
     assert tree.first_line().startswith("start: the independent model in Python, NOT proved")
 
 
-@pytest.mark.parametrize("kind, says", [("proved", ", proved here"), ("release", "0.2 ("), ("unproved", "NOT proved"),
-                                        ("model", "the independent model")])
+@pytest.mark.parametrize(
+    "kind, says",
+    [("proved", ", proved here"), ("release", "0.2 ("), ("unproved", "NOT proved"), ("model", "the independent model")],
+)
 def test_chosen_server(tree, kind, says):
     tree.put_proved(), tree.put_release(), tree.put_unproved()
     assert says in tree.first_line("--with", kind)
@@ -142,10 +145,16 @@ def test_what_the_gate_built_is_no_server(tree):
     assert "the independent model" in tree.first_line()
 
 
-@pytest.mark.parametrize("path, refusal", [
-    ("out/proved/nfs4state", "out/proved/nfs4state has another sum than its stamp, so it isn't the proved program"),
-    ("dist/nfs4state-0.2-x86_64-linux.tar.gz",
-     "dist/nfs4state-0.2-x86_64-linux.tar.gz has another sum than dist/SHA256SUMS says, so it isn't the release")])
+@pytest.mark.parametrize(
+    "path, refusal",
+    [
+        ("out/proved/nfs4state", "out/proved/nfs4state has another sum than its stamp, so it isn't the proved program"),
+        (
+            "dist/nfs4state-0.2-x86_64-linux.tar.gz",
+            "dist/nfs4state-0.2-x86_64-linux.tar.gz has another sum than dist/SHA256SUMS says, so it isn't the release",
+        ),
+    ],
+)
 def test_changed_byte(tree, path, refusal):
     """A program or an archive in which a byte was changed is refused with a line, and the next kind serves."""
     if path.startswith("out"):
@@ -176,8 +185,11 @@ def test_changed_program_in_out(tree):
 def test_release_file_in_checkout(tree):
     """It is a file like any other: only what was unpacked from an archive is a release."""
     program = tree.put("nfs4state", program_text("mine"), is_program=True)
-    tree.put("RELEASE", f"version: 0.9\ncommit: {tree.head()}\n"
-             f"program: {archive.hashlib.sha256(program.read_bytes()).hexdigest()}\n")
+    tree.put(
+        "RELEASE",
+        f"version: 0.9\ncommit: {tree.head()}\n"
+        f"program: {archive.hashlib.sha256(program.read_bytes()).hexdigest()}\n",
+    )
     tree.put_unproved()
     assert "NOT proved: built here" in tree.first_line()
     assert tree.run("--with", "release", "--", "true")[2].startswith("start: there is no release in dist/\n")
@@ -187,8 +199,10 @@ def test_two_archives(tree):
     tree.put_release(), tree.put_unproved()
     tree.put("dist/nfs4state-0.3-x86_64-linux.tar.gz", b"another")
     _, _, lines = tree.run("--", "true")
-    assert lines.startswith("start: dist/ has 2 archives, and one is wanted: nfs4state-0.2-x86_64-linux.tar.gz and "
-                            f"others\nstart: nfs4state ({tree.head()[:8]}), NOT proved")
+    assert lines.startswith(
+        "start: dist/ has 2 archives, and one is wanted: nfs4state-0.2-x86_64-linux.tar.gz and "
+        f"others\nstart: nfs4state ({tree.head()[:8]}), NOT proved"
+    )
 
 
 def test_no_sums(tree):
@@ -197,7 +211,8 @@ def test_no_sums(tree):
     _, _, lines = tree.run("--", "true", env=without(tree, "sha256sum"))
     assert lines.splitlines()[:2] == [
         f"start: there is no sha256sum, by which {name} is known to be proved"
-        for name in ("out/proved/nfs4state", "dist/nfs4state-0.2-x86_64-linux.tar.gz")]
+        for name in ("out/proved/nfs4state", "dist/nfs4state-0.2-x86_64-linux.tar.gz")
+    ]
     assert lines.splitlines()[2].startswith(f"start: nfs4state ({tree.head()[:8]}), NOT proved")
 
 
@@ -208,15 +223,30 @@ def test_unpacked_release(tree, tmp_path_factory):
     elsewhere = tmp_path_factory.mktemp("elsewhere")
     shutil.unpack_archive(tree.folder / "dist" / archive.archive_of("0.2"), elsewhere)
     folder = elsewhere / "nfs4state-0.2"
-    ran = subprocess.run(["./start", "--", *ROW], cwd=folder, stdin=subprocess.DEVNULL, capture_output=True, text=True,
-                         timeout=PATIENCE, env={"PATH": os.environ["PATH"]})
+    ran = subprocess.run(
+        ["./start", "--", *ROW],
+        cwd=folder,
+        stdin=subprocess.DEVNULL,
+        capture_output=True,
+        text=True,
+        timeout=PATIENCE,
+        env={"PATH": os.environ["PATH"]},
+    )
     assert (ran.returncode, ran.stdout) == (0, PASSES), ran.stderr
-    assert ran.stderr.startswith(f"start: nfs4state 0.2 ({tree.head()[:8]}), proved; files: samples/no_callbacks.toml\n")
+    assert ran.stderr.startswith(
+        f"start: nfs4state 0.2 ({tree.head()[:8]}), proved; files: samples/no_callbacks.toml\n"
+    )
     assert "SHARE_DENIED" in ran.stderr and "start: lawful: 5 entries\n" in ran.stderr
     assert "\nverdict: " in ran.stderr
     (folder / "nfs4state").write_text(program_text("another"))
-    ran = subprocess.run(["./start", "--with", "release", "--", "true"], cwd=folder, stdin=subprocess.DEVNULL,
-                         stderr=subprocess.PIPE, text=True, timeout=PATIENCE)
+    ran = subprocess.run(
+        ["./start", "--with", "release", "--", "true"],
+        cwd=folder,
+        stdin=subprocess.DEVNULL,
+        stderr=subprocess.PIPE,
+        text=True,
+        timeout=PATIENCE,
+    )
     refusal = "has another sum than its RELEASE says, so it isn't the proved program\n"
     assert ran.returncode == 2 and refusal in ran.stderr
 
@@ -229,8 +259,9 @@ def test_sources_have_gone_on(tree):
     assert tree.first_line() == f"start: nfs4state 0.2 ({first}), proved; the sources here are 1 commit further"
     tree.commit("third")
     (tree.folder / "file").write_text("changed")
-    assert tree.first_line() == (f"start: nfs4state 0.2 ({first}), proved; the sources here are 2 commits further, and "
-                                 "changed")
+    assert tree.first_line() == (
+        f"start: nfs4state 0.2 ({first}), proved; the sources here are 2 commits further, and " "changed"
+    )
 
 
 def test_changed_tree_is_not_proved(tree):
@@ -254,6 +285,7 @@ def test_shallow_clone(tree, tmp_path_factory):
 
 # What becomes of a command.
 
+
 @pytest.mark.parametrize("shell", SHELLS)
 def test_row(tmp_path, shell):
     tree = Tree(tmp_path, shell)
@@ -264,29 +296,52 @@ def test_row(tmp_path, shell):
     assert "-> NFS4ERR_SHARE_DENIED\n    open owner" in lines and "\nverdict: right" in lines
 
 
-@pytest.mark.parametrize("words, status", [
-    (["--never", "SHARE_DENIED", "--", *ROW], 1), (["--never", "NFS4ERR_SHARE_DENIED", "--", *ROW], 1),
-    (["--never", "DENIED", "--", *ROW], 0), (["--never", "DENIED", "--never", "SHARE_DENIED", "--", *ROW], 1),
-    (["--never", "SHARE_DENIED", "--", "sh", "-c", "exit 7"], 7), (["--", "sh", "-c", "exit 7"], 7),
-    (["--seconds", "1", "--", "sleep", "60"], 124), (["--", "/nonexistent/command"], 127)])
+@pytest.mark.parametrize(
+    "words, status",
+    [
+        (["--never", "SHARE_DENIED", "--", *ROW], 1),
+        (["--never", "NFS4ERR_SHARE_DENIED", "--", *ROW], 1),
+        (["--never", "DENIED", "--", *ROW], 0),
+        (["--never", "DENIED", "--never", "SHARE_DENIED", "--", *ROW], 1),
+        (["--never", "SHARE_DENIED", "--", "sh", "-c", "exit 7"], 7),
+        (["--", "sh", "-c", "exit 7"], 7),
+        (["--seconds", "1", "--", "sleep", "60"], 124),
+        (["--", "/nonexistent/command"], 127),
+    ],
+)
 def test_status(tree, words, status):
     assert tree.run(*words)[0] == status
 
 
 def test_command_that_hears_no_signal(tree):
     """It is killed, and so is what its shell leaves behind."""
-    status, _, lines = tree.run("--seconds", "1", "--", "sh", "-c", "(trap '' TERM; exec sleep 62) & trap '' TERM; wait")
+    status, _, lines = tree.run(
+        "--seconds", "1", "--", "sh", "-c", "(trap '' TERM; exec sleep 62) & trap '' TERM; wait"
+    )
     assert status == 124 and "start: the command took more than 1 seconds\n" in lines
     assert not is_running("^sleep 62$")
 
 
-@pytest.mark.parametrize("words, line", [
-    *((["--never", name], f"--never {name}: no journal has this status; RFC 7530, 13.1, has names, and RESOURCE "
-       "and BADXDR no entry") for name in ("FOO", "RESOURCE", "NFS4ERR_BADXDR")),
-    (["--with", "best"], "--with best: proved, release, unproved or model"), (["--port"], "--port is no option: see "
-     "start --help"), (["--journal"], "--journal wants a value"), (["--seconds", "x"], "--seconds x: a number of seconds"),
-    (["--build", "--test"], "--test: only one of --build, --prove and --test"), (["--"], "a command has to follow --"),
-    (["--tree", "/nonexistent"], "--tree /nonexistent: there is no such file, or it can't be read")])
+@pytest.mark.parametrize(
+    "words, line",
+    [
+        *(
+            (
+                ["--never", name],
+                f"--never {name}: no journal has this status; RFC 7530, 13.1, has names, and RESOURCE "
+                "and BADXDR no entry",
+            )
+            for name in ("FOO", "RESOURCE", "NFS4ERR_BADXDR")
+        ),
+        (["--with", "best"], "--with best: proved, release, unproved or model"),
+        (["--port"], "--port is no option: see " "start --help"),
+        (["--journal"], "--journal wants a value"),
+        (["--seconds", "x"], "--seconds x: a number of seconds"),
+        (["--build", "--test"], "--test: only one of --build, --prove and --test"),
+        (["--"], "a command has to follow --"),
+        (["--tree", "/nonexistent"], "--tree /nonexistent: there is no such file, or it can't be read"),
+    ],
+)
 def test_wrong_words(tree, words, line):
     assert tree.run(*words) == (2, "", f"start: {line}\n")
 
@@ -298,8 +353,11 @@ def test_journal_that_can_not_be_written(tree):
 
 def test_unlawful_journal(tree):
     """A server that answers well and leaves another journal."""
-    text = program_text("liar").replace('*) exec', '*) trap "" TERM;').replace(
-        'serve.py "$@" ;;', 'serve.py "$@"; for word; do last=$word; done; printf x >> "$last" ;;')
+    text = (
+        program_text("liar")
+        .replace("*) exec", '*) trap "" TERM;')
+        .replace('serve.py "$@" ;;', 'serve.py "$@"; for word; do last=$word; done; printf x >> "$last" ;;')
+    )
     tree.put("out/unproved/nfs4state", text, is_program=True)
     tree.put("out/unproved/commit", tree.head())
     status, output, lines = tree.run("--", *ROW)
@@ -311,16 +369,35 @@ def test_words_of_command(tree):
     """They come as they are, with host and port in their places, and so does standard input."""
     told = tree.folder / "told"
     script = f'for word; do printf "<%s>\\n" "$word" >> {told}; done; cat >> {told}'
-    status, _, lines = tree.run("--", "sh", "-c", script, "sh", "a b", "", "*", "http://{host}:{port}/", "{{host}}{{port}}",
-                               stdin=None,
-                                input="given")
+    status, _, lines = tree.run(
+        "--",
+        "sh",
+        "-c",
+        script,
+        "sh",
+        "a b",
+        "",
+        "*",
+        "http://{host}:{port}/",
+        "{{host}}{{port}}",
+        stdin=None,
+        input="given",
+    )
     assert status == 0, lines
     assert re.fullmatch(r"<a b>\n<>\n<\*>\n<http://127\.0\.0\.1:[0-9]+/>\n<{host}{port}>\ngiven", told.read_text())
 
 
 def test_further_options(tree):
-    status, output, lines = tree.run("--lease", "7", "--serve", "--epoch 5", "--", "sh", "-c",
-                                     "sleep 0.1; tools/send_rows {host} {port} samples/two_owners.rows")
+    status, output, lines = tree.run(
+        "--lease",
+        "7",
+        "--serve",
+        "--epoch 5",
+        "--",
+        "sh",
+        "-c",
+        "sleep 0.1; tools/send_rows {host} {port} samples/two_owners.rows",
+    )
     assert status == 1 and "clientid wanted 1 1, got 5 1" in output, lines
 
 
@@ -348,15 +425,22 @@ def test_no_python(tree):
 
 # The verdict.
 
+
 def client(tree):
     """A client that skips sequence ids."""
     tree.put("out/wrong.rows", WRONG_ID.replace('"c1"', '"it\'s c1"'))
     return ["--", "tools/send_rows", "{host}", "{port}", "out/wrong.rows"]
 
 
-@pytest.mark.parametrize("words, status", [
-    ([], 1), (["--allow", "sequence-id-skipped=it's c1"], 0), (["--allow", "sequence-id-skipped", "--warnings"], 1),
-    (["--allow", "sequence-id-skipped", "--allow", "open-left", "--warnings"], 0)])
+@pytest.mark.parametrize(
+    "words, status",
+    [
+        ([], 1),
+        (["--allow", "sequence-id-skipped=it's c1"], 0),
+        (["--allow", "sequence-id-skipped", "--warnings"], 1),
+        (["--allow", "sequence-id-skipped", "--allow", "open-left", "--warnings"], 0),
+    ],
+)
 def test_verdict(tree, words, status):
     """The last line is the verdict, behind the explained refusals."""
     found, output, lines = tree.run(*words, *client(tree))
@@ -393,6 +477,7 @@ def test_wrong_words_of_verdict(tree, words):
 
 
 # How it ends.
+
 
 def is_running(pattern):
     return subprocess.run(["pgrep", "-f", pattern], stdout=subprocess.DEVNULL).returncode == 0
@@ -447,8 +532,9 @@ class Started:
         return self.process.returncode, self.lines + more
 
 
-@pytest.mark.parametrize("number, shell", [(signal.SIGINT, "sh"), (signal.SIGHUP, "sh"),
-                                           *((signal.SIGTERM, shell) for shell in SHELLS)])
+@pytest.mark.parametrize(
+    "number, shell", [(signal.SIGINT, "sh"), (signal.SIGHUP, "sh"), *((signal.SIGTERM, shell) for shell in SHELLS)]
+)
 def test_signal(tmp_path, number, shell):
     """The run ends well, and the journal is whole; its input, which is /dev/null, ends nothing."""
     tree = Tree(tmp_path, shell)
@@ -497,8 +583,9 @@ def test_first_process_of_a_container(tree):
         pytest.skip("a namespace of processes needs root")
     with Started(tree, before=before) as started:
         started.send_row(tree)
-        [child] = subprocess.run(["pgrep", "-P", str(started.process.pid)], stdout=subprocess.PIPE,
-                                 text=True).stdout.split()
+        [child] = subprocess.run(
+            ["pgrep", "-P", str(started.process.pid)], stdout=subprocess.PIPE, text=True
+        ).stdout.split()
         os.kill(int(child), signal.SIGTERM)
         assert started.end()[1].endswith("start: lawful: 5 entries\n")
 
@@ -506,8 +593,12 @@ def test_first_process_of_a_container(tree):
 def test_killed_beside_command(tree):
     """The server doesn't outlive it, and writes its journal."""
     journal = tree.folder / "run.journal"
-    process = subprocess.Popen(tree.words("--journal", str(journal), "--", "sleep", "61"), cwd=tree.folder,
-                               stdin=subprocess.DEVNULL, stderr=subprocess.DEVNULL)
+    process = subprocess.Popen(
+        tree.words("--journal", str(journal), "--", "sleep", "61"),
+        cwd=tree.folder,
+        stdin=subprocess.DEVNULL,
+        stderr=subprocess.DEVNULL,
+    )
     wait_until(lambda: is_running("^sleep 61$"))
     process.kill()
     process.wait()
@@ -516,8 +607,13 @@ def test_killed_beside_command(tree):
 
 
 def test_signal_beside_command(tree):
-    process = subprocess.Popen(tree.words("--journal", "run.journal", "--", "sleep", "60"), cwd=tree.folder,
-                               stdin=subprocess.DEVNULL, stderr=subprocess.PIPE, text=True)
+    process = subprocess.Popen(
+        tree.words("--journal", "run.journal", "--", "sleep", "60"),
+        cwd=tree.folder,
+        stdin=subprocess.DEVNULL,
+        stderr=subprocess.PIPE,
+        text=True,
+    )
     wait_until(lambda: is_running("^sleep 60$"))
     process.send_signal(signal.SIGTERM)
     lines = process.communicate(timeout=PATIENCE)[1]

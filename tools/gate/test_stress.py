@@ -15,8 +15,12 @@ from nfs4.wire import Opnum, Status, u32, u64
 # Numbers that are given one after the other, and who is live before each and behind it; and whether that may be: an
 # update of a live client has its number again, and a later client a lesser one. Of a slot two may not live.
 NUMBERS = [
-    ([1, 1], [{}, {1}, {1}], True), ([257, 1], [{}, {257}, {257}], True), ([1, 1], [{}, {}, {}], False),
-    ([1, 2, 1], [{}, {1}, {2}, {2}], False), ([1, 257], [{}, {1}, {1, 257}], False)]
+    ([1, 1], [{}, {1}, {1}], True),
+    ([257, 1], [{}, {257}, {257}], True),
+    ([1, 1], [{}, {}, {}], False),
+    ([1, 2, 1], [{}, {1}, {2}, {2}], False),
+    ([1, 257], [{}, {1}, {1, 257}], False),
+]
 
 
 @pytest.mark.parametrize("given, lives, is_right", NUMBERS)

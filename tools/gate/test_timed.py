@@ -7,8 +7,21 @@ import pytest
 from gate.timed import Exchange, SECOND, TimedJudge, numbers_of
 from model.journal import Journal, Recorder
 from nfs4.client import Wrong
-from nfs4.messages import (GETATTR, NFS4ERR_STALE_CLIENTID, NFS4_OK, PUTFH, PUTROOTFH, READ, RENEW, compound,
-                           confirmation, handle, results, setclientid, words)
+from nfs4.messages import (
+    GETATTR,
+    NFS4ERR_STALE_CLIENTID,
+    NFS4_OK,
+    PUTFH,
+    PUTROOTFH,
+    READ,
+    RENEW,
+    compound,
+    confirmation,
+    handle,
+    results,
+    setclientid,
+    words,
+)
 from nfs4.wire import record, u64
 
 pytestmark = pytest.mark.quick
@@ -41,7 +54,7 @@ class Story:
     def introduce(self, link, sent, name, visit=1):
         """The words by which a client that comes, or comes again, confirms its number, and the number."""
         found = self.ask(link, sent, [setclientid(u64(visit), name)])
-        number, confirm = (int.from_bytes(found[4 * place:4 * place + 4], "big") for place in (13, 15))
+        number, confirm = (int.from_bytes(found[4 * place : 4 * place + 4], "big") for place in (13, 15))
         return [confirmation(EPOCH, number, confirm)], number
 
     def come(self, link, sent, name, visit=1):
@@ -87,6 +100,7 @@ def go_on(story, one):
 
 
 # The right ones.
+
 
 def ends_and_comes_again():
     story, one, other = begin()
@@ -145,6 +159,7 @@ def is_named_before_it_came():
 
 
 # The wrong ones.
+
 
 def ends_though_renewed():
     story, one, other = begin()
@@ -318,16 +333,31 @@ def is_swept_ahead():
 # Each with what is said of it.
 WITHIN, LIVE, REFUSED = "within a lease of its renewal", "is answered OK after", "is answered STALE_CLIENTID after"
 CASES = {
-    ends_and_comes_again: None, renews_at_the_edge: None, waits_behind_its_end: None, takes_a_place: None,
-    is_named_before_it_came: None, ends_though_renewed: WITHIN, ends_though_renewed_in_a_batch: WITHIN,
-    ends_though_a_batch_has_renew: WITHIN, ends_by_an_earlier_renewal: "but it was heard of at",
-    is_seen_by_a_refused_renew: "when it wasn't heard of", is_live_behind_its_end: LIVE,
-    is_live_in_the_same_write: LIVE, is_live_in_a_later_write: "behind one that showed its end",
+    ends_and_comes_again: None,
+    renews_at_the_edge: None,
+    waits_behind_its_end: None,
+    takes_a_place: None,
+    is_named_before_it_came: None,
+    ends_though_renewed: WITHIN,
+    ends_though_renewed_in_a_batch: WITHIN,
+    ends_though_a_batch_has_renew: WITHIN,
+    ends_by_an_earlier_renewal: "but it was heard of at",
+    is_seen_by_a_refused_renew: "when it wasn't heard of",
+    is_live_behind_its_end: LIVE,
+    is_live_in_the_same_write: LIVE,
+    is_live_in_a_later_write: "behind one that showed its end",
     is_live_with_an_earlier_number: LIVE,
-    is_live_when_its_place_is_taken: LIVE, is_live_before_it_came: LIVE, is_refused_while_it_is_live: REFUSED,
-    is_refused_before_the_sweep: REFUSED, is_refused_in_the_same_write: REFUSED,
-    is_refused_before_its_place_is_taken: REFUSED, is_renewed_by_an_earlier_number: "when it wasn't heard of",
-    stays: "is live behind the sweep", has_another_clock: "no clock", is_swept_ahead: "no clock"}
+    is_live_when_its_place_is_taken: LIVE,
+    is_live_before_it_came: LIVE,
+    is_refused_while_it_is_live: REFUSED,
+    is_refused_before_the_sweep: REFUSED,
+    is_refused_in_the_same_write: REFUSED,
+    is_refused_before_its_place_is_taken: REFUSED,
+    is_renewed_by_an_earlier_number: "when it wasn't heard of",
+    stays: "is live behind the sweep",
+    has_another_clock: "no clock",
+    is_swept_ahead: "no clock",
+}
 
 
 @pytest.mark.parametrize("case", CASES, ids=lambda it: it.__name__)

@@ -122,15 +122,24 @@ RENAMED = [("let two = after_next(n);", "let more = after_next(n);"), ("low::nex
 # Edits of the second crate: the function, the pairs of lines, and how each is told.
 EDITS = {
     "a_doubles": ("twice", [(TWICE, "    2 * n")], "NOT REFUSED: .*it means the same"),
-    "b_doubles_by_arms": ("twice", [(TWICE, "    if n == 0 { 0 } else { n + n }")],
-                          "PROOF'S SHAPE: .*has no `returns` that can be named"),
+    "b_doubles_by_arms": (
+        "twice",
+        [(TWICE, "    if n == 0 { 0 } else { n + n }")],
+        "PROOF'S SHAPE: .*has no `returns` that can be named",
+    ),
     "c_doubles_wrong": ("twice", [(TWICE, "    n + n + n")], "REFUSED: .*the goal fails at"),
     "d_calls_the_double": ("four_times", [("twice(double)", "twice(twice(n))")], "NOT REFUSED"),
-    "d_calls_the_double_once": ("four_times", [("let double = twice(n)", "let double = n")],
-                                "REFUSED: `returns` isn't proved"),
+    "d_calls_the_double_once": (
+        "four_times",
+        [("let double = twice(n)", "let double = n")],
+        "REFUSED: `returns` isn't proved",
+    ),
     "greater_the_other_way": ("greater", [(GREATER, "if b <= a { a } else { b }")], "NOT REFUSED"),
-    "greater_is_the_first": ("greater", [(GREATER, "if a < b { a } else { a }")],
-                             "REFUSED: `returns-then-a-b-clause-b` isn't proved: `c.args.a` = "),
+    "greater_is_the_first": (
+        "greater",
+        [(GREATER, "if a < b { a } else { a }")],
+        "REFUSED: `returns-then-a-b-clause-b` isn't proved: `c.args.a` = ",
+    ),
     "no_such_text": ("greater", [("if a > b", "if a < b")], "BAD EDIT: an `old:` text stands in src/lib.rt 0 times"),
     "no_such_function": ("lesser", [("/// The greater one.", "/// The lesser one.")], "BAD EDIT: there is no function"),
     "no_such_name": ("greater", [(GREATER, "if a < c { b } else { a }")], "BAD EDIT: it doesn't compile"),
@@ -160,8 +169,10 @@ def top(path_of):
     """A folder with the crates, their edits and the scripts."""
     folder = path_of("top")
     write(folder, FILES)
-    write(folder, {f"crates/high/wrong/{name}.edit": edit_text(function, pairs)
-                   for name, (function, pairs, _) in EDITS.items()})
+    write(
+        folder,
+        {f"crates/high/wrong/{name}.edit": edit_text(function, pairs) for name, (function, pairs, _) in EDITS.items()},
+    )
     os.mkdir(os.path.join(folder, ".git"))
     os.makedirs(os.path.join(folder, "tools/nfs4"))
     for name in SCRIPTS:
@@ -172,8 +183,14 @@ def top(path_of):
 def run(top, *words):
     """The status of `try_edits` over the crates, and what it prints."""
     environment = os.environ | {"XDG_CACHE_HOME": os.path.join(top, "cache")}
-    ran = subprocess.run([os.path.join(top, "tools", "try_edits"), "--jobs", "1", *words], env=environment,
-                         stdout=subprocess.PIPE, stderr=subprocess.STDOUT, text=True, timeout=3600)
+    ran = subprocess.run(
+        [os.path.join(top, "tools", "try_edits"), "--jobs", "1", *words],
+        env=environment,
+        stdout=subprocess.PIPE,
+        stderr=subprocess.STDOUT,
+        text=True,
+        timeout=3600,
+    )
     return ran.returncode, ran.stdout
 
 
@@ -184,8 +201,9 @@ def expect_all(top):
         assert re.search(f"(?m)^high/{name}: {words}", said), said
     refused = sum(words.startswith("REFUSED") for _, _, words in EDITS.values())
     failed = len(EDITS) - refused
-    assert status == 1 and said.endswith(f"{len(EDITS)} edits: {refused} refused, {failed} failed\n"
-                                         f"{refused} passed, {failed} failed\n"), said
+    assert status == 1 and said.endswith(
+        f"{len(EDITS)} edits: {refused} refused, {failed} failed\n" f"{refused} passed, {failed} failed\n"
+    ), said
     checks = [read(os.path.join(top, "said", name)) for name in os.listdir(os.path.join(top, "said"))]
     assert any(re.search("(?m)^fn high::four_times: .*it calls `high::twice`", check) for check in checks), said
     return refused

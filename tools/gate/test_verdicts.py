@@ -41,8 +41,9 @@ def found_in(journal, *clients):
     """The findings of a journal, which is judged to its end: of these clients, or of all."""
     verdict = judge(journal)
     assert (verdict.fault, verdict.entries) == (None, len(journal.entries))
-    return [finding for client in verdict.clients if not clients or client.client in clients
-            for finding in client.findings]
+    return [
+        finding for client in verdict.clients if not clients or client.client in clients for finding in client.findings
+    ]
 
 
 def errors_in(journal):
@@ -68,9 +69,31 @@ def test_series_do_all():
     done = Counter()
     for seed in range(EACH * IN_GATE):
         done += Series(seed).run().done
-    wanted = ["comes", "opens", "closes", "downgrades", "locks", "unlocks", "tests", "releases", "moves bytes", "looks",
-              "gives back", "crashes", "begins anew", "moves its callback", "sleeps", "wakes", "renews", "comes late",
-              "SHARE_DENIED", "DELAY", "NOENT", "LOCK DENIED", "bytes OLD_STATEID"]
+    wanted = [
+        "comes",
+        "opens",
+        "closes",
+        "downgrades",
+        "locks",
+        "unlocks",
+        "tests",
+        "releases",
+        "moves bytes",
+        "looks",
+        "gives back",
+        "crashes",
+        "begins anew",
+        "moves its callback",
+        "sleeps",
+        "wakes",
+        "renews",
+        "comes late",
+        "SHARE_DENIED",
+        "DELAY",
+        "NOENT",
+        "LOCK DENIED",
+        "bytes OLD_STATEID",
+    ]
     assert [what for what in wanted if not done[what]] == []
 
 
@@ -102,7 +125,7 @@ def test_any_journal(place, add_up):
     for seed in range(EACH * place, EACH * place + EACH):
         journal = any_calls(seed)
         add_up(len(found_in(journal)), "findings in journals of any calls")
-        found_in(journal._replace(entries=journal.entries[:len(journal.entries) // 2]))
+        found_in(journal._replace(entries=journal.entries[: len(journal.entries) // 2]))
 
 
 def played(room, path, kind, session, setting):

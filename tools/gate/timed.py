@@ -24,6 +24,7 @@ SECOND = 10**9
 class Exchange(NamedTuple):
     """A call as its connection saw it: the record that was sent and the reply's, and by one clock, in nanoseconds, a
     time before the one was sent, and one after the other came."""
+
     record: bytes
     reply: bytes
     sent: int
@@ -34,6 +35,7 @@ class Heard(NamedTuple):
     """An operation that renews the lease of the client that it names: the times of its call; the number of its entry,
     or None for RENEW; whether it is a RENEW that was answered OK; and the first and the last state between the entries
     of its connection, in which it was asked."""
+
     client: int
     sent: int
     answered: int
@@ -74,6 +76,7 @@ class Asked(Told):
 
 class Entered(NamedTuple):
     """A call that has entries: how it went, and the numbers of the first and the last of them."""
+
     exchange: Exchange
     first: int
     last: int
@@ -116,8 +119,10 @@ class Times:
         self.there: list[int] = [0, *accumulate((state for _, state in answered), greater)]
         # When calls were sent, and sweeps read the clock at the earliest; and the state that is left while all but the
         # first of these are to come.
-        sent = sorted([(call.exchange.sent, call.first) for call in calls]
-                      + [(self.begun_first + end.now * SECOND, number) for number, end in self.ends])
+        sent = sorted(
+            [(call.exchange.sent, call.first) for call in calls]
+            + [(self.begun_first + end.now * SECOND, number) for number, end in self.ends]
+        )
         self.sent = [time for time, _ in sent]
         left = accumulate((state for _, state in sent[::-1]), less, initial=len(entries))
         self.left: list[int] = [*left][::-1]
@@ -157,7 +162,7 @@ class TimedJudge(Judge):
         for exchange in exchanges:
             server.exchange, before = exchange, server.numbers[:]
             server.expect_reply(exchange.record[4:], exchange.reply[4:])
-            if taken := before[:len(before) - len(server.numbers)]:
+            if taken := before[: len(before) - len(server.numbers)]:
                 self.calls.append(Entered(exchange, taken[0], taken[-1]))
         if server.numbers:
             raise Wrong(f"{len(server.numbers)} entries of nothing that it sent")
@@ -196,8 +201,10 @@ class TimedJudge(Judge):
             may_live, may_not = max(first, came + 1) <= min(last, went), first <= came or last > went
             if not (may_live if one.is_ok else may_not):
                 answer = "OK" if one.is_ok else "STALE_CLIENTID"
-                raise Wrong(f"RENEW of client {client} is answered {answer} after {first} to {last} entries, and it is "
-                            f"live after {came + 1} to {went}")
+                raise Wrong(
+                    f"RENEW of client {client} is answered {answer} after {first} to {last} entries, and it is "
+                    f"live after {came + 1} to {went}"
+                )
             self.renews.append(may_live != may_not)
             if not one.is_ok and first > came:
                 shown = min(shown, one.answered)
@@ -224,8 +231,10 @@ class TimedJudge(Judge):
             first, last = self.moments(one)
             if one.is_ok or one.number is not None and came < self.first_state(one) <= one.number < number:
                 if first + self.journal.lease >= end.now:
-                    raise Wrong(f"client {end.client} ends at {end.now} by entry {number}, within a lease of its "
-                                f"renewal at {first}, which was answered")
+                    raise Wrong(
+                        f"client {end.client} ends at {end.now} by entry {number}, within a lease of its "
+                        f"renewal at {first}, which was answered"
+                    )
                 least = max(least, first)
             if one.is_ok or one.number is not None and self.first_state(one) <= number:
                 seen.append((first, last))
@@ -238,9 +247,14 @@ class TimedJudge(Judge):
         """The sweep whose last entry is this one leaves none whose lease is over, whatever was renewed meanwhile."""
         over = min((call.exchange.answered for call in self.calls if call.first > number), default=inf)
         for client in self.lives[number + 1]:
-            heard = [self.moments(one)[1] for one in by_client[client]
-                     if one.sent < over and (one.is_ok or one.number is not None)]
+            heard = [
+                self.moments(one)[1]
+                for one in by_client[client]
+                if one.sent < over and (one.is_ok or one.number is not None)
+            ]
             latest = max([self.journal.entries[self.came[client]].moment, *heard])
             if latest + self.journal.lease < now:
-                raise Wrong(f"client {client} is live behind the sweep at {now} and entry {number}, and was heard of "
-                            f"last at {latest}")
+                raise Wrong(
+                    f"client {client} is live behind the sweep at {now} and entry {number}, and was heard of "
+                    f"last at {latest}"
+                )

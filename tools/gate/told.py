@@ -19,6 +19,7 @@ Lives = Sequence[Set[int]]
 
 class Renewal(NamedTuple):
     """A RENEW that was answered OK: whose it was, and the first and the last moment at which it may have come."""
+
     client: int
     first: int
     last: int
@@ -40,8 +41,9 @@ class Told(Server):
         # The earliest state in which the last answer may have been given.
         self.state = 0
 
-    def apply(self, opnum: Opnum, arguments: Any, filehandle: Any, principal: tuple[int, int],
-              is_refused: bool = False) -> Result:
+    def apply(
+        self, opnum: Opnum, arguments: Any, filehandle: Any, principal: tuple[int, int], is_refused: bool = False
+    ) -> Result:
         if not self.numbers:
             raise Wrong(f"no receipt for an {opnum.name}")
         number = self.numbers.pop(0)
@@ -70,8 +72,10 @@ class Told(Server):
         fitting = [state for state in between if self.is_named(arguments, state) != self.is_stale]
         if not fitting:
             answered = "STALE_CLIENTID" if self.is_stale else "OK"
-            raise Wrong(f"RENEW of client {arguments.client} is answered {answered}, which it isn't after {self.state} "
-                        f"to {last} entries")
+            raise Wrong(
+                f"RENEW of client {arguments.client} is answered {answered}, which it isn't after {self.state} "
+                f"to {last} entries"
+            )
         self.renews.append(len(fitting) == len(between))
         self.state = fitting[0]
         if self.is_stale:

@@ -21,6 +21,7 @@ class Late(Wrong):
 
 def tried_again(test: Callable[..., None]) -> Callable[..., None]:
     """The test, which is tried again where something came late, and fails where it did each time."""
+
     @functools.wraps(test)
     def tried(*arguments: Any, **named: Any) -> None:
         for _ in range(TRIES - 1):
@@ -29,6 +30,7 @@ def tried_again(test: Callable[..., None]) -> Callable[..., None]:
             except Late:
                 pass
         return test(*arguments, **named)
+
     return tried
 
 

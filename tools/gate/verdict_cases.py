@@ -3,9 +3,28 @@ those before them; of this version of the file, and of the one before."""
 from collections.abc import Iterable, Iterator
 from typing import Any
 
-from gate.journal_cases import (CALLBACK, FILE, NOBODY, NOTHING, NOT_JOURNAL, OPENED, SOMEBODY, ask_for_number,
-                                 close_by_a, confirm, earlier, file_of, give_back, holding, idle, introduce, journal_of,
-                                 lent, listed_and_set, small)
+from gate.journal_cases import (
+    CALLBACK,
+    FILE,
+    NOBODY,
+    NOTHING,
+    NOT_JOURNAL,
+    OPENED,
+    SOMEBODY,
+    ask_for_number,
+    close_by_a,
+    confirm,
+    earlier,
+    file_of,
+    give_back,
+    holding,
+    idle,
+    introduce,
+    journal_of,
+    lent,
+    listed_and_set,
+    small,
+)
 from model.entries import Answer, Call, Expire, Forget, MOMENT_LIMIT, Path, Revoke
 from model.journal import EARLIER, Recorder, journal_bytes
 from model.tree import Tree
@@ -69,8 +88,12 @@ def verdicts() -> Iterator[Judged]:
 def verdicts_on_bytes() -> Iterator[Judged]:
     """Of `hello`, which is read, gets a byte more, and is read again; and of more than a file has."""
     server = Recorder(Tree())
-    for opnum, arguments in ((Opnum.READ, wire.Read(NOTHING, 0, LAST)), (Opnum.WRITE, wire.Write(NOTHING, 5, 0, b"!")),
-                             (Opnum.READ, wire.Read(NOTHING, 0, LAST)), (Opnum.GETATTR, wire.Getattr((0x18,)))):
+    for opnum, arguments in (
+        (Opnum.READ, wire.Read(NOTHING, 0, LAST)),
+        (Opnum.WRITE, wire.Write(NOTHING, 5, 0, b"!")),
+        (Opnum.READ, wire.Read(NOTHING, 0, LAST)),
+        (Opnum.GETATTR, wire.Getattr((0x18,))),
+    ):
         server.apply(opnum, arguments, FILE, NOBODY)
     first, written, second, attributes = entries = server.recorded
     yield "a file that is read and written", file_of(entries), "lawful: 4 entries"
@@ -79,12 +102,20 @@ def verdicts_on_bytes() -> Iterator[Judged]:
     yield "a file that is written, and read as before", file_of([written, first]), wrong(1)
     yield "a change too many", file_of([written, *entries]), wrong(1)
     yield "attributes after two changes", file_of([written, written, attributes]), wrong(2)
-    rests = {"no end": u32(0) + opaque(b"hello"), "a byte fewer": u32(1) + opaque(b"hell"),
-             "a byte more": u32(1) + opaque(b"hello!"), "70,000 bytes": u32(1) + opaque(bytes(70000))}
+    rests = {
+        "no end": u32(0) + opaque(b"hello"),
+        "a byte fewer": u32(1) + opaque(b"hell"),
+        "a byte more": u32(1) + opaque(b"hello!"),
+        "70,000 bytes": u32(1) + opaque(bytes(70000)),
+    }
     for name, rest in rests.items():
         yield f"a READ with {name}", file_of([with_rest(first, rest)]), wrong(0)
-    rests = {"another count": u32(2, 2, 1, 0), "UNSTABLE4": u32(1, 0, 1, 0), "another epoch": u32(1, 2, 2, 0),
-             "another verifier": u32(1, 2, 1, 1)}
+    rests = {
+        "another count": u32(2, 2, 1, 0),
+        "UNSTABLE4": u32(1, 0, 1, 0),
+        "another epoch": u32(1, 2, 2, 0),
+        "another verifier": u32(1, 2, 1, 1),
+    }
     for name, rest in rests.items():
         yield f"a WRITE with {name}", file_of([with_rest(written, rest)]), wrong(0)
 
@@ -112,17 +143,24 @@ def verdicts_on_revocations() -> Iterator[Judged]:
     returned = lent()
     give_back(returned, 2)
     more = {
-        "nothing that is due": ([Revoke(4, 290)], 10), "one that is due": ([Revoke(4, 291)], None),
-        "one that isn't": ([Revoke(2, 291)], 10), "one at the edge": ([Revoke(2, 300)], 10),
-        "the least of two": ([Revoke(2, 301)], None), "not the least of two": ([Revoke(4, 301)], 10),
+        "nothing that is due": ([Revoke(4, 290)], 10),
+        "one that is due": ([Revoke(4, 291)], None),
+        "one that isn't": ([Revoke(2, 291)], 10),
+        "one at the edge": ([Revoke(2, 300)], 10),
+        "the least of two": ([Revoke(2, 301)], None),
+        "not the least of two": ([Revoke(4, 301)], 10),
         "one after the other": ([Revoke(2, 301), Revoke(4, 301)], None),
         "the oldest first": ([Revoke(4, 300), Revoke(2, 301)], None),
         "one twice": ([Revoke(4, 291), Revoke(4, 291)], 11),
-        "an open": ([Revoke(1, 400)], 10), "state 0": ([Revoke(0, 400)], 10), "what isn't": ([Revoke(5, 400)], 10),
+        "an open": ([Revoke(1, 400)], 10),
+        "state 0": ([Revoke(0, 400)], 10),
+        "what isn't": ([Revoke(5, 400)], 10),
         "what was given back": ([*returned.recorded[10:], Revoke(2, 400)], 11),
         "what is left": ([*returned.recorded[10:], Revoke(4, 400)], None),
         "what went with its client": ([Expire(1, 0, 91), Revoke(2, 400)], 11),
-        "what still is in the way": ([again], None), "what isn't any longer": ([Revoke(4, 291), again], 11)}
+        "what still is in the way": ([again], None),
+        "what isn't any longer": ([Revoke(4, 291), again], 11),
+    }
     for name, (entries, number) in more.items():
         said = f"lawful: {10 + len(entries)} entries" if number is None else wrong(number)
         yield f"a revocation: {name}", journal_bytes(journal._replace(entries=journal.entries + entries)), said
@@ -138,22 +176,30 @@ def verdicts_on_forgets() -> Iterator[Judged]:
     begun = with_rest(begins, entries[2].answer.rest.replace(u32(1, 1, 1, 1), u32(1, 1, 1, 3), 1))
     known = begins._replace(answer=Answer(Opnum.OPEN, Status.BAD_SEQID, b""))
     more = {
-        "nothing that is due": ([Forget(a, 190)], 0), "one that is due": ([Forget(a, 191)], None),
-        "one that isn't": ([Forget(b, 191)], 0), "the first of two": ([Forget(a, 192)], None),
-        "not the first of two": ([Forget(b, 192)], 0), "one after the other": ([Forget(a, 192), Forget(b, 192)], None),
-        "one twice": ([Forget(a, 191), Forget(a, 191)], 1), "nobody": ([Forget(OpenOwner(1, 1, b"C"), 400)], 0),
+        "nothing that is due": ([Forget(a, 190)], 0),
+        "one that is due": ([Forget(a, 191)], None),
+        "one that isn't": ([Forget(b, 191)], 0),
+        "the first of two": ([Forget(a, 192)], None),
+        "not the first of two": ([Forget(b, 192)], 0),
+        "one after the other": ([Forget(a, 192), Forget(b, 192)], None),
+        "one twice": ([Forget(a, 191), Forget(a, 191)], 1),
+        "nobody": ([Forget(OpenOwner(1, 1, b"C"), 400)], 0),
         "one of another client": ([Forget(OpenOwner(1, 2, b"A"), 400)], 0),
         "one of another epoch": ([Forget(OpenOwner(2, 1, b"A"), 400)], 0),
-        "one whose CLOSE came again": ([again, Forget(a, 191)], None), "a CLOSE that comes again": ([again], None),
+        "one whose CLOSE came again": ([again, Forget(a, 191)], None),
+        "a CLOSE that comes again": ([again], None),
         "a CLOSE that comes too late": ([Forget(a, 191), stale], None),
-        "a CLOSE that is answered too late": ([Forget(a, 191), again], 1), "one that is kept": ([stale], 0),
+        "a CLOSE that is answered too late": ([Forget(a, 191), again], 1),
+        "one that is kept": ([stale], 0),
         "one that comes again": ([Forget(a, 191), begun], None),
-        "one that comes again as a known one": ([Forget(a, 191), known], 1), "one that is known": ([known], None),
+        "one that comes again as a known one": ([Forget(a, 191), known], 1),
+        "one that is known": ([known], None),
         "one that comes again too early": ([begun], 0),
         "one with an open": ([Forget(a, 191), begun, Forget(a, 400)], 2),
         "one that went with its client": ([Expire(1, 0, 91), Forget(a, 191)], 1),
         "one before its client goes": ([Forget(a, 191), Expire(1, 101, 192)], None),
-        "one before the other of an earlier moment": ([Forget(a, 400), Forget(b, 192)], None)}
+        "one before the other of an earlier moment": ([Forget(a, 400), Forget(b, 192)], None),
+    }
     for name, (added, number) in more.items():
         said = f"lawful: {8 + len(added)} entries" if number is None else wrong(8 + number)
         yield f"a forgetting: {name}", file_of([*entries, *added]), said
@@ -171,12 +217,15 @@ def verdicts_on_locks_held() -> Iterator[Judged]:
     close_by_a(server, 5)
     entries, free = server.recorded, Tree().policy
     for name, policy, added, number in (
-            ("refused", "refuse", [held], None), ("refused, and again", "refuse", [held, held], None),
-            ("refused, and with the next id", "refuse", entries[5:], None),
-            ("refused, and with the next id at once", "refuse", [entries[7]], 0),
-            ("refused, and freed by the same id", "refuse", [held, freed], 1),
-            ("freed though it is refused", "refuse", [freed], 0), ("freed", "free", [freed], None),
-            ("refused though it frees", "free", [held], 0)):
+        ("refused", "refuse", [held], None),
+        ("refused, and again", "refuse", [held, held], None),
+        ("refused, and with the next id", "refuse", entries[5:], None),
+        ("refused, and with the next id at once", "refuse", [entries[7]], 0),
+        ("refused, and freed by the same id", "refuse", [held, freed], 1),
+        ("freed though it is refused", "refuse", [freed], 0),
+        ("freed", "free", [freed], None),
+        ("refused though it frees", "free", [held], 0),
+    ):
         said = f"lawful: {5 + len(added)} entries" if number is None else wrong(5 + number)
         given = [*entries[:5], *added], Tree().nodes[1:], free._replace(close_locks=policy)
         yield f"a CLOSE beside locks, {name}", file_of(*given), said
@@ -191,8 +240,14 @@ def verdicts_on_the_earlier_version() -> Iterator[Judged]:
         yield f"{name} in the earlier version", journal_bytes(earlier(server.journal())), f"lawful: {count} entries"
     server = holding()
     held = journal_of(server.recorded)._replace(head=EARLIER)
-    freed = Call(0, NOBODY, FILE, Opnum.CLOSE, wire.Close(4, OPENED._replace(seqid=2)),
-                 Answer(Opnum.CLOSE, Status.OK, u32(3, 1, 1, 1)))
+    freed = Call(
+        0,
+        NOBODY,
+        FILE,
+        Opnum.CLOSE,
+        wire.Close(4, OPENED._replace(seqid=2)),
+        Answer(Opnum.CLOSE, Status.OK, u32(3, 1, 1, 1)),
+    )
     refused = freed._replace(answer=Answer(Opnum.CLOSE, Status.LOCKS_HELD, b""))
     for name, entry, said in (("frees", freed, "lawful: 6 entries"), ("is refused", refused, wrong(5))):
         data = journal_bytes(held._replace(entries=[*held.entries, entry]))
@@ -216,13 +271,18 @@ def verdicts_for_clients() -> Iterator[Judged]:
     yield "what is read before it", said_of(read, cut), wrong(0)
     yield "what is read as before it", said_of(cut, with_rest(read, u32(1) + opaque(b"hello"))), wrong(1)
     lawful = "lawful: 2 entries"
-    for name, change, size, said in (("its size and change", 1, 0, lawful), ("its old size", 1, 5, wrong(1)),
-                                     ("its old change", 0, 0, wrong(1))):
+    for name, change, size, said in (
+        ("its size and change", 1, 0, lawful),
+        ("its old size", 1, 5, wrong(1)),
+        ("its old change", 0, 0, wrong(1)),
+    ):
         told = with_rest(changes, u32(1, 24) + opaque(u64(change) + u64(size)))
         yield f"{name} behind a cut", said_of(cut, told), said
     longer = cut._replace(arguments=cut.arguments._replace(attributes=((16,), u64(9))))
-    for name, data, said in (("zeros", bytes(9), "lawful: 3 entries"),
-                             ("the old bytes", b"hello" + bytes(4), wrong(2))):
+    for name, data, said in (
+        ("zeros", bytes(9), "lawful: 3 entries"),
+        ("the old bytes", b"hello" + bytes(4), wrong(2)),
+    ):
         again = with_rest(read, u32(1) + opaque(data))
         yield f"{name} where it is longer again", said_of(cut, longer, again), said
     for name, rest in (("nothing set", u32(0)), ("a zero word more", u32(2, 16, 0)), ("another bit", u32(1, 8))):
@@ -232,12 +292,15 @@ def verdicts_for_clients() -> Iterator[Judged]:
         other = mode._replace(answer=mode.answer._replace(status=status))
         yield f"a mode with {status.name}", said_of(other), wrong(0)
     rest = listing.answer.rest
-    for name, other in (("without its entry", bytes(8) + u32(0, 1)),
-                        ("without its entry, not at its end", bytes(8) + u32(0, 0)),
-                        ("not at its end", rest[:-4] + u32(0)), ("with another verifier", b"verifier" + rest[8:]),
-                        ("with its entry twice", rest[:-8] + rest[8:]),
-                        ("with the directory's number", rest.replace(u64(6), u64(5), 1)),
-                        ("with another name", rest.replace(opaque(b"c"), opaque(b"d"), 1))):
+    for name, other in (
+        ("without its entry", bytes(8) + u32(0, 1)),
+        ("without its entry, not at its end", bytes(8) + u32(0, 0)),
+        ("not at its end", rest[:-4] + u32(0)),
+        ("with another verifier", b"verifier" + rest[8:]),
+        ("with its entry twice", rest[:-8] + rest[8:]),
+        ("with the directory's number", rest.replace(u64(6), u64(5), 1)),
+        ("with another name", rest.replace(opaque(b"c"), opaque(b"d"), 1)),
+    ):
         yield f"a listing {name}", said_of(with_rest(listing, other)), wrong(0)
     small_room = listing._replace(arguments=listing.arguments._replace(maxcount=55))
     yield "a listing that has no room", said_of(small_room), wrong(0)

@@ -15,6 +15,7 @@ from judging.watching import Holdings, Watcher, counted
 class Activity:
     """Of a client: its calls that have entries; the OPENs and LOCKs that were OK; the delegations that it got; and the
     requests of its owners that came again."""
+
     calls: int = 0
     opens: int = 0
     locks: int = 0
@@ -22,9 +23,15 @@ class Activity:
     retransmissions: int = 0
 
     def words(self) -> str:
-        return ", ".join([
-            f"{counted(self.calls, 'call')} on the state", counted(self.opens, "open"), counted(self.locks, "lock"),
-            counted(self.delegations, "delegation"), counted(self.retransmissions, "retransmission")])
+        return ", ".join(
+            [
+                f"{counted(self.calls, 'call')} on the state",
+                counted(self.opens, "open"),
+                counted(self.locks, "lock"),
+                counted(self.delegations, "delegation"),
+                counted(self.retransmissions, "retransmission"),
+            ]
+        )
 
 
 class Activities(Watcher):

@@ -23,6 +23,7 @@ NO_ADDRESSES = {b"", b"0.0.0.0.0.0", b"::.0.0"}
 @dataclass
 class Repeated:
     """A finding that comes again and again: its entries are gathered."""
+
     sort: str
     client: bytes | None
     text: str
@@ -57,8 +58,9 @@ class Circumstances(Watcher):
         own = [it for it in reason.facts.conflicts if it.owner.client == owner.client]
         if own:
             place = self.sentences.place(self.server.given[own[0].state].file)
-            others = tuple(sorted({since for it in own for since in (it.denied_since, it.held_since)
-                                   if since is not None}))
+            others = tuple(
+                sorted({since for it in own for since in (it.denied_since, it.held_since) if since is not None})
+            )
             text = f"{owner_words(own[0].owner)} has {place} open, and its share excludes that of {owner_words(owner)}"
             one = Repeated("own-deny-met", client_of(entry, self.server), text, others)
             self.add((owner, own[0].state), number, one)
@@ -104,5 +106,8 @@ def is_made_up(reason: Reason) -> bool:
 
 
 BY_KIND: dict[Kind, Callable[[Circumstances, int, Call, Reason], None]] = {
-    Kind.SHARE_CONFLICT: Circumstances.note_own_deny, Kind.RECLAIM: Circumstances.note_reclaim,
-    Kind.CLIENTID_OTHER_EPOCH: Circumstances.note_stale, Kind.STATEID_OTHER_EPOCH: Circumstances.note_stale}
+    Kind.SHARE_CONFLICT: Circumstances.note_own_deny,
+    Kind.RECLAIM: Circumstances.note_reclaim,
+    Kind.CLIENTID_OTHER_EPOCH: Circumstances.note_stale,
+    Kind.STATEID_OTHER_EPOCH: Circumstances.note_stale,
+}

@@ -4,8 +4,25 @@ from typing import Any, NamedTuple
 
 from model.entries import Call, Entry, Expire, Forget, Path
 from model.history import History
-from nfs4.wire import (CLAIM_DELEGATE_CUR, Close, Delegreturn, Lock, Lockt, Locku, NewLocker, Open, OpenConfirm,
-                       OpenDowngrade, Read, ReleaseLockowner, Setattr, Setclientid, SetclientidConfirm, Stateid, Write)
+from nfs4.wire import (
+    CLAIM_DELEGATE_CUR,
+    Close,
+    Delegreturn,
+    Lock,
+    Lockt,
+    Locku,
+    NewLocker,
+    Open,
+    OpenConfirm,
+    OpenDowngrade,
+    Read,
+    ReleaseLockowner,
+    Setattr,
+    Setclientid,
+    SetclientidConfirm,
+    Stateid,
+    Write,
+)
 
 # A clientid by its two halves.
 Clientid = tuple[int, int]
@@ -13,6 +30,7 @@ Clientid = tuple[int, int]
 
 class Named(NamedTuple):
     """What arguments name: the clientid by itself or in an owner, and the stateid, each if they have one."""
+
     clientid: Clientid | None
     stateid: Stateid | None
 
@@ -40,13 +58,18 @@ def by_lock(arguments: Lock) -> Named:
 # How the arguments of operations name a client; all others name none.
 NAMED: dict[type, Callable[[Any], Named]] = {
     **dict.fromkeys((Close, Delegreturn, Locku, OpenConfirm, OpenDowngrade, Read, Setattr, Write), by_stateid),
-    Lockt: by_owner, ReleaseLockowner: by_owner, Open: by_open, Lock: by_lock,
-    SetclientidConfirm: lambda arguments: Named(arguments[:2], None)}
+    Lockt: by_owner,
+    ReleaseLockowner: by_owner,
+    Open: by_open,
+    Lock: by_lock,
+    SetclientidConfirm: lambda arguments: Named(arguments[:2], None),
+}
 NOBODY = Named(None, None)
 
 
 class Memory:
     """The entry that was asked for last, as several ask for the same one."""
+
     entry: object = None
     history: History | None = None
     client: bytes | None = None

@@ -19,20 +19,40 @@ REPORTS = {".json": json_of, ".xml": junit_of}
 
 
 def options_of(text: str) -> argparse.ArgumentParser:
-    parser = argparse.ArgumentParser(description=text, epilog=finding_names(),
-                                     formatter_class=argparse.RawDescriptionHelpFormatter)
+    parser = argparse.ArgumentParser(
+        description=text, epilog=finding_names(), formatter_class=argparse.RawDescriptionHelpFormatter
+    )
     parser.add_argument("--warnings", action="store_true", help="let warnings count as errors do")
-    parser.add_argument("--allow", action="append", default=[], type=allowance, metavar="FINDING[=CLIENT]",
-                        help="leave a finding out, of all clients or of one; nothing after `=` means `of no client`")
-    parser.add_argument("--require", action="append", default=[], type=situation_name, metavar="SITUATION",
-                        help="make it an error if no client met this situation")
+    parser.add_argument(
+        "--allow",
+        action="append",
+        default=[],
+        type=allowance,
+        metavar="FINDING[=CLIENT]",
+        help="leave a finding out, of all clients or of one; nothing after `=` means `of no client`",
+    )
+    parser.add_argument(
+        "--require",
+        action="append",
+        default=[],
+        type=situation_name,
+        metavar="SITUATION",
+        help="make it an error if no client met this situation",
+    )
     parser.add_argument("--tried", action="store_true", help="also print how often each client met each situation")
     parser.add_argument("--situations", action="store_true", help="list all situations, and judge nothing")
     parser.add_argument("--json", action="store_true", help="print the verdict as JSON (docs/verdict.schema.json)")
-    parser.add_argument("--report", type=report, metavar="FILE",
-                        help="also write the verdict to FILE: as JSON if it ends in .json, as JUnit if in .xml")
-    parser.add_argument("--words", action="store_true",
-                        help="show entries by the words of rows, in the order of RFC 7531, in place of names")
+    parser.add_argument(
+        "--report",
+        type=report,
+        metavar="FILE",
+        help="also write the verdict to FILE: as JSON if it ends in .json, as JUnit if in .xml",
+    )
+    parser.add_argument(
+        "--words",
+        action="store_true",
+        help="show entries by the words of rows, in the order of RFC 7531, in place of names",
+    )
     parser.add_argument("journal", nargs="?", metavar="JOURNAL", help="a journal, or a beginning of one")
     return parser
 

@@ -19,6 +19,7 @@ OFTEN = 10
 @dataclass
 class Series:
     """The same request, which was answered DELAY each time."""
+
     client: bytes | None
     calls: list[tuple[int, Call]] = field(default_factory=list)
     states: set[int] = field(default_factory=set)
@@ -52,8 +53,10 @@ class Delays(Watcher):
     def findings(self) -> Iterator[Finding]:
         for series in self.hammered:
             (first, begun), (last, ended), states = series.calls[0], series.calls[-1], sorted(series.states)
-            text = (f"the same {begun.opnum.name} was answered DELAY {len(series.calls)} times, from {begun.moment} "
-                    f"(entry {first}) to {ended.moment} (entry {last}); it waits for {self.states_words(states)}")
+            text = (
+                f"the same {begun.opnum.name} was answered DELAY {len(series.calls)} times, from {begun.moment} "
+                f"(entry {first}) to {ended.moment} (entry {last}); it waits for {self.states_words(states)}"
+            )
             given = tuple(self.server.begun[state] for state in states)
             yield found("delay-hammered", series.client, tuple(number for number, _ in series.calls), text, given)
 

@@ -23,13 +23,19 @@ from judging.watching import Holdings, Watcher, is_new
 PATIENCE = 2
 # The same request so many times again may be of lost replies.
 LOST_REPLIES = 2
-DEAD = {Kind.CLIENT_EXPIRED, Kind.CLIENT_REPLACED, Kind.CLIENT_NEVER_CONFIRMED, Kind.CLIENTID_OTHER_EPOCH,
-        Kind.STATEID_OTHER_EPOCH}
+DEAD = {
+    Kind.CLIENT_EXPIRED,
+    Kind.CLIENT_REPLACED,
+    Kind.CLIENT_NEVER_CONFIRMED,
+    Kind.CLIENTID_OTHER_EPOCH,
+    Kind.STATEID_OTHER_EPOCH,
+}
 
 
 @dataclass
 class Lapse:
     """A lease that ended: the entry, whose it was, the sentence, and the entries that made what was lost."""
+
     number: int
     client: bytes | None
     text: str
@@ -42,6 +48,7 @@ class Lapse:
 @dataclass(frozen=True)
 class Lost:
     """A state that ended with a lease, with what it held of its file then."""
+
     lapse: Lapse
     share: tuple[int, int] | None
     kind: int | None
@@ -63,9 +70,11 @@ class Lapses(Watcher):
             return
         states = sorted(self.holdings.of_client[entry.client])
         client = id_of((self.server.epoch, entry.client), self.server)
-        text = (f"{client_words(entry.client)} renewed its lease of {self.server.lease} s last at {entry.seen}, and "
-                f"was removed at {entry.now} with {self.states_words(states)}; either no RENEW came since, or RENEWs "
-                "of another clientid")
+        text = (
+            f"{client_words(entry.client)} renewed its lease of {self.server.lease} s last at {entry.seen}, and "
+            f"was removed at {entry.now} with {self.states_words(states)}; either no RENEW came since, or RENEWs "
+            "of another clientid"
+        )
         lapse = Lapse(number, client, text, tuple(self.server.begun[it] for it in states))
         self.lapses.append(lapse)
         for state in map(self.server.given.__getitem__, states):
@@ -133,6 +142,7 @@ def lost_of(lapse: Lapse, state: KeptState) -> Lost:
 @dataclass
 class Dead:
     """The use of a clientid since its client was told that it is dead: by which entry, and when."""
+
     told: int
     moment: int
     # How often each request came.
@@ -142,6 +152,7 @@ class Dead:
 @dataclass
 class Continued:
     """A client that goes on: whose entries these are, and since which entry it should have known better."""
+
     client: bytes | None
     text: str
     others: tuple[int, ...]
@@ -203,8 +214,10 @@ class DeadClientids(Watcher):
         client = id_of(clientid, self.server)
         newer = None if client is None else self.confirmed.get(client)
         if newer is not None and self.given[newer[0]] > self.given[clientid[1]]:
-            text = (f"entry {newer[1]} confirmed {client_words(newer[0])} for this id, but the client goes on by "
-                    f"{client_words(clientid[1])}, which is dead")
+            text = (
+                f"entry {newer[1]} confirmed {client_words(newer[0])} for this id, but the client goes on by "
+                f"{client_words(clientid[1])}, which is dead"
+            )
             self.add(clientid, Continued(client, text, (newer[1],)), number)
             if entry.opnum in TRANSFERS and entry.moment - self.server.recorded[newer[1]].moment < PATIENCE:
                 self.under_way.setdefault((client, transfer_of(entry)), []).append((clientid, number))
@@ -226,8 +239,10 @@ class DeadClientids(Watcher):
     def dead_words(self, since: Dead) -> str:
         told = self.server.recorded[since.told]
         status = STATUS_NAMES[told.answer.status]
-        return (f"{self.sentences.entry(since.told)} was answered {status} at {since.moment}, but the client goes on "
-                f"by the dead clientid {PATIENCE} moments later or more, without a SETCLIENTID")
+        return (
+            f"{self.sentences.entry(since.told)} was answered {status} at {since.moment}, but the client goes on "
+            f"by the dead clientid {PATIENCE} moments later or more, without a SETCLIENTID"
+        )
 
     def add(self, clientid: tuple[int, int], one: Continued, number: int) -> None:
         self.continued.setdefault(clientid, one).entries.append(number)

@@ -101,10 +101,16 @@ class Leftovers(Watcher):
 
     def owners_left(self, client: int, at: tuple[int, ...], when: str) -> Iterator[Finding]:
         name = id_of((self.server.epoch, client), self.server)
-        holding = {it.owner for it in map(self.server.given.get, self.holdings.of_client.get(client, ()))
-                   if isinstance(it, LockState) and not it.ranges.is_empty()}
-        idle = {owner: entry for owner, entry in self.lock_owners.pop(client, {}).items()
-                if owner in self.server.lock_owners and owner not in holding}
+        holding = {
+            it.owner
+            for it in map(self.server.given.get, self.holdings.of_client.get(client, ()))
+            if isinstance(it, LockState) and not it.ranges.is_empty()
+        }
+        idle = {
+            owner: entry
+            for owner, entry in self.lock_owners.pop(client, {}).items()
+            if owner in self.server.lock_owners and owner not in holding
+        }
         if idle:
             text = f"{is_left(len(idle), 'lock owner')} {when}: {listed([*map(owner_words, idle)])}"
             yield found("lock-owner-left", name, at, text, tuple(idle.values()))

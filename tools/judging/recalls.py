@@ -21,6 +21,7 @@ PATIENCE = 2
 @dataclass
 class Recalled:
     """A delegation that was recalled: whose it is, and when others met DELAY for it."""
+
     state: int
     client: bytes | None
     # Whether the first mark behind it may be of another callback: of a CB_NULL that was under way, or to a callback
@@ -99,15 +100,19 @@ class Recalls(Watcher):
             text = f"{self.recall_words(it)}; it wasn't returned, and entry {number} revoked it"
             self.found[it.state] = found("delegation-not-returned", it.client, (number,), text, others)
         elif it.state not in self.found:
-            text = (f"{self.sentences.state(it.state)}, was recalled by {self.sentences.entry(others[1])}; no mark of "
-                    f"the callback path says that the recall arrived, and entry {number} revoked it")
+            text = (
+                f"{self.sentences.state(it.state)}, was recalled by {self.sentences.entry(others[1])}; no mark of "
+                f"the callback path says that the recall arrived, and entry {number} revoked it"
+            )
             self.found[it.state] = found("recall-not-answered", it.client, (number,), text, others)
 
     def recall_words(self, it: Recalled) -> str:
         """That a recall was answered."""
         recall, mark = self.server.recalled[it.state], self.server.recall_marks[it.state][0]
-        return (f"{self.sentences.state(it.state)}, was recalled by {self.sentences.entry(recall)}, and the recall was "
-                f"answered (entry {mark} marks the path up)")
+        return (
+            f"{self.sentences.state(it.state)}, was recalled by {self.sentences.entry(recall)}, and the recall was "
+            f"answered (entry {mark} marks the path up)"
+        )
 
     def note_refusal(self, number: int, entry: Call, reason: Reason) -> None:
         """Another client's request that meets DELAY, or a use of a delegation that was revoked."""
@@ -137,8 +142,10 @@ class Recalls(Watcher):
         if not it.delays or it.delays[-1][1] - max(it.delays[0][1], it.marked) < PATIENCE:
             return
         (first, since), (last, until) = it.delays[0], it.delays[-1]
-        text = (f"{self.recall_words(it)}; another client met DELAY for it from {since} (entry {first}) to {until} "
-                f"(entry {last}), and it isn't returned at the end of the journal")
+        text = (
+            f"{self.recall_words(it)}; another client met DELAY for it from {since} (entry {first}) to {until} "
+            f"(entry {last}), and it isn't returned at the end of the journal"
+        )
         entries = tuple(number for number, _ in it.delays)
         severity = None if self.is_whole else Severity.WARNING
         yield found("delegation-not-returned", it.client, (), text, (self.server.begun[it.state], *entries), severity)

@@ -24,6 +24,7 @@ ORDER = {name: place for place, name in enumerate(SORTS)}
 @dataclass(frozen=True)
 class Suspect:
     """A refusal, and the faults that it may be the sign of."""
+
     refused: Refused
     faults: list[Fault]
 
@@ -86,5 +87,8 @@ def again_words(entries: tuple[int, ...]) -> str:
     """How often a fault was met behind its first entry."""
     if len(entries) == 1:
         return ""
-    return f"; and again, in entry {entries[1]}" if len(entries) == 2 else (
-        f"; and {len(entries) - 1} more times, the last in entry {entries[-1]}")
+    return (
+        f"; and again, in entry {entries[1]}"
+        if len(entries) == 2
+        else (f"; and {len(entries) - 1} more times, the last in entry {entries[-1]}")
+    )

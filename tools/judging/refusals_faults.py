@@ -35,6 +35,7 @@ TRANSFERS = {Opnum.READ, Opnum.WRITE, Opnum.SETATTR}
 @dataclass(frozen=True)
 class Refused:
     """A call that is refused, and why; and whose it is, by the id of its SETCLIENTID."""
+
     number: int
     call: Call
     reason: Reason
@@ -44,6 +45,7 @@ class Refused:
 @dataclass(frozen=True)
 class Fault:
     """A fault that a refusal may be the sign of. Those of one key are the same fault again."""
+
     name: str
     key: Hashable
     text: str
@@ -166,8 +168,10 @@ class Memory:
         """What is made by a special stateid names no client, but the one who sends it."""
         client = client_of(call, self.server)
         self.asked_again.update(
-            it.number for it in self.lost.get(transfer_of(call), ())
-            if it.client == client or client is None and it.call.principal == call.principal)
+            it.number
+            for it in self.lost.get(transfer_of(call), ())
+            if it.client == client or client is None and it.call.principal == call.principal
+        )
 
     def note_refusal(self, told: Told, call: Call) -> None:
         """Keeps those of owners that aren't known."""

@@ -66,8 +66,11 @@ class OfStateids(Finder):
         stateid, found = facts.stateid, self.server.given[facts.state]
         if (facts.state, stateid.seqid) not in self.memory.answered:
             return self.fault("stateid-unknown", refused, reason)
-        if refused.call.opnum == Opnum.OPEN_CONFIRM and isinstance(found, OpenState) and (
-                self.server.open_owners[found.owner].is_confirmed):
+        if (
+            refused.call.opnum == Opnum.OPEN_CONFIRM
+            and isinstance(found, OpenState)
+            and (self.server.open_owners[found.owner].is_confirmed)
+        ):
             return self.fault("confirm-of-nothing", refused, reason)
         return replace(self.fault("stateid-old", refused, reason), later=lambda: self.doubt_of_old(refused, stateid))
 

@@ -22,6 +22,7 @@ Line = Callable[[Entry, Tree], str]
 
 # Text.
 
+
 def lines_of(verdict: Verdict, terms: Terms, journal: Journal, line_of: Line) -> Iterator[str]:
     """Each client with what was found of it; what was required; and the verdict. Entries are shown by `line_of`."""
     for client in verdict.clients:
@@ -37,8 +38,10 @@ def lines_of(verdict: Verdict, terms: Terms, journal: Journal, line_of: Line) ->
 def finding_lines(finding: Finding, terms: Terms, journal: Journal, line_of: Line) -> Iterator[str]:
     """What was found, the first entry of it, and what a right client does."""
     allowed = "allowed " if terms.is_allowed(finding) else ""
-    yield (f"  {allowed}{finding.severity.value} {finding.sort.name} (RFC 7530, {finding.sort.section}), "
-           f"{place_words(finding)}: {finding.text}")
+    yield (
+        f"  {allowed}{finding.severity.value} {finding.sort.name} (RFC 7530, {finding.sort.section}), "
+        f"{place_words(finding)}: {finding.text}"
+    )
     shown = next(iter(finding.entries or finding.others), None)
     if shown is not None:
         yield f"    {shown}: {line_of(journal.entries[shown], journal.tree)}"
@@ -75,6 +78,7 @@ def tried_lines(verdict: Verdict) -> list[str]:
 
 # JSON.
 
+
 def json_of(verdict: Verdict, terms: Terms) -> str:
     """The verdict by docs/verdict.schema.json."""
     return json.dumps(verdict_fields(verdict, terms), indent=2) + "\n"
@@ -83,29 +87,46 @@ def json_of(verdict: Verdict, terms: Terms) -> str:
 def verdict_fields(verdict: Verdict, terms: Terms) -> dict[str, Any]:
     return {
         "verdict": "right" if terms.is_right(verdict) else "wrong",
-        "errors": terms.errors(verdict), "warnings": terms.warnings(verdict), "missing": terms.missing(verdict),
-        "entries": verdict.entries, "ends": verdict.ends, "fault": verdict.fault,
-        "clients": [client_fields(client, terms) for client in verdict.clients]}
+        "errors": terms.errors(verdict),
+        "warnings": terms.warnings(verdict),
+        "missing": terms.missing(verdict),
+        "entries": verdict.entries,
+        "ends": verdict.ends,
+        "fault": verdict.fault,
+        "clients": [client_fields(client, terms) for client in verdict.clients],
+    }
 
 
 def client_fields(client: ClientVerdict, terms: Terms) -> dict[str, Any]:
     done = client.activity
     return {
-        "name": None if client.client is None else text_of(client.client), "calls": done.calls, "opens": done.opens,
-        "locks": done.locks, "delegations": done.delegations, "retransmissions": done.retransmissions,
+        "name": None if client.client is None else text_of(client.client),
+        "calls": done.calls,
+        "opens": done.opens,
+        "locks": done.locks,
+        "delegations": done.delegations,
+        "retransmissions": done.retransmissions,
         "findings": [finding_fields(finding, terms) for finding in client.findings],
-        "situations": dict(client.situations)}
+        "situations": dict(client.situations),
+    }
 
 
 def finding_fields(finding: Finding, terms: Terms) -> dict[str, Any]:
     sort = finding.sort
     return {
-        "finding": sort.name, "severity": finding.severity.value, "section": sort.section,
-        "entries": list(finding.entries), "others": list(finding.others), "text": finding.text, "advice": sort.advice,
-        "allowed": terms.is_allowed(finding)}
+        "finding": sort.name,
+        "severity": finding.severity.value,
+        "section": sort.section,
+        "entries": list(finding.entries),
+        "others": list(finding.others),
+        "text": finding.text,
+        "advice": sort.advice,
+        "allowed": terms.is_allowed(finding),
+    }
 
 
 # JUnit.
+
 
 def junit_of(verdict: Verdict, terms: Terms) -> str:
     """A case for each client and sort of findings: passed, failed for an error, skipped for a warning; and one for each

@@ -34,9 +34,11 @@ class SequenceIds(Finder):
         """A refusal that counted, once more than two lost replies account for."""
         if facts.times < TOO_OFTEN:
             return
-        text = (f"{answer_words(refused.call)} again: it is the request of {self.entry(facts.entry)}, which is sent "
-                f"for the {ordinal(facts.times + 1)} time; its answer counted, and {facts.next_id} is the next "
-                f"sequence id of {owner_words(facts.owner)}")
+        text = (
+            f"{answer_words(refused.call)} again: it is the request of {self.entry(facts.entry)}, which is sent "
+            f"for the {ordinal(facts.times + 1)} time; its answer counted, and {facts.next_id} is the next "
+            f"sequence id of {owner_words(facts.owner)}"
+        )
         found = fault("sequence-id-kept-after-counted-refusal", refused, reason, text)
         yield replace(found, key=(key_of(facts.owner), facts.entry))
 
@@ -118,8 +120,10 @@ class SequenceIds(Finder):
 
     def uncounted_words(self, facts: SequenceFacts) -> str:
         """The entries that didn't count, and why."""
-        texts = [f"{self.entry(it.entry)} had {it.sequence_id}, and {STATUS_NAMES[it.status]} doesn't count"
-                 for it in self.uncounted(facts)]
+        texts = [
+            f"{self.entry(it.entry)} had {it.sequence_id}, and {STATUS_NAMES[it.status]} doesn't count"
+            for it in self.uncounted(facts)
+        ]
         return f"; {listed(texts)}" if texts else ""
 
     def entry(self, number: int) -> str:

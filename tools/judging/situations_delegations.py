@@ -14,8 +14,13 @@ class DelegationWatcher(Watcher):
     def __init__(self, server: History) -> None:
         super().__init__(server)
         self.notes = {Opnum.DELEGRETURN: self.note_return}
-        self.rules = {Opnum.OPEN: self.of_open, Opnum.DELEGRETURN: self.of_return, Opnum.READ: self.of_bytes,
-                      Opnum.WRITE: self.of_bytes, Opnum.SETATTR: self.of_bytes}
+        self.rules = {
+            Opnum.OPEN: self.of_open,
+            Opnum.DELEGRETURN: self.of_return,
+            Opnum.READ: self.of_bytes,
+            Opnum.WRITE: self.of_bytes,
+            Opnum.SETATTR: self.of_bytes,
+        }
         # Whether a delegation that is returned was recalled.
         self.is_recalled = False
         # The requests that were answered DELAY, and not OK since.

@@ -18,10 +18,19 @@ class LockWatcher(Watcher):
 
     def __init__(self, server: History) -> None:
         super().__init__(server)
-        self.notes = {Opnum.LOCK: self.note_lock, Opnum.LOCKU: self.note_locku, Opnum.CLOSE: self.note_close,
-                      Opnum.RELEASE_LOCKOWNER: self.note_release}
-        self.rules = {Opnum.LOCK: self.of_lock, Opnum.LOCKU: self.of_locku, Opnum.CLOSE: self.of_close,
-                      Opnum.LOCKT: self.of_lockt, Opnum.RELEASE_LOCKOWNER: self.of_release}
+        self.notes = {
+            Opnum.LOCK: self.note_lock,
+            Opnum.LOCKU: self.note_locku,
+            Opnum.CLOSE: self.note_close,
+            Opnum.RELEASE_LOCKOWNER: self.note_release,
+        }
+        self.rules = {
+            Opnum.LOCK: self.of_lock,
+            Opnum.LOCKU: self.of_locku,
+            Opnum.CLOSE: self.of_close,
+            Opnum.LOCKT: self.of_lockt,
+            Opnum.RELEASE_LOCKOWNER: self.of_release,
+        }
         # Before a call: what its lock state holds, whether its lock owner is known, and whether a CLOSE finds bytes
         # held.
         self.ranges, self.is_known, self.has_locks = Ranges(), False, False
@@ -64,8 +73,13 @@ class LockWatcher(Watcher):
     def request_of(self, call: Call) -> Hashable:
         """What a LOCK that comes again after DENIED has in common with it: its owner may have a lock state by then."""
         arguments = call.arguments
-        return (self.owner_of(arguments), call.filehandle, arguments.offset, arguments.length,
-                mode_of(arguments.locktype))
+        return (
+            self.owner_of(arguments),
+            call.filehandle,
+            arguments.offset,
+            arguments.length,
+            mode_of(arguments.locktype),
+        )
 
     def owner_of(self, arguments: Lock) -> LockOwner | None:
         if isinstance(arguments.locker, NewLocker):

@@ -14,8 +14,12 @@ class OpenWatcher(Watcher):
     def __init__(self, server: History) -> None:
         super().__init__(server)
         self.notes = {Opnum.OPEN: self.note_open, Opnum.OPEN_DOWNGRADE: self.note_downgrade}
-        self.rules = {Opnum.OPEN: self.of_open, Opnum.OPEN_CONFIRM: self.of_open_confirm,
-                      Opnum.OPEN_DOWNGRADE: self.of_open_downgrade, Opnum.LOCK: self.of_reclaim}
+        self.rules = {
+            Opnum.OPEN: self.of_open,
+            Opnum.OPEN_CONFIRM: self.of_open_confirm,
+            Opnum.OPEN_DOWNGRADE: self.of_open_downgrade,
+            Opnum.LOCK: self.of_reclaim,
+        }
         # Whether the owner of an OPEN is known and unconfirmed before it; and the share before an OPEN_DOWNGRADE.
         self.is_unconfirmed = False
         self.share: tuple[int, int] | None = None

@@ -9,12 +9,22 @@ from model.states import LAST, Delegation, Owner, OwnerName, Request, is_first_l
 from nfs4.wire import LockOwner, Opnum, Status
 
 # The sequenced operations, as names of situations have them.
-SEQUENCED = {Opnum.OPEN: "open", Opnum.OPEN_CONFIRM: "open-confirm", Opnum.OPEN_DOWNGRADE: "open-downgrade",
-             Opnum.CLOSE: "close", Opnum.LOCK: "lock", Opnum.LOCKU: "locku"}
+SEQUENCED = {
+    Opnum.OPEN: "open",
+    Opnum.OPEN_CONFIRM: "open-confirm",
+    Opnum.OPEN_DOWNGRADE: "open-downgrade",
+    Opnum.CLOSE: "close",
+    Opnum.LOCK: "lock",
+    Opnum.LOCKU: "locku",
+}
 # The refusals of section 9.1.7 that a journal can have: RESOURCE and BADXDR make no entry.
-UNCOUNTED = {Status.STALE_CLIENTID: "uncounted-stale-clientid", Status.STALE_STATEID: "uncounted-stale-stateid",
-             Status.BAD_STATEID: "uncounted-bad-stateid", Status.BAD_SEQID: "uncounted-bad-seqid",
-             Status.NOFILEHANDLE: "uncounted-nofilehandle"}
+UNCOUNTED = {
+    Status.STALE_CLIENTID: "uncounted-stale-clientid",
+    Status.STALE_STATEID: "uncounted-stale-stateid",
+    Status.BAD_STATEID: "uncounted-bad-stateid",
+    Status.BAD_SEQID: "uncounted-bad-seqid",
+    Status.NOFILEHANDLE: "uncounted-nofilehandle",
+}
 
 
 class RequestWatcher(Watcher):

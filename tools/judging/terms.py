@@ -17,6 +17,7 @@ OF_NO_CLIENT = "of no client"
 @dataclass(frozen=True)
 class Allowance:
     """A sort of findings that is allowed: of all clients, or of the one that is named; "" is that of no client."""
+
     sort: str
     client: str | None
 

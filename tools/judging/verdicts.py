@@ -27,6 +27,7 @@ ORDER = {name: place for place, name in enumerate(SORTS)}
 class ClientVerdict:
     """Of a client, by the id of its SETCLIENTID, or of the calls that name none: what it did, what was found of it in
     the order of the journal, and how often it met situations."""
+
     client: bytes | None
     activity: Activity
     findings: tuple[Finding, ...]
@@ -37,6 +38,7 @@ class ClientVerdict:
 class Verdict:
     """On all clients of a journal; with how many entries it has, and how its file ends if that is no whole journal.
     `fault` says why what follows was not judged: it is no entry, or the answer is wrong."""
+
     clients: tuple[ClientVerdict, ...]
     entries: int
     ends: str | None = None
@@ -62,19 +64,27 @@ def judge(journal: Journal, ends: str | None = None, fault: str | None = None) -
         for _ in replay.run([holdings, activities, met, *finders]):
             pass
     except WrongAnswer as ended:
-        return judge(journal._replace(entries=journal.entries[:ended.args[0]]), ends, fault_of(ended))
+        return judge(journal._replace(entries=journal.entries[: ended.args[0]]), ends, fault_of(ended))
     findings = [finding for finder in finders for finding in finder.findings()]
     return Verdict(tuple(by_client(activities.of, findings, met.counts)), replay.server.entries, ends, fault)
 
 
 def finders_of(server: History, holdings: Holdings, is_whole: bool) -> list[Watcher]:
     """All who find something."""
-    return [Refusals(server), Lapses(server, holdings), DeadClientids(server), Recalls(server, holdings, is_whole),
-            Leftovers(server, holdings), Delays(server), Circumstances(server)]
+    return [
+        Refusals(server),
+        Lapses(server, holdings),
+        DeadClientids(server),
+        Recalls(server, holdings, is_whole),
+        Leftovers(server, holdings),
+        Delays(server),
+        Circumstances(server),
+    ]
 
 
-def by_client(done: dict[bytes | None, Activity], findings: Iterable[Finding],
-              met: Mapping[bytes | None, Counter[str]]) -> Iterator[ClientVerdict]:
+def by_client(
+    done: dict[bytes | None, Activity], findings: Iterable[Finding], met: Mapping[bytes | None, Counter[str]]
+) -> Iterator[ClientVerdict]:
     """What there is of each client, in the order in which they came, and at last of no client."""
     found: dict[bytes | None, list[Finding]] = {client: [] for client in done}
     for finding in sorted(findings, key=place_of):

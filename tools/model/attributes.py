@@ -10,12 +10,41 @@ from nfs4.wire import Status, u32, u64
 
 # Those that there are, here or to be set, by their numbers (sections 5.6 and 5.7).
 NAMES = {
-    0: "supported_attrs", 1: "type", 2: "fh_expire_type", 3: "change", 4: "size", 5: "link_support",
-    6: "symlink_support", 7: "named_attr", 8: "fsid", 9: "unique_handles", 10: "lease_time", 11: "rdattr_error",
-    19: "filehandle", 20: "fileid", 21: "files_avail", 22: "files_free", 23: "files_total", 27: "maxfilesize",
-    29: "maxname", 30: "maxread", 31: "maxwrite", 33: "mode", 35: "numlinks", 36: "owner", 37: "owner_group",
-    42: "space_avail", 43: "space_free", 44: "space_total", 45: "space_used", 47: "time_access",
-    48: "time_access_set", 52: "time_metadata", 53: "time_modify", 54: "time_modify_set"}
+    0: "supported_attrs",
+    1: "type",
+    2: "fh_expire_type",
+    3: "change",
+    4: "size",
+    5: "link_support",
+    6: "symlink_support",
+    7: "named_attr",
+    8: "fsid",
+    9: "unique_handles",
+    10: "lease_time",
+    11: "rdattr_error",
+    19: "filehandle",
+    20: "fileid",
+    21: "files_avail",
+    22: "files_free",
+    23: "files_total",
+    27: "maxfilesize",
+    29: "maxname",
+    30: "maxread",
+    31: "maxwrite",
+    33: "mode",
+    35: "numlinks",
+    36: "owner",
+    37: "owner_group",
+    42: "space_avail",
+    43: "space_free",
+    44: "space_total",
+    45: "space_used",
+    47: "time_access",
+    48: "time_access_set",
+    52: "time_metadata",
+    53: "time_modify",
+    54: "time_modify_set",
+}
 SIZE, MODE, OWNER, OWNER_GROUP, TIME_ACCESS_SET, TIME_MODIFY_SET = 4, 33, 36, 37, 48, 54
 # Those that can only be set, and are no attributes to be asked for (section 5.5).
 SET_ONLY = {TIME_ACCESS_SET, TIME_MODIFY_SET}
@@ -53,8 +82,18 @@ class Attributes(State):
         """By their numbers, the values that can be read."""
         is_file, size, change = self.tree.is_file(node), len(self.text_of(node)), self.changes.get(node, 0)
         found = {
-            1: u32(1 if is_file else 2), 2: u32(0), 3: u64(change), 4: u64(size), 5: u32(0), 6: u32(0), 7: u32(0),
-            8: u64(1) + u64(0), 9: u32(1), 10: u32(self.lease), 11: u32(0), 19: wire.opaque(handle_of(node)),
+            1: u32(1 if is_file else 2),
+            2: u32(0),
+            3: u64(change),
+            4: u64(size),
+            5: u32(0),
+            6: u32(0),
+            7: u32(0),
+            8: u64(1) + u64(0),
+            9: u32(1),
+            10: u32(self.lease),
+            11: u32(0),
+            19: wire.opaque(handle_of(node)),
             20: u64(node + 1),
         }
         set_only: set[int] = set()
@@ -69,12 +108,25 @@ class Attributes(State):
         changed, nobody, nothing = u64(change) + u32(0), wire.opaque(b"0"), u64(0)
         return {
             # Files and bytes that are left: none can be made.
-            21: nothing, 22: nothing, 23: u64(len(self.tree.nodes)), 42: nothing, 43: nothing, 44: u64(SPACE),
+            21: nothing,
+            22: nothing,
+            23: u64(len(self.tree.nodes)),
+            42: nothing,
+            43: nothing,
+            44: u64(SPACE),
             45: u64(size),
             # What a file, a name, a READ and a WRITE may have at most.
-            27: u64(TEXT_LIMIT), 29: u32(NAME_LIMIT), 30: u64(TEXT_LIMIT), 31: u64(TEXT_LIMIT),
-            MODE: u32(FILE_MODE if is_file else DIRECTORY_MODE), 35: u32(1), OWNER: nobody, OWNER_GROUP: nobody,
-            47: u64(0) + u32(0), 52: changed, 53: changed,
+            27: u64(TEXT_LIMIT),
+            29: u32(NAME_LIMIT),
+            30: u64(TEXT_LIMIT),
+            31: u64(TEXT_LIMIT),
+            MODE: u32(FILE_MODE if is_file else DIRECTORY_MODE),
+            35: u32(1),
+            OWNER: nobody,
+            OWNER_GROUP: nobody,
+            47: u64(0) + u32(0),
+            52: changed,
+            53: changed,
         }
 
     def supported(self) -> set[int]:

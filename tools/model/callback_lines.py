@@ -23,6 +23,7 @@ def read_address(word: str) -> tuple[str, int]:
 
 # The lines.
 
+
 def say(line: str) -> None:
     with turn:
         print(line, flush=True)
@@ -42,8 +43,10 @@ def line_of(heard: Heard) -> str:
 
 def recall_words(recall: RecallArguments) -> str:
     truncate = ", truncate" if recall.truncate else ""
-    return (f"CB_RECALL {stateid_words(recall.stateid)}, callback_ident {number_word(recall.ident)}, "
-            f"filehandle {' '.join(opaque_words(recall.filehandle))}{truncate}")
+    return (
+        f"CB_RECALL {stateid_words(recall.stateid)}, callback_ident {number_word(recall.ident)}, "
+        f"filehandle {' '.join(opaque_words(recall.filehandle))}{truncate}"
+    )
 
 
 def stateid_words(stateid: Stateid) -> str:
@@ -51,6 +54,7 @@ def stateid_words(stateid: Stateid) -> str:
 
 
 # The calls.
+
 
 class Answering:
     """What is done with a record that came, by the options."""

@@ -8,6 +8,7 @@ import sys
 
 sys.dont_write_bytecode = True
 from packages import make_known
+
 make_known()
 
 from model.row_checks import check

@@ -2,8 +2,20 @@
 of, when it is given, called back, given back and taken. Sections are those of RFC 7530."""
 from model.state import State
 from model.states import Delegation, Recall, Refusal, UNKNOWN, UP, expect_seqid
-from nfs4.wire import (CLAIM_NULL, OPEN_DELEGATE_NONE, OPEN_DELEGATE_READ, OPEN_DELEGATE_WRITE, Open, READ,
-                       Stateid, Status, WRITE, opaque, u32, u64)
+from nfs4.wire import (
+    CLAIM_NULL,
+    OPEN_DELEGATE_NONE,
+    OPEN_DELEGATE_READ,
+    OPEN_DELEGATE_WRITE,
+    Open,
+    READ,
+    Stateid,
+    Status,
+    WRITE,
+    opaque,
+    u32,
+    u64,
+)
 
 # How many bytes a file may get under a write delegation, and that it is bytes which are counted.
 SPACE, NFS_LIMIT_SIZE = 65536, 1
@@ -103,8 +115,10 @@ class Delegating(State):
 
     def probe(self, after: int) -> int | None:
         """The least number above this one that a live client has of whose path nothing is known, or None."""
-        return min((it.number for it in self.records if it.is_confirmed and it.path == UNKNOWN and it.number > after),
-                   default=None)
+        return min(
+            (it.number for it in self.records if it.is_confirmed and it.path == UNKNOWN and it.number > after),
+            default=None,
+        )
 
     # Recalls (section 10.4.4).
 
@@ -118,7 +132,7 @@ class Delegating(State):
 
     def pending(self) -> list[Recall]:
         """The recalls that wait."""
-        return self.recalls[self.taken:]
+        return self.recalls[self.taken :]
 
     def take_recall(self) -> Recall | None:
         """The first recall that waits, which then doesn't any more; or None. It makes no entry."""

@@ -9,8 +9,24 @@ from typing import Annotated, Any, NamedTuple
 from model.server import CHANGING_DIRECTORIES, STATEFUL_BY_PROFILE
 from model.tree import CLIENTS, Tree
 from nfs4 import wire
-from nfs4.wire import (Bool, FORMS, Form, OPEN_DELEGATE_NONE, OPEN_DELEGATE_WRITE, OpenOwner, Opnum, Principal, STATEID,
-                       Stateid, Status, Unreadable, Word, form_of, u32, u64)
+from nfs4.wire import (
+    Bool,
+    FORMS,
+    Form,
+    OPEN_DELEGATE_NONE,
+    OPEN_DELEGATE_WRITE,
+    OpenOwner,
+    Opnum,
+    Principal,
+    STATEID,
+    Stateid,
+    Status,
+    Unreadable,
+    Word,
+    form_of,
+    u32,
+    u64,
+)
 
 MOMENT_LIMIT = 2**40 - 2
 
@@ -37,15 +53,15 @@ class StrictReader(wire.Reader):
         end = self.at + count
         if end > len(self.data):
             raise EndsEarly("it ends too early")
-        value, self.at = self.data[self.at:end], end
+        value, self.at = self.data[self.at : end], end
         return value
 
     def opaque(self, limit: int = 2**32 - 1) -> bytes:
-        if int.from_bytes(self.data[self.at:self.at + 4], "big") > limit:
+        if int.from_bytes(self.data[self.at : self.at + 4], "big") > limit:
             raise NotJournal(f"more than {limit} bytes")
         value = super().opaque(limit)
         padding = -len(value) % 4
-        if any(self.data[self.at - padding:self.at]):
+        if any(self.data[self.at - padding : self.at]):
             raise NotJournal("padding that isn't zero")
         return value
 
@@ -66,6 +82,7 @@ class StrictReader(wire.Reader):
 
 # The entries by their kinds.
 
+
 def read_moment(reader: wire.Reader) -> int:
     moment = reader.u64()
     if moment >= MOMENT_LIMIT:
@@ -77,8 +94,17 @@ Moment = Annotated[int, Form(read_moment, u64)]
 # The operation that is answered, by its number; the status; and the bytes after it.
 Answer = NamedTuple("Answer", [("number", int), ("status", int), ("rest", bytes)])
 # A request with its answer: when it came, who sent it, and the current filehandle's node, or None.
-Call = NamedTuple("Call", [("moment", int), ("principal", Principal), ("filehandle", int | None), ("opnum", Opnum),
-                           ("arguments", Any), ("answer", Answer)])
+Call = NamedTuple(
+    "Call",
+    [
+        ("moment", int),
+        ("principal", Principal),
+        ("filehandle", int | None),
+        ("opnum", Opnum),
+        ("arguments", Any),
+        ("answer", Answer),
+    ],
+)
 # A client's lease is over: it was seen last, and now it is removed.
 Expire = NamedTuple("Expire", [("client", Word), ("seen", Moment), ("now", Moment)])
 # A delegation that was called back and not given back is taken.
@@ -95,6 +121,7 @@ ENTRIES = {number: form_of(kind) for kind, number in NUMBERS.items()}
 
 
 # What follows the status of an answer, by the operation and the status; for all others nothing does.
+
 
 def read_delegation(reader: StrictReader) -> tuple[int, Stateid | None]:
     """Its kind, and its stateid if there is one. What the server can't choose of a delegation is fixed: it isn't called
@@ -146,7 +173,7 @@ def read_answer(reader: StrictReader) -> Answer:
         raise NotJournal("an operation without a rule has another answer than NOTSUPP")
     begin = reader.at
     RESTS.get((number, status), lambda r: None)(reader)
-    return Answer(number, status, reader.data[begin:reader.at])
+    return Answer(number, status, reader.data[begin : reader.at])
 
 
 def answer_bytes(answer: Answer) -> bytes:
@@ -154,6 +181,7 @@ def answer_bytes(answer: Answer) -> bytes:
 
 
 # Calls. `nodes` is how many there are, with the root; which operations make an entry hangs on the profile.
+
 
 def read_principal(reader: StrictReader) -> Principal:
     flavor, uid = reader.one_of(2), reader.u32()

@@ -31,6 +31,7 @@ from typing import Any, TypeVar
 
 sys.dont_write_bytecode = True
 from packages import make_known
+
 make_known()
 from dataclasses import replace
 
@@ -42,8 +43,20 @@ from model.pages import CASES, CUTS, LENGTHS, PAGE, Pages
 from model.ranges import ALL_ONES, LAST_BYTE
 from model.row_checks import outcome_of
 from model.server import CLIENTS_LIMIT
-from model.states import (ClientRecord, Delegation, KeptState, LockState, Owner, OwnerName, Refusal, Request, Result,
-                          SLOTS, handle_of, next_sequence_id)
+from model.states import (
+    ClientRecord,
+    Delegation,
+    KeptState,
+    LockState,
+    Owner,
+    OwnerName,
+    Refusal,
+    Request,
+    Result,
+    SLOTS,
+    handle_of,
+    next_sequence_id,
+)
 from model.tree import CLIENTS, CLOSE_LOCKS, DEFAULT, PROFILES, TEXT_LIMIT, Tree
 from nfs4 import rows, wire
 from nfs4.built import expect_program
@@ -77,8 +90,12 @@ LOCKING, LENDING, WRITING = range(3)
 # What is counted besides the operations: delegations by their type, entries of the journal, slots of clients, and
 # owners that come again after they were forgotten.
 LENT = {1: "delegations for reading", 2: "delegations for writing"}
-WHAT = {Expire: "clients removed", Revocation: "delegations revoked", Path: "paths marked",
-        Forgetting: "owners forgotten"}
+WHAT = {
+    Expire: "clients removed",
+    Revocation: "delegations revoked",
+    Path: "paths marked",
+    Forgetting: "owners forgotten",
+}
 AGAIN, YIELDED, NONE_LEFT = "slots given again", "records that were dropped", "newcomers without a slot"
 BACK = "forgotten owners that came again"
 # In so many operations of a few clients each case of pages comes, and in so many under either profile of sizes too.
@@ -142,8 +159,9 @@ class Counting(Recorder):
         super().resize(file, size)
         self.pages.resize(file, before, size)
 
-    def apply(self, opnum: Opnum, arguments: Any, filehandle: int | None, principal: Principal,
-              is_refused: bool = False) -> Result:
+    def apply(
+        self, opnum: Opnum, arguments: Any, filehandle: int | None, principal: Principal, is_refused: bool = False
+    ) -> Result:
         result = super().apply(opnum, arguments, filehandle, principal, is_refused)
         self.counts[opnum, result.status] += 1
         return result
@@ -200,21 +218,56 @@ class Caller:
         self.wanted = min(len(self.clients), self.chance.choice([CLIENTS_LIMIT, CLIENTS_LIMIT, 200, 100]))
         self.pauses = [0] * (80 if self.is_crowded else 6) + [1, 2, self.lease // 2, self.lease // 4]
         locks: dict[Maker, float] = {
-            self.lock: 36, self.locku: 18, self.lockt: 24, self.repeat: 6, self.open: 5, self.release_lockowner: 3,
-            self.close: 2, self.open_downgrade: 2, self.open_confirm: 1, self.delegreturn: 1, self.read: 1,
-            self.write: 1}
+            self.lock: 36,
+            self.locku: 18,
+            self.lockt: 24,
+            self.repeat: 6,
+            self.open: 5,
+            self.release_lockowner: 3,
+            self.close: 2,
+            self.open_downgrade: 2,
+            self.open_confirm: 1,
+            self.delegreturn: 1,
+            self.read: 1,
+            self.write: 1,
+        }
         lends: dict[Maker, float] = {
-            self.open: 40, self.close: 24, self.delegreturn: 8, self.open_downgrade: 4, self.repeat: 4,
-            self.open_confirm: 1, self.lock: 2, self.locku: 1, self.lockt: 2, self.release_lockowner: 1,
-            self.read: 3, self.write: 3}
+            self.open: 40,
+            self.close: 24,
+            self.delegreturn: 8,
+            self.open_downgrade: 4,
+            self.repeat: 4,
+            self.open_confirm: 1,
+            self.lock: 2,
+            self.locku: 1,
+            self.lockt: 2,
+            self.release_lockowner: 1,
+            self.read: 3,
+            self.write: 3,
+        }
         writes: dict[Maker, float] = {
-            self.read: 30, self.write: 30, self.open: 14, self.close: 8, self.delegreturn: 6, self.lock: 4,
-            self.open_downgrade: 3, self.locku: 2, self.release_lockowner: 1, self.open_confirm: 1, self.lockt: 1,
-            self.repeat: 1, self.getattr: 4}
+            self.read: 30,
+            self.write: 30,
+            self.open: 14,
+            self.close: 8,
+            self.delegreturn: 6,
+            self.lock: 4,
+            self.open_downgrade: 3,
+            self.locku: 2,
+            self.release_lockowner: 1,
+            self.open_confirm: 1,
+            self.lockt: 1,
+            self.repeat: 1,
+            self.getattr: 4,
+        }
         seldom = 6 if self.is_crowded else 0.3
         often: dict[Maker, float] = {
-            self.on_tree: 1, self.getattr: 1, self.setclientid: seldom, self.setclientid_confirm: seldom,
-            self.renew: 0.3}
+            self.on_tree: 1,
+            self.getattr: 1,
+            self.setclientid: seldom,
+            self.setclientid_confirm: seldom,
+            self.renew: 0.3,
+        }
         if self.profile == CLIENTS:
             share = {LOCKING: 0.5, LENDING: 2, WRITING: 8}[self.kind]
             often |= {self.setattr: 3 * share, self.readdir: share, self.getattr: 1 + share, self.commit: 0.3}
@@ -322,7 +375,7 @@ class Caller:
         return u32(Opnum.SETCLIENTID) + verifier + opaque(name) + callback
 
     def setclientid_confirm(self) -> Operations:
-        record = self.pick(self.server.introduced[-self.chance.choice([2, 2, CLIENTS_LIMIT]):], None)
+        record = self.pick(self.server.introduced[-self.chance.choice([2, 2, CLIENTS_LIMIT]) :], None)
         number, confirm = (record.number, record.confirm) if record else (1, 1)
         return [u32(Opnum.SETCLIENTID_CONFIRM, 1, self.near(number)) + u64(self.near(confirm))]
 
@@ -333,10 +386,14 @@ class Caller:
         name, node = self.chance.choice(NAMES), self.chance.randint(0, 5)
         # Operations whose arguments aren't read.
         unread = [2, 6, 11, 28, 29, 40, 10044] + [5, 26, 34] * (self.profile != CLIENTS)
-        return self.chance.choice([
-            [u32(Opnum.PUTROOTFH), u32(Opnum.LOOKUP) + opaque(name), u32(Opnum.GETFH)],
-            [u32(Opnum.PUTFH) + opaque(handle_of(node)), u32(Opnum.SAVEFH)],
-            [u32(Opnum.RESTOREFH), u32(Opnum.ACCESS, 63)], [u32(self.chance.choice(unread))]])
+        return self.chance.choice(
+            [
+                [u32(Opnum.PUTROOTFH), u32(Opnum.LOOKUP) + opaque(name), u32(Opnum.GETFH)],
+                [u32(Opnum.PUTFH) + opaque(handle_of(node)), u32(Opnum.SAVEFH)],
+                [u32(Opnum.RESTOREFH), u32(Opnum.ACCESS, 63)],
+                [u32(self.chance.choice(unread))],
+            ]
+        )
 
     def getattr(self) -> Operations:
         return self.handle(self.chance.randint(0, 4)) + [u32(Opnum.GETATTR) + self.mask()]
@@ -346,7 +403,7 @@ class Caller:
         words = [self.chance.getrandbits(32), self.chance.getrandbits(32) & ~(1 << 16 | 1 << 22)]
         if self.is_rare(0.03):
             words[1] |= self.chance.choice([1 << 16, 1 << 22])
-        return wire.bitmap((words + [self.chance.getrandbits(32)])[:self.chance.choice([0, 1, 1, 1, 2, 2, 2, 3])])
+        return wire.bitmap((words + [self.chance.getrandbits(32)])[: self.chance.choice([0, 1, 1, 1, 2, 2, 2, 3])])
 
     def commit(self) -> Operations:
         place = u64(self.chance.getrandbits(64)) + u32(self.chance.getrandbits(32))
@@ -359,7 +416,7 @@ class Caller:
         cookie = self.chance.choice([0] * 4 + [self.near(child + FIRST_COOKIE) for child in children])
         cookie += 2**32 * self.is_rare(0.01)
         asked = wire.Reader(mask).bitmap()
-        left = [child for child in children if child + FIRST_COOKIE > cookie][:self.chance.randint(0, 9)]
+        left = [child for child in children if child + FIRST_COOKIE > cookie][: self.chance.randint(0, 9)]
         fitting = LISTING_ENDS + sum(len(self.server.listing_entry(child, asked)) for child in left)
         rooms = [fitting] * 6 + [fitting - 1, fitting - 4, fitting + 4, 0, 15, 16, 4096, LAST]
         verifier = b"verifier" if self.is_rare(0.05) else bytes(8)
@@ -466,7 +523,11 @@ class Caller:
         size = u64(self.offset(file, self.chance.choice([0, 0, 1, 3])))
         time = u32(self.chance.choice([0] * 20 + [1, 2]))
         chosen: list[tuple[Sequence[int], bytes]] = [
-            *[((16,), size)] * 12, *[((16, 1 << 22), size + time)] * 6, ((0, 1 << 22), time), ((), b"")]
+            *[((16,), size)] * 12,
+            *[((16, 1 << 22), size + time)] * 6,
+            ((0, 1 << 22), time),
+            ((), b""),
+        ]
         mask, values = self.chance.choice(chosen)
         if self.is_rare(0.05):
             mask = self.chance.choice([(16, 2), (24,), (16, 1 << 16), (16, 0, 1), (16, 0), (0, 0x30), (0, 1 << 22)])
@@ -580,7 +641,7 @@ def run(words: tuple[str, int, int, int, str | None]) -> tuple[int, tuple[Row, i
     caller.server.counts.update(WHAT[type(entry)] for entry in caller.server.recorded if type(entry) in WHAT)
     row = Row("fuzz.py", 0, "", document=caller.document, lease=caller.lease, is_whole=True, steps=caller.steps)
     place = first_difference(program, row, caller.way, journal_bytes(caller.server.journal()))
-    found = None if place is None else (replace(row, steps=row.steps[:place + 1]), caller.way)
+    found = None if place is None else (replace(row, steps=row.steps[: place + 1]), caller.way)
     return seed, found, caller.server.counts
 
 
@@ -588,12 +649,12 @@ def needed(program: str, row: Row, way: int) -> Row:
     """The row without the steps that the difference doesn't need."""
     place = 0
     while place < len(row.steps):
-        fewer, journal = judged(replace(row, steps=row.steps[:place] + row.steps[place + 1:]))
+        fewer, journal = judged(replace(row, steps=row.steps[:place] + row.steps[place + 1 :]))
         at = first_difference(program, fewer, way, journal)
         if at is None:
             place += 1
         else:
-            row = replace(fewer, steps=fewer.steps[:at + 1])
+            row = replace(fewer, steps=fewer.steps[: at + 1])
     return row
 
 
@@ -603,8 +664,13 @@ def lines_of(row: Row) -> Iterator[str]:
     yield f"  lease {row.lease}"
     for step in row.steps:
         if isinstance(step, Part):
-            yield from (f"  at {step.moment}", "  send bytes", f"    hex:{step.sent.hex()}", "  want bytes",
-                        f"    hex:{step.wanted.hex()}")
+            yield from (
+                f"  at {step.moment}",
+                "  send bytes",
+                f"    hex:{step.sent.hex()}",
+                "  want bytes",
+                f"    hex:{step.wanted.hex()}",
+            )
         else:
             yield from (f"  {line}" for line in rows.order_lines(step))
 
@@ -643,8 +709,10 @@ def tell(counts: Counter[Any], runs: int, calls: int) -> None:
     total = operations_in(counts)
     changes = counts[Opnum.LOCK, Status.OK] + counts[Opnum.LOCKU, Status.OK]
     asked = counts[Opnum.LOCKT, Status.OK] + counts[Opnum.LOCKT, Status.DENIED] + counts[Opnum.LOCK, Status.DENIED]
-    print(f"fuzz: {runs} runs of {calls} steps agree with the model: {total} operations on the state, of them "
-          f"{changes} changes of ranges and {asked} questions or refusals of them")
+    print(
+        f"fuzz: {runs} runs of {calls} steps agree with the model: {total} operations on the state, of them "
+        f"{changes} changes of ranges and {asked} questions or refusals of them"
+    )
     for what in [*LENT.values(), *WHAT.values(), BACK, AGAIN, YIELDED, NONE_LEFT, *CASES, *CUTS]:
         print(f"    {what}: {counts.pop(what, 0)}")
     for (opnum, status), number in sorted(counts.items()):

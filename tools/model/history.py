@@ -8,8 +8,21 @@ from model.entries import Call
 from model.journal import Recorder
 from model.sequenced import NOT_COUNTED
 from model.server import OPERATIONS, Subject
-from model.states import (ClientRecord, Delegation, KeptState, LockState, OpenState, Owner, OwnerName, Refusal, Request,
-                          Result, is_first_lock, sequence_id_of, stateid_of)
+from model.states import (
+    ClientRecord,
+    Delegation,
+    KeptState,
+    LockState,
+    OpenState,
+    Owner,
+    OwnerName,
+    Refusal,
+    Request,
+    Result,
+    is_first_lock,
+    sequence_id_of,
+    stateid_of,
+)
 from nfs4.wire import Opnum, Principal, READ, Stateid, Status, WRITE
 
 # An owner and its kind: an open owner and a lock owner of one name are equal as tuples.
@@ -26,6 +39,7 @@ def key_of(owner: OwnerName) -> OwnerKey:
 class Uncounted:
     """A sequenced request whose refusal didn't count: the client and the owner that it leads to, or None, and the
     sequence id by which it is that owner's."""
+
     entry: int
     client: int | None
     owner: OwnerName | None
@@ -36,6 +50,7 @@ class Uncounted:
 @dataclass
 class History(Recorder):
     """A server with the numbers of entries: all of these are kept to the end, also of what is gone."""
+
     # By the confirm value; and of those whose records gave way, to which entry's client.
     introductions: dict[int, Introduction] = field(default_factory=dict)
     yielded: dict[int, int] = field(default_factory=dict)
@@ -71,8 +86,9 @@ class History(Recorder):
     states_of: dict[OwnerKey, set[int]] = field(default_factory=dict)
     locks_of: dict[int, set[int]] = field(default_factory=dict)
 
-    def apply(self, opnum: Opnum, arguments: Any, filehandle: int | None, principal: Principal,
-              is_refused: bool = False) -> Result:
+    def apply(
+        self, opnum: Opnum, arguments: Any, filehandle: int | None, principal: Principal, is_refused: bool = False
+    ) -> Result:
         entry, opens = self.entries, self.opens
         result = super().apply(opnum, arguments, filehandle, principal, is_refused)
         if opnum == Opnum.OPEN and self.opens is not opens:
@@ -87,8 +103,7 @@ class History(Recorder):
 
     def note_uncounted(self, entry: int, request: Request, status: Status) -> None:
         """The request was refused, and its owner's sequence id stays as it was."""
-        named = request.arguments.owner if request.opnum == Opnum.OPEN else stateid_of(
-            request.opnum, request.arguments)
+        named = request.arguments.owner if request.opnum == Opnum.OPEN else stateid_of(request.opnum, request.arguments)
         client = named.client if named.epoch == self.epoch and self.is_live(named.client) else None
         try:
             owner = self.owner_of(request)
@@ -155,8 +170,11 @@ class History(Recorder):
     def mark_path(self, number: int, is_up: int) -> int:
         entry = super().mark_path(number, is_up)
         self.path_marks[number] = entry
-        recalled = [it.number for it in self.delegations
-                    if it.client == number and it.recalled is not None and it.number not in self.recall_marks]
+        recalled = [
+            it.number
+            for it in self.delegations
+            if it.client == number and it.recalled is not None and it.number not in self.recall_marks
+        ]
         if recalled:
             first = min(recalled, key=lambda state: (self.recalled[state], state))
             self.recall_marks[first] = entry, bool(is_up)
@@ -222,4 +240,5 @@ class History(Recorder):
 ENDED_BY: dict[Opnum, Callable[[History, Any], Iterable[int]]] = {
     Opnum.CLOSE: lambda server, it: {it.stateid.number, *server.locks_of.get(it.stateid.number, ())},
     Opnum.DELEGRETURN: lambda _, it: {it.stateid.number},
-    Opnum.RELEASE_LOCKOWNER: lambda server, it: server.states_of.get(key_of(it.owner), set())}
+    Opnum.RELEASE_LOCKOWNER: lambda server, it: server.states_of.get(key_of(it.owner), set()),
+}

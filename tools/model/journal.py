@@ -12,16 +12,41 @@ from typing import Any, NamedTuple
 
 sys.dont_write_bytecode = True
 from packages import make_known
+
 make_known()
 from dataclasses import dataclass, field
 
-from model.entries import (Answer, Call, EndsEarly, Entry, Expire, Forget, NotJournal, Path, Revoke, StrictReader,
-                           entry_bytes, read_entry)
+from model.entries import (
+    Answer,
+    Call,
+    EndsEarly,
+    Entry,
+    Expire,
+    Forget,
+    NotJournal,
+    Path,
+    Revoke,
+    StrictReader,
+    entry_bytes,
+    read_entry,
+)
 from model.server import Server
 from model.state import JOURNAL_LIMIT
 from model.states import Owner, Result, Unchanged
-from model.tree import (CALLBACKS, CLIENTS, CLOSE_LOCKS, DELEGATIONS, NAME_LIMIT, Node, PLAIN, Policy, Refused,
-                        TEXT_LIMIT, Tree, tree_of)
+from model.tree import (
+    CALLBACKS,
+    CLIENTS,
+    CLOSE_LOCKS,
+    DELEGATIONS,
+    NAME_LIMIT,
+    Node,
+    PLAIN,
+    Policy,
+    Refused,
+    TEXT_LIMIT,
+    Tree,
+    tree_of,
+)
 from nfs4.wire import OpenOwner, Opnum, Principal, Status, opaque, u32
 
 # How a file begins, by the profile. One of the earlier edition, which knew one profile, has no word for what CLOSE
@@ -30,7 +55,6 @@ HEAD, HEAD_OF_CLIENTS, EARLIER = b"NFSJRN03", b"NFSJRC03", b"NFSJRN02"
 PROFILE_OF = {HEAD: PLAIN, HEAD_OF_CLIENTS: CLIENTS, EARLIER: PLAIN}
 HEAD_OF = {PLAIN: HEAD, CLIENTS: HEAD_OF_CLIENTS}
 LEASE_LIMIT = 86400
-
 
 
 class Journal(NamedTuple):
@@ -49,10 +73,12 @@ class WrongAnswer(Exception):
 @dataclass
 class Recorder(Server):
     """A server that keeps its journal."""
+
     recorded: list[Any] = field(default_factory=list)
 
-    def apply(self, opnum: Opnum, arguments: Any, filehandle: int | None, principal: Principal,
-              is_refused: bool = False) -> Result:
+    def apply(
+        self, opnum: Opnum, arguments: Any, filehandle: int | None, principal: Principal, is_refused: bool = False
+    ) -> Result:
         result = super().apply(opnum, arguments, filehandle, principal, is_refused)
         if result.status != Status.RESOURCE:
             answer = Answer(opnum, result.status, result.rest)
@@ -86,6 +112,7 @@ class Recorder(Server):
 
 
 # The file.
+
 
 def journal_bytes(journal: Journal) -> bytes:
     entries = b"".join(entry_bytes(entry) for entry in journal.entries)
@@ -152,6 +179,7 @@ def read_node(reader: StrictReader) -> Node:
 class Growing:
     """A journal's file that is read as far as it has come: one that is still written, or was cut. The number of its
     entries is then 0, or above those that are there."""
+
     # The journal without its entries, once all that stands before them is there.
     head: Journal | None = None
     # The number of entries that the file says, and how many there are.
@@ -201,6 +229,7 @@ class Growing:
 
 
 # Whether it is lawful.
+
 
 def audit(journal: Journal, limit: int = JOURNAL_LIMIT) -> Recorder:
     """The server that the journal leads to; or WrongAnswer."""
@@ -264,7 +293,12 @@ def is_made(change: Callable[[], Any]) -> bool:
 
 
 STEPS: dict[Any, Callable[[Any, Any], bool]] = {
-    Call: follow_call, Expire: follow_expire, Revoke: follow_revoke, Path: follow_path, Forget: follow_forget}
+    Call: follow_call,
+    Expire: follow_expire,
+    Revoke: follow_revoke,
+    Path: follow_path,
+    Forget: follow_forget,
+}
 
 
 def verdict(data: bytes, limit: int = JOURNAL_LIMIT) -> tuple[bool, str]:

@@ -105,6 +105,7 @@ def save(path: str, target: str) -> None:
 
 # Reading on while a server writes.
 
+
 class Followed:
     """A file that is shown as far as it has come, and on."""
 
@@ -142,14 +143,14 @@ class Followed:
         """Shows the other entries of the journal that took the place of this beginning, if one did."""
         whole = Growing()
         try:
-            with open(self.path[:-len(PART)], "rb") as source:
+            with open(self.path[: -len(PART)], "rb") as source:
                 entries = whole.take(source.read())
         except (OSError, NotJournal):
             entries = []
         if os.path.exists(self.path) or not self.path.endswith(PART) or not self.is_beginning_of(whole, entries):
             print(f"{self.path} isn't that file any more", file=sys.stderr)
         else:
-            rest = entries[self.growing.entries:]
+            rest = entries[self.growing.entries :]
             self.growing = whole
             self.lines.show(whole, rest)
 

@@ -14,8 +14,22 @@ from model.tree import Tree
 from model.words import SHOWN, STATUS_NAMES, call_line, event_line, name_words, number_word
 from nfs4 import wire
 from nfs4.rows import EPOCH
-from nfs4.wire import (AccessEntry, CLAIM_DELEGATE_CUR, CLAIM_DELEGATE_PREV, CLAIM_PREVIOUS, Callback, Claim,
-                       Delegation, EXCLUSIVE4, LockOwner, OpenOwner, Openhow, Opnum, Stateid, Status)
+from nfs4.wire import (
+    AccessEntry,
+    CLAIM_DELEGATE_CUR,
+    CLAIM_DELEGATE_PREV,
+    CLAIM_PREVIOUS,
+    Callback,
+    Claim,
+    Delegation,
+    EXCLUSIVE4,
+    LockOwner,
+    OpenOwner,
+    Openhow,
+    Opnum,
+    Stateid,
+    Status,
+)
 from sending.replies import ATTRIBUTES
 
 # Fields by their names, with their values.
@@ -27,29 +41,47 @@ BOOL = {0: "FALSE", 1: "TRUE"}
 
 # The names of RFC 7531 for fields that have another one in `nfs4.wire`, by the record.
 RENAMED: dict[type, dict[str, str]] = {
-    wire.Close: {"stateid": "open_stateid"}, wire.OpenConfirm: {"stateid": "open_stateid"},
+    wire.Close: {"stateid": "open_stateid"},
+    wire.OpenConfirm: {"stateid": "open_stateid"},
     wire.OpenDowngrade: {"stateid": "open_stateid", "access": "share_access", "deny": "share_deny"},
     wire.Open: {"access": "share_access", "deny": "share_deny"},
-    wire.Locku: {"stateid": "lock_stateid"}, wire.Delegreturn: {"stateid": "deleg_stateid"},
-    wire.NewLocker: {"owner": "lock_owner"}, wire.ReleaseLockowner: {"owner": "lock_owner"},
-    wire.Getattr: {"mask": "attr_request"}, wire.Setattr: {"attributes": "obj_attributes"},
-    wire.Readdir: {"verifier": "cookieverf", "mask": "attr_request"}, wire.DirectoryEntry: {"attributes": "attrs"},
-    wire.Lookup: {"name": "objname"}, wire.Putfh: {"filehandle": "object"},
-    wire.SetclientidConfirm: {"confirm": "setclientid_confirm"}, wire.Change: {"is_atomic": "atomic"},
+    wire.Locku: {"stateid": "lock_stateid"},
+    wire.Delegreturn: {"stateid": "deleg_stateid"},
+    wire.NewLocker: {"owner": "lock_owner"},
+    wire.ReleaseLockowner: {"owner": "lock_owner"},
+    wire.Getattr: {"mask": "attr_request"},
+    wire.Setattr: {"attributes": "obj_attributes"},
+    wire.Readdir: {"verifier": "cookieverf", "mask": "attr_request"},
+    wire.DirectoryEntry: {"attributes": "attrs"},
+    wire.Lookup: {"name": "objname"},
+    wire.Putfh: {"filehandle": "object"},
+    wire.SetclientidConfirm: {"confirm": "setclientid_confirm"},
+    wire.Change: {"is_atomic": "atomic"},
     wire.Opened: {"flags": "rflags", "mask": "attrset"},
-    Callback: {"program": "cb_program", "netid": "r_netid", "address": "r_addr", "ident": "callback_ident"}}
+    Callback: {"program": "cb_program", "netid": "r_netid", "address": "r_addr", "ident": "callback_ident"},
+}
 # The fields of results that are no record, by the operation.
 RESULTS: dict[int, tuple[str, ...]] = {
-    Opnum.ACCESS: ("supported", "access"), Opnum.CLOSE: ("open_stateid",), Opnum.COMMIT: ("writeverf",),
-    Opnum.GETATTR: ("obj_attributes",), Opnum.GETFH: ("object",), Opnum.LOCK: ("lock_stateid",),
-    Opnum.LOCKU: ("lock_stateid",), Opnum.OPEN_CONFIRM: ("open_stateid",), Opnum.OPEN_DOWNGRADE: ("open_stateid",),
-    Opnum.READ: ("eof", "data"), Opnum.READDIR: ("cookieverf", "entries", "eof"), Opnum.SETATTR: ("attrsset",),
-    Opnum.SETCLIENTID: ("clientid", "setclientid_confirm"), Opnum.WRITE: ("count", "committed", "writeverf")}
-OTHER_RESULTS: dict[tuple[int, int], tuple[str, ...]] = {
-    (Opnum.SETCLIENTID, Status.CLID_INUSE): ("r_netid", "r_addr")}
+    Opnum.ACCESS: ("supported", "access"),
+    Opnum.CLOSE: ("open_stateid",),
+    Opnum.COMMIT: ("writeverf",),
+    Opnum.GETATTR: ("obj_attributes",),
+    Opnum.GETFH: ("object",),
+    Opnum.LOCK: ("lock_stateid",),
+    Opnum.LOCKU: ("lock_stateid",),
+    Opnum.OPEN_CONFIRM: ("open_stateid",),
+    Opnum.OPEN_DOWNGRADE: ("open_stateid",),
+    Opnum.READ: ("eof", "data"),
+    Opnum.READDIR: ("cookieverf", "entries", "eof"),
+    Opnum.SETATTR: ("attrsset",),
+    Opnum.SETCLIENTID: ("clientid", "setclientid_confirm"),
+    Opnum.WRITE: ("count", "committed", "writeverf"),
+}
+OTHER_RESULTS: dict[tuple[int, int], tuple[str, ...]] = {(Opnum.SETCLIENTID, Status.CLID_INUSE): ("r_netid", "r_addr")}
 
 
 # How the values of fields are shown.
+
 
 def named(names: dict[int, str]) -> Callable[[int], str]:
     """One of an enumeration, by its name; or its number, if RFC 7531 has no name for it."""
@@ -65,6 +97,7 @@ def flag_words(flags: dict[int, str]) -> Callable[[int], str]:
         found = [name for flag, name in flags.items() if value & flag]
         rest = value & ~sum(flags)
         return "|".join(found + [number_word(rest)] * (rest != 0 or not found))
+
     return words_of
 
 
@@ -96,10 +129,29 @@ def permissions_word(entry: AccessEntry) -> str:
 
 # Attributes: RFC 7531 has more of them than this server.
 OTHER_ATTRIBUTES = {
-    12: "acl", 13: "aclsupport", 14: "archive", 15: "cansettime", 16: "case_insensitive", 17: "case_preserving",
-    18: "chown_restricted", 24: "fs_locations", 25: "hidden", 26: "homogeneous", 28: "maxlink", 32: "mimetype",
-    34: "no_trunc", 38: "quota_avail_hard", 39: "quota_avail_soft", 40: "quota_used", 41: "rawdev", 46: "system",
-    49: "time_backup", 50: "time_create", 51: "time_delta", 55: "mounted_on_fileid"}
+    12: "acl",
+    13: "aclsupport",
+    14: "archive",
+    15: "cansettime",
+    16: "case_insensitive",
+    17: "case_preserving",
+    18: "chown_restricted",
+    24: "fs_locations",
+    25: "hidden",
+    26: "homogeneous",
+    28: "maxlink",
+    32: "mimetype",
+    34: "no_trunc",
+    38: "quota_avail_hard",
+    39: "quota_avail_soft",
+    40: "quota_used",
+    41: "rawdev",
+    46: "system",
+    49: "time_backup",
+    50: "time_create",
+    51: "time_delta",
+    55: "mounted_on_fileid",
+}
 TYPES = numbered(1, "NF4REG NF4DIR NF4BLK NF4CHR NF4LNK NF4SOCK NF4FIFO NF4ATTRDIR NF4NAMEDATTR")
 TIMES_SET = {0: "SET_TO_SERVER_TIME4", 1: "SET_TO_CLIENT_TIME4"}
 
@@ -124,14 +176,19 @@ def set_time_word(reader: wire.Reader) -> str:
 
 # How the values of these are read and shown; of others `sending.replies` has it.
 VALUES: dict[str, Callable[[wire.Reader], str]] = {
-    "supported_attrs": lambda reader: mask_word(reader.bitmap()), "type": lambda reader: TYPES(reader.u32()),
-    "mode": lambda reader: f"0{reader.u32():o}", "fsid": lambda reader: f"{reader.u64()}:{reader.u64()}",
-    "filehandle": lambda reader: hex_word(reader.opaque()), "rdattr_error": lambda reader: STATUS_NAMES[reader.u32()],
+    "supported_attrs": lambda reader: mask_word(reader.bitmap()),
+    "type": lambda reader: TYPES(reader.u32()),
+    "mode": lambda reader: f"0{reader.u32():o}",
+    "fsid": lambda reader: f"{reader.u64()}:{reader.u64()}",
+    "filehandle": lambda reader: hex_word(reader.opaque()),
+    "rdattr_error": lambda reader: STATUS_NAMES[reader.u32()],
     **dict.fromkeys(("owner", "owner_group"), lambda reader: name_words(reader.opaque())),
-    **dict.fromkeys(("link_support", "symlink_support", "named_attr", "unique_handles"),
-                    lambda reader: BOOL[reader.one_of(2)]),
+    **dict.fromkeys(
+        ("link_support", "symlink_support", "named_attr", "unique_handles"), lambda reader: BOOL[reader.one_of(2)]
+    ),
     **dict.fromkeys(("time_access", "time_metadata", "time_modify"), time_word),
-    **dict.fromkeys(("time_access_set", "time_modify_set"), set_time_word)}
+    **dict.fromkeys(("time_access_set", "time_modify_set"), set_time_word),
+}
 
 
 def value_word(number: int, reader: wire.Reader) -> str:
@@ -154,7 +211,7 @@ def attributes_word(fattr: tuple[Sequence[int], bytes]) -> str:
             reader.at = begin
             break
         numbers.pop(0)
-    rest = fattr[1][reader.at:]
+    rest = fattr[1][reader.at :]
     return f"[{','.join(words + list(map(attribute_name, numbers)) + [hex_word(rest)] * bool(rest))}]"
 
 
@@ -167,16 +224,25 @@ SHOWN_AS: dict[str, Callable[[Any], str]] = {
     **dict.fromkeys(("obj_attributes", "createattrs", "attrs"), attributes_word),
     **dict.fromkeys(("offset", "length"), long_word),
     **dict.fromkeys(("stable", "committed"), numbered(0, "UNSTABLE4 DATA_SYNC4 FILE_SYNC4")),
-    **dict.fromkeys(("delegate_type", "delegation_type"),
-                    numbered(0, "OPEN_DELEGATE_NONE OPEN_DELEGATE_READ OPEN_DELEGATE_WRITE")),
-    "share_access": numbered(1, SHARE), "share_deny": numbered(0, f"NONE {SHARE}"), "clientid": clientid_word,
-    "locktype": numbered(1, "READ_LT WRITE_LT READW_LT WRITEW_LT"), "permissions": permissions_word,
-    "opentype": numbered(0, "OPEN4_NOCREATE OPEN4_CREATE"), "mode": numbered(0, "UNCHECKED4 GUARDED4 EXCLUSIVE4"),
+    **dict.fromkeys(
+        ("delegate_type", "delegation_type"), numbered(0, "OPEN_DELEGATE_NONE OPEN_DELEGATE_READ OPEN_DELEGATE_WRITE")
+    ),
+    "share_access": numbered(1, SHARE),
+    "share_deny": numbered(0, f"NONE {SHARE}"),
+    "clientid": clientid_word,
+    "locktype": numbered(1, "READ_LT WRITE_LT READW_LT WRITEW_LT"),
+    "permissions": permissions_word,
+    "opentype": numbered(0, "OPEN4_NOCREATE OPEN4_CREATE"),
+    "mode": numbered(0, "UNCHECKED4 GUARDED4 EXCLUSIVE4"),
     "claim": numbered(0, "CLAIM_NULL CLAIM_PREVIOUS CLAIM_DELEGATE_CUR CLAIM_DELEGATE_PREV"),
-    "limitby": numbered(1, "NFS_LIMIT_SIZE NFS_LIMIT_BLOCKS"), "cb_program": lambda value: hex_word(wire.u32(value)),
+    "limitby": numbered(1, "NFS_LIMIT_SIZE NFS_LIMIT_BLOCKS"),
+    "cb_program": lambda value: hex_word(wire.u32(value)),
     "rflags": flag_words({2: "CONFIRM", 4: "LOCKTYPE_POSIX"}),
-    **dict.fromkeys(("access", "supported"), flag_words(
-        {1: "READ", 2: "LOOKUP", 4: "MODIFY", 8: "EXTEND", 16: "DELETE", 32: "EXECUTE"}))}
+    **dict.fromkeys(
+        ("access", "supported"),
+        flag_words({1: "READ", 2: "LOOKUP", 4: "MODIFY", 8: "EXTEND", 16: "DELETE", 32: "EXECUTE"}),
+    ),
+}
 
 
 def data_words(data: bytes, is_whole: bool) -> str:
@@ -200,6 +266,7 @@ def field_word(name: str, value: Any, is_whole: bool) -> str:
 
 
 # The fields of records, in the order of RFC 7531.
+
 
 def fields_of_how(how: Openhow) -> Fields:
     yield "opentype", how.create
@@ -276,6 +343,7 @@ def fields_of_result(number: int, status: int, value: Any) -> Fields:
 
 
 # Operations, answers and entries.
+
 
 def words_of(fields: Iterable[tuple[str, Any]], is_whole: bool) -> list[str]:
     return [field_word(name, value, is_whole) for name, value in fields]

@@ -8,6 +8,7 @@ from typing import Any
 
 sys.dont_write_bytecode = True
 from packages import make_known
+
 make_known()
 
 from model.entries import MOMENT_LIMIT
@@ -20,8 +21,9 @@ class Options(argparse.ArgumentParser):
     """Refuses what the program refuses: an option that is given twice, and one that isn't written out."""
 
     def __init__(self, description: str) -> None:
-        super().__init__(description=description, formatter_class=argparse.RawDescriptionHelpFormatter,
-                         allow_abbrev=False)
+        super().__init__(
+            description=description, formatter_class=argparse.RawDescriptionHelpFormatter, allow_abbrev=False
+        )
 
     def parse_args(self) -> argparse.Namespace:  # type: ignore[override]
         names = [word.partition("=")[0] for word in sys.argv[1:] if word.startswith("--")]
@@ -33,10 +35,12 @@ class Options(argparse.ArgumentParser):
 
 def within(first: int, last: int) -> Callable[[str], int]:
     """What reads a number from the first to the last one."""
+
     def read(word: str) -> int:
         if not (word.isascii() and word.isdecimal() and first <= int(word) <= last):
             raise argparse.ArgumentTypeError(f"{word!r} isn't a number from {first} to {last}")
         return int(word)
+
     return read
 
 
@@ -44,10 +48,16 @@ def options(description: str) -> Options:
     """What `once.py` and `serve.py` have in common."""
     parser = Options(description)
     parser.add_argument("--tree", metavar="FILE", help="the files to serve, as a TOML document (a small tree)")
-    parser.add_argument("--lease", metavar="SECONDS", type=within(1, LEASE_LIMIT), default=90,
-                        help="1 to 86400 (%(default)s)")
-    parser.add_argument("--epoch", metavar="NUMBER", type=within(0, 2**32 - 1), default=1,
-                        help="the upper half of each clientid (%(default)s)")
+    parser.add_argument(
+        "--lease", metavar="SECONDS", type=within(1, LEASE_LIMIT), default=90, help="1 to 86400 (%(default)s)"
+    )
+    parser.add_argument(
+        "--epoch",
+        metavar="NUMBER",
+        type=within(0, 2**32 - 1),
+        default=1,
+        help="the upper half of each clientid (%(default)s)",
+    )
     return parser
 
 
@@ -73,8 +83,9 @@ def document_of(path: str) -> str:
 
 def main() -> None:
     parser = options(__doc__)
-    parser.add_argument("--now", metavar="SECONDS", type=within(0, MOMENT_LIMIT - 1), default=0,
-                        help="the moment of all calls")
+    parser.add_argument(
+        "--now", metavar="SECONDS", type=within(0, MOMENT_LIMIT - 1), default=0, help="the moment of all calls"
+    )
     parser.add_argument("--journal", metavar="FILE", help="where to write the journal at the end, also after a fault")
     parser.add_argument("command", nargs="?", choices=["once"], help="may be left out")
     given = parser.parse_args()

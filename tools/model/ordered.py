@@ -19,6 +19,7 @@ from typing import Any
 
 sys.dont_write_bytecode = True
 from packages import make_known
+
 make_known()
 
 from model.entries import MOMENT_LIMIT
@@ -79,7 +80,7 @@ def answer(*numbers: int) -> None:
 
 def send(data: bytes) -> None:
     while data:
-        data = data[os.write(1, data):]
+        data = data[os.write(1, data) :]
 
 
 class Clock:
@@ -196,7 +197,7 @@ def rest_of(data: bytes, fault: Any) -> int:
     """How many bytes are left behind the last whole record."""
     if fault != "input ends inside a record":
         return 0
-    return next(count for count in range(1, len(data) + 1) if wire.split_records(data[:len(data) - count])[1] is None)
+    return next(count for count in range(1, len(data) + 1) if wire.split_records(data[: len(data) - count])[1] is None)
 
 
 def main() -> Any:

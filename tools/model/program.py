@@ -30,8 +30,9 @@ class Program:
     def run(self, words: list[str], sent: bytes = b"", environment: dict[str, str] | None = None) -> Ending:
         """Its status, and what it writes on standard output and on standard error."""
         try:
-            ran = subprocess.run([self.path, *words], env=environment, input=sent, capture_output=True,
-                                 timeout=PATIENCE)
+            ran = subprocess.run(
+                [self.path, *words], env=environment, input=sent, capture_output=True, timeout=PATIENCE
+            )
         except subprocess.TimeoutExpired:
             return None, b"", b"no end"
         return ran.returncode, ran.stdout, ran.stderr

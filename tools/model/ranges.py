@@ -94,8 +94,11 @@ def denial(others: list[tuple[Any, Ranges]], first: int, last: int, mode: int) -
     """What is reported where a lock is denied, or None: of the owners in conflict at the least byte that any of them
     has a conflict at, the least one, and its run there. `others` are pairs of owner and ranges; owners are compared by
     clientid, and then by their bytes."""
-    conflicts = [(byte, owner, ranges) for owner, ranges in others
-                 if (byte := ranges.first_conflict(first, last, mode)) is not None]
+    conflicts = [
+        (byte, owner, ranges)
+        for owner, ranges in others
+        if (byte := ranges.first_conflict(first, last, mode)) is not None
+    ]
     if not conflicts:
         return None
     byte, owner, ranges = min(conflicts, key=lambda found: found[:2])

@@ -22,6 +22,7 @@ SEQUENCE_IDS = {"seqid", "open_seqid", "lock_seqid"}
 @dataclass
 class Paragraph:
     """What is printed of an entry; and if it is a refusal how many are equal to it, and the last of them."""
+
     lines: list[str]
     first: int
     count: int = 1

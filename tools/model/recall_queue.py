@@ -17,6 +17,7 @@ T = TypeVar("T")
 class Queuing(Recorder):
     """At the end of each hold of the lock the recalls go into the queue, in order, as far as that has room. The others
     wait for the next hold. RENEW takes no lock."""
+
     # How many of the run's recalls went into the queue.
     queued: int = 0
 

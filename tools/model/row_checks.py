@@ -106,7 +106,7 @@ def faults_of(row: rows.Row) -> list[str]:
     """Lines that say what is wrong with the row by the model; none if the model agrees."""
     got, place = run(row), f"{row.file}:{row.line}"
     for number, connection in enumerate(row.connections):
-        if got[number:number + 1] != [wanted_of(connection)]:
+        if got[number : number + 1] != [wanted_of(connection)]:
             return [f"{place}: {row.name}", *differences(connection, got[number])]
     if not row.is_ordering and run(row, Unreached) != got:
         return [f"{place}: it wants a delegation of a client that may have been called in vain: {row.name}"]
@@ -116,6 +116,7 @@ def faults_of(row: rows.Row) -> list[str]:
 @dataclass
 class Counts:
     """How many rows agree with the model, and differ; and how many files can't be read."""
+
     agreed: int = 0
     differ: int = 0
     unread: int = 0

@@ -2,13 +2,35 @@
 from typing import Any
 
 from model.state import State
-from model.states import (Kept, LockState, OpenState, Owner, Refusal, Request, Result, answer, closed_by,
-                          expect_filehandle, is_first_lock, next_sequence_id, replay, sequence_id_of, stateid_of)
+from model.states import (
+    Kept,
+    LockState,
+    OpenState,
+    Owner,
+    Refusal,
+    Request,
+    Result,
+    answer,
+    closed_by,
+    expect_filehandle,
+    is_first_lock,
+    next_sequence_id,
+    replay,
+    sequence_id_of,
+    stateid_of,
+)
 from nfs4.wire import NewLocker, OpenOwner, Opnum, Status
 
 # The answers to a new request that leave its owner's sequence id as it was (section 9.1.7).
-NOT_COUNTED = {Status.STALE_CLIENTID, Status.STALE_STATEID, Status.BAD_STATEID, Status.BAD_SEQID, Status.BADXDR,
-               Status.RESOURCE, Status.NOFILEHANDLE}
+NOT_COUNTED = {
+    Status.STALE_CLIENTID,
+    Status.STALE_STATEID,
+    Status.BAD_STATEID,
+    Status.BAD_SEQID,
+    Status.BADXDR,
+    Status.RESOURCE,
+    Status.NOFILEHANDLE,
+}
 
 
 class Sequencing(State):

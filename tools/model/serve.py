@@ -18,6 +18,7 @@ from typing import Any
 
 sys.dont_write_bytecode = True
 from packages import make_known
+
 make_known()
 
 from model.journal import Recorder, journal_bytes
@@ -32,16 +33,25 @@ PATIENCE = 5
 
 def read_options() -> Any:
     parser = options(__doc__)
-    parser.add_argument("--listen", metavar="ADDR", default="127.0.0.1:2049",
-                        help="an IP address or a name, and a port, of which 0 is any that is free (%(default)s)")
-    parser.add_argument("--connections", metavar="NUMBER", type=within(1, 64),
-                        help="how many there are, 1 to 64 (4); or in a run that goes on, how many at once (64)")
+    parser.add_argument(
+        "--listen",
+        metavar="ADDR",
+        default="127.0.0.1:2049",
+        help="an IP address or a name, and a port, of which 0 is any that is free (%(default)s)",
+    )
+    parser.add_argument(
+        "--connections",
+        metavar="NUMBER",
+        type=within(1, 64),
+        help="how many there are, 1 to 64 (4); or in a run that goes on, how many at once (64)",
+    )
     parser.add_argument("--journal", metavar="FILE", help="where to write the journal at the end")
     ends = parser.add_mutually_exclusive_group()
     ends.add_argument("--until-input-ends", action="store_true", help="go on until standard input ends")
     ends.add_argument("--until-killed", action="store_true", help="go on until a signal ends it")
-    parser.add_argument("--trace", action="store_true",
-                        help="tell each call, and what sweeps end, each in a line on standard output")
+    parser.add_argument(
+        "--trace", action="store_true", help="tell each call, and what sweeps end, each in a line on standard output"
+    )
     parser.add_argument("--each", action="store_true", help="a new server for each connection; no lease ends")
     given = parser.parse_args()
     if given.each and given.journal is not None:
@@ -69,6 +79,7 @@ def ring_at_signals(bell: Bell) -> list[Any]:
     def hear(number: int, _frame: Any) -> None:
         heard.append(number)
         bell.ring()
+
     for number in signal.SIGTERM, signal.SIGINT:
         if signal.getsignal(number) != signal.SIG_IGN:
             signal.signal(number, hear)
@@ -95,6 +106,7 @@ def serve(given: Any) -> tuple[list[Any], str | None]:
 
     def desk_of_its_own() -> Any:
         return desk_of(kind(first.tree, first.lease, first.epoch))
+
     desk, bell, listener = desk_of(first), Bell(), listen(given.listen)
     heard = ring_at_signals(bell)
     run = Run(listener, desk_of_its_own if given.each else lambda: desk, bell, given.connections, given.goes_on)

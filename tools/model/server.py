@@ -14,9 +14,28 @@ from enum import Enum, auto
 from typing import Any, NamedTuple
 
 from model.files import Files
-from model.operations import (access, close, commit, delegreturn, filehandles, getattr, lock, lockt, locku, open,
-                              open_confirm, open_downgrade, read, readdir, release_lockowner, renew, setattr,
-                              setclientid, setclientid_confirm, write)
+from model.operations import (
+    access,
+    close,
+    commit,
+    delegreturn,
+    filehandles,
+    getattr,
+    lock,
+    lockt,
+    locku,
+    open,
+    open_confirm,
+    open_downgrade,
+    read,
+    readdir,
+    release_lockowner,
+    renew,
+    setattr,
+    setclientid,
+    setclientid_confirm,
+    write,
+)
 from model.sequenced import Sequencing
 from model.states import Filehandles, Request, Result, SLOTS, answer, is_special, stateid_of
 from model.sweeps import Sweeping
@@ -34,9 +53,11 @@ CLIENTS_LIMIT = SLOTS - 1
 
 # The operations.
 
+
 class Subject(Enum):
     """What a rule works on: on the filehandles of its COMPOUND, and makes no entry of the journal then; on the node of
     the current one, by an owner's request; on that node, by nobody's; or on clients, by the principal that calls."""
+
     HANDLES = auto()
     REQUEST = auto()
     NODE = auto()
@@ -46,6 +67,7 @@ class Subject(Enum):
 class Lease(Enum):
     """Whose lease is renewed: nobody's, or that of the client which a clientid or a stateid among the arguments names
     (section 9.5). SETCLIENTID and its confirmation never renew any."""
+
     OF_NOBODY = auto()
     BY_CLIENTID = auto()
     BY_STATEID = auto()
@@ -131,7 +153,7 @@ class Server(Files, Sequencing, Sweeping):
         if reply == wire.accepted(call.xid, wire.SYSTEM_ERR):
             return True
         count = len(wire.opaque(call.tag)) + RPC_HEAD + 4
-        last = int.from_bytes(reply[count:count + 4], "big") - 1
+        last = int.from_bytes(reply[count : count + 4], "big") - 1
         return self.reply(record, refused={last}) == reply
 
     def run_compound(self, call: CompoundCall, refused: Set[int]) -> bytes:
@@ -181,8 +203,9 @@ class Server(Files, Sequencing, Sweeping):
             return number, Result(Status.ROFS)
         return number, refused(number, Status.NOTSUPP)
 
-    def apply(self, opnum: Opnum, arguments: Any, filehandle: int | None, principal: Principal,
-              is_refused: bool = False) -> Result:
+    def apply(
+        self, opnum: Opnum, arguments: Any, filehandle: int | None, principal: Principal, is_refused: bool = False
+    ) -> Result:
         """Runs an operation that asks the state, which makes an entry of the journal, unless it is RESOURCE."""
         if is_refused or self.entries >= self.journal_limit:
             return refused(opnum, Status.RESOURCE)

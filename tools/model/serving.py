@@ -40,6 +40,7 @@ def say(line: str, stream: TextIO | None = None) -> None:
 
 # Addresses.
 
+
 def listen(text: str) -> socket.socket:
     """A socket that listens on this address: an IP address or a name, and a port; or a Fault."""
     host, _, port = text.rpartition(":")
@@ -85,7 +86,8 @@ class Desk:
         # What there is no more of when there is so much, each told once.
         limits: list[tuple[str, Callable[[], Any], int]] = [
             ("no client slot is left", lambda: len(server.renewals), CLIENTS_LIMIT),
-            ("the journal is full", lambda: server.entries, JOURNAL_LIMIT)]
+            ("the journal is full", lambda: server.entries, JOURNAL_LIMIT),
+        ]
         self.limits = limits if is_limit_told else []
 
     def moment(self) -> int:
@@ -163,7 +165,7 @@ class Connection:
                 raise Fault("output not written")
             try:
                 self.socket.settimeout(TICK)
-                rest = rest[self.socket.send(rest):]
+                rest = rest[self.socket.send(rest) :]
             except socket.timeout:
                 continue
             except OSError:
@@ -187,8 +189,9 @@ class Run:
     """Connections, each by a thread: so many in all, or where the run goes on so many at once. `desk_of` gives the
     desk of the next connection."""
 
-    def __init__(self, listener: socket.socket, desk_of: Callable[[], Desk], bell: Bell, most: int,
-                 goes_on: bool) -> None:
+    def __init__(
+        self, listener: socket.socket, desk_of: Callable[[], Desk], bell: Bell, most: int, goes_on: bool
+    ) -> None:
         self.listener, self.desk_of, self.bell, self.most, self.goes_on = listener, desk_of, bell, most, goes_on
         # How many connections have come, and how many are there. Who changes that says so.
         self.come, self.there, self.changed = 0, 0, threading.Condition()
@@ -208,10 +211,12 @@ class Run:
     def sweep_with(self, desk: Desk) -> None:
         """Has a thread look for leases that are over, about once a second. Its fault comes before those of
         connections."""
+
         def sweep() -> None:
             while True:
                 time.sleep(SWEEP)
                 desk.sweep()
+
         self.spawn(0, sweep)
 
     def serve(self) -> str | None:

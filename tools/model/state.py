@@ -3,9 +3,28 @@ from collections.abc import Callable
 from dataclasses import dataclass, field
 from typing import Any
 
-from model.states import (ClientRecord, Delegation, FULL, GENERATIONS, KeptState, LockState, NOT_LIVE, OpenState, Owner,
-                          OwnerName, Recall, Refusal, SLOTS, UNKNOWN, UP, Unchanged, expect_seqid, is_special,
-                          next_seqid, slot_of)
+from model.states import (
+    ClientRecord,
+    Delegation,
+    FULL,
+    GENERATIONS,
+    KeptState,
+    LockState,
+    NOT_LIVE,
+    OpenState,
+    Owner,
+    OwnerName,
+    Recall,
+    Refusal,
+    SLOTS,
+    UNKNOWN,
+    UP,
+    Unchanged,
+    expect_seqid,
+    is_special,
+    next_seqid,
+    slot_of,
+)
 from model.tree import CLIENTS, NAME_LIMIT, Tree
 from nfs4.wire import Principal, Stateid, Status, u32
 
@@ -17,6 +36,7 @@ JOURNAL_LIMIT = 1000000
 @dataclass
 class State:
     """The files, and all that is kept of clients, owners, opens, locks and delegations."""
+
     tree: Tree = field(default_factory=Tree)
     lease: int = 90
     epoch: int = 1

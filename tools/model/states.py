@@ -5,8 +5,25 @@ from dataclasses import dataclass, field
 from typing import Any, NamedTuple
 
 from model.ranges import READ_MODE, RUNS_LIMIT, Ranges, WRITE_MODE, range_of
-from nfs4.wire import (BOTH, Callback, KnownLocker, Lock, LockOwner, Lockt, Locku, NewLocker, OpenOwner, Opnum,
-                       Principal, READ, READW_LT, READ_LT, Stateid, Status, u32)
+from nfs4.wire import (
+    BOTH,
+    Callback,
+    KnownLocker,
+    Lock,
+    LockOwner,
+    Lockt,
+    Locku,
+    NewLocker,
+    OpenOwner,
+    Opnum,
+    Principal,
+    READ,
+    READW_LT,
+    READ_LT,
+    Stateid,
+    Status,
+    u32,
+)
 
 HANDLE_HEAD = b"nfh1"
 LAST = 2**32 - 1
@@ -33,6 +50,7 @@ class Refusal(Exception):
 @dataclass(frozen=True)
 class Result:
     """An answer: its status, and the bytes after it."""
+
     status: Status
     rest: bytes = b""
 
@@ -40,6 +58,7 @@ class Result:
 @dataclass
 class Filehandles:
     """Of a COMPOUND: nodes of the tree, or None."""
+
     current: int | None = None
     saved: int | None = None
 
@@ -47,6 +66,7 @@ class Filehandles:
 @dataclass
 class ClientRecord:
     """A client that has introduced itself (section 9.1.1)."""
+
     id: bytes
     principal: Principal
     verifier: bytes
@@ -61,6 +81,7 @@ class ClientRecord:
 @dataclass(frozen=True)
 class Request:
     """What is compared to tell a retransmission: the operation with its arguments, and the current filehandle."""
+
     opnum: Opnum
     arguments: Any
     filehandle: int | None
@@ -70,6 +91,7 @@ class Request:
 class Kept:
     """The last request of an owner that counted, with its answer, its entry in the journal, and when it came (section
     9.1.8)."""
+
     seqid: int
     request: Request
     answer: Result
@@ -83,6 +105,7 @@ OwnerName = OpenOwner | LockOwner
 @dataclass
 class Owner:
     """An open owner or a lock owner that is known (section 9.1.5); only an open owner is confirmed (section 9.1.11)."""
+
     name: OwnerName
     kept: Kept
     # The entry by which it became known.
@@ -93,6 +116,7 @@ class Owner:
 @dataclass
 class OpenState:
     """An open of an owner on a file (sections 9.9 and 9.11)."""
+
     owner: OpenOwner
     file: int
     number: int
@@ -110,6 +134,7 @@ class OpenState:
 @dataclass
 class LockState:
     """What a lock owner has locked of a file, by an open of its client (section 9.1.4.1)."""
+
     owner: LockOwner
     open: OpenState
     number: int
@@ -128,6 +153,7 @@ class LockState:
 @dataclass
 class Delegation:
     """A file that is lent to a client, for reading or for writing (section 10.4). Its seqid is one for good."""
+
     client: int
     file: int
     kind: int
@@ -165,7 +191,7 @@ def conflict(one: tuple[int, int], other: tuple[int, int]) -> bool:
 
 def is_lawful_downgrade(pairs: list[tuple[int, int]], wanted: tuple[int, int]) -> bool:
     """Some of the pairs, one at least, have just this union (section 16.19)."""
-    subsets = range(1, 2**len(pairs))
+    subsets = range(1, 2 ** len(pairs))
     return any(union([pair for place, pair in enumerate(pairs) if subset >> place & 1]) == wanted for subset in subsets)
 
 

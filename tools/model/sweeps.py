@@ -12,6 +12,7 @@ class Swept:
     """Of a sweep: how many clients it removed, how many have a lease that isn't over, and for how many others the
     journal had no entry left; how many delegations it took, how many owners it forgot, and whether others of these are
     left that are due."""
+
     expired: int = 0
     kept: int = 0
     refused: int = 0
@@ -67,8 +68,11 @@ class Sweeping(Delegating):
     def idle(self, now: int) -> list[Owner]:
         """The open owners that may be forgotten, in the order in which they became known."""
         opening = {it.owner for it in self.opens}
-        found = [owner for owner in self.open_owners.values()
-                 if owner.name not in opening and owner.kept.moment + self.lease < now]
+        found = [
+            owner
+            for owner in self.open_owners.values()
+            if owner.name not in opening and owner.kept.moment + self.lease < now
+        ]
         return sorted(found, key=lambda owner: owner.recorded)
 
     def forget(self, now: int) -> int | None:

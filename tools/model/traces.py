@@ -11,8 +11,12 @@ from nfs4 import wire
 from nfs4.wire import CompoundCall, Opnum
 
 OPERATION_NAMES = {**{int(it): it.name for it in Opnum}, **{it: name for name, it in wire.OTHER_OPERATIONS.items()}}
-ACCEPTED_NAMES = {wire.PROG_UNAVAIL: "PROG_UNAVAIL", wire.PROG_MISMATCH: "PROG_MISMATCH",
-                  wire.PROC_UNAVAIL: "PROC_UNAVAIL", wire.GARBAGE_ARGS: "GARBAGE_ARGS"}
+ACCEPTED_NAMES = {
+    wire.PROG_UNAVAIL: "PROG_UNAVAIL",
+    wire.PROG_MISMATCH: "PROG_MISMATCH",
+    wire.PROC_UNAVAIL: "PROC_UNAVAIL",
+    wire.GARBAGE_ARGS: "GARBAGE_ARGS",
+}
 DENIED_NAMES = {wire.RPC_MISMATCH: "RPC_MISMATCH", wire.AUTH_ERROR: "AUTH_ERROR"}
 # The most letters that are shown of an operation.
 LETTERS = 1000
@@ -21,6 +25,7 @@ LETTERS = 1000
 @dataclass
 class Tracer(Recorder):
     """A server that keeps its journal, and the words of the operations of the call before."""
+
     steps: list[str] = field(default_factory=list)
 
     def run_compound(self, call: CompoundCall, refused: Set[int]) -> bytes:
@@ -30,7 +35,7 @@ class Tracer(Recorder):
     def run_next(self, call: CompoundCall, handles: Filehandles, room: int, is_refused: bool) -> tuple[int, Result]:
         begin = call.operations.at
         number, result = super().run_next(call, handles, room, is_refused)
-        self.steps.append(step_words(number, call.operations.data[begin + 4:call.operations.at], result))
+        self.steps.append(step_words(number, call.operations.data[begin + 4 : call.operations.at], result))
         return number, result
 
 

@@ -171,8 +171,10 @@ def read_document(text: str) -> tuple[Policy, list[Any], list[tuple[str, bytes]]
     if not all(word in words for word, words in zip(policy, (DELEGATIONS, CALLBACKS, CLOSE_LOCKS, PROFILES))):
         raise Refused(SYNTAX)
     directories = [text_of(table, "path") for table in tables(document, "directory", "path")]
-    files = [(text_of(table, "path"), text_of(table, "text", "").encode())
-             for table in tables(document, "file", "path", "text")]
+    files = [
+        (text_of(table, "path"), text_of(table, "text", "").encode())
+        for table in tables(document, "file", "path", "text")
+    ]
     return policy, directories, files
 
 

@@ -8,19 +8,40 @@ from collections.abc import Callable
 from typing import Any, NamedTuple
 
 from nfs4.callbacks import CALLBACK_VERSION, CB_COMPOUND, CB_NULL, OP_CB_RECALL
-from nfs4.wire import (BODY_LIMIT, CALL, CallbackRecall, Fault, Principal, Reader, SUCCESS, Stateid, Status,
-                       Unreadable, accepted, form_of, opaque, read_principal, record, records, u32)
+from nfs4.wire import (
+    BODY_LIMIT,
+    CALL,
+    CallbackRecall,
+    Fault,
+    Principal,
+    Reader,
+    SUCCESS,
+    Stateid,
+    Status,
+    Unreadable,
+    accepted,
+    form_of,
+    opaque,
+    read_principal,
+    record,
+    records,
+    u32,
+)
 
 
 # The arguments of CB_RECALL, behind the callback_ident of its CB_COMPOUND.
-RecallArguments = NamedTuple("RecallArguments", [
-    ("ident", int), ("stateid", Stateid), ("truncate", int), ("filehandle", bytes)])
+RecallArguments = NamedTuple(
+    "RecallArguments", [("ident", int), ("stateid", Stateid), ("truncate", int), ("filehandle", bytes)]
+)
 # A call, with who calls by its credential; of CB_NULL the tag is empty, and there is no recall.
-CallbackCall = NamedTuple("CallbackCall", [
-    ("xid", int), ("program", int), ("principal", Principal), ("tag", bytes), ("recall", RecallArguments | None)])
+CallbackCall = NamedTuple(
+    "CallbackCall",
+    [("xid", int), ("program", int), ("principal", Principal), ("tag", bytes), ("recall", RecallArguments | None)],
+)
 
 
 # The calls, and their reply.
+
 
 def read_callback(data: bytes) -> CallbackCall:
     """The call that a record is, by its bytes without headers; or Unreadable where it is neither CB_NULL nor a
@@ -62,12 +83,14 @@ def reply_to(call: CallbackCall, status: int = Status.OK) -> bytes:
 
 # The listener.
 
+
 class Heard:
     """A record that came on a connection: when, from where, its bytes, and the call that it is, or None. `is_over` is
     set once the connection has ended."""
 
-    def __init__(self, stream: socket.socket, peer: Any, data: bytes, call: CallbackCall | None,
-                 is_over: threading.Event) -> None:
+    def __init__(
+        self, stream: socket.socket, peer: Any, data: bytes, call: CallbackCall | None, is_over: threading.Event
+    ) -> None:
         self.moment, self.stream, self.peer, self.data = time.monotonic(), stream, peer, data
         self.call, self.is_over = call, is_over
 
@@ -137,6 +160,7 @@ class Listener:
         def take(count: int) -> bytes:
             data.extend(taken := stream.recv(count, socket.MSG_WAITALL))
             return taken
+
         try:
             for body in records(take):
                 self.hear(Heard(stream, peer, bytes(data), call_of(body), is_over))

@@ -16,12 +16,14 @@ HANDLE_HEAD = b"nfh1"
 
 class CallbackReply(Enum):
     """What a reply to a callback is."""
+
     ACCEPTED = "accepted"
     REFUSED = "refused"
     UNREADABLE = "unreadable"
 
 
 # The calls, as records.
+
 
 def credential_bytes(principal: tuple[int, int]) -> bytes:
     """Of the flavor by which the client introduced itself (section 3.3.3): under AUTH_SYS with its uid and nothing
@@ -50,6 +52,7 @@ def null_call(xid: int, program: int) -> bytes:
 
 
 # The replies.
+
 
 def read_reply(data: bytes, xid: int, is_compound: bool) -> CallbackReply:
     """What a reply is, without the headers of its fragments, to the call with this xid."""
@@ -91,6 +94,7 @@ def read_results(reader: Reader) -> int:
 
 
 # Addresses.
+
 
 def address_of(callback: Callback) -> tuple[str, int] | None:
     """The IPv4 address and the port of a callback, or None where it can't be called there (RFC 5665, section 5.2.3)."""

@@ -3,10 +3,36 @@ numbers that the server gives it."""
 from collections.abc import Sequence
 from typing import Any
 
-from nfs4.messages import (CLOSE, GETATTR, LOCK, LOCKT, LOCKU, LOOKUP, NFS4_OK, NULL, OPEN, OPEN_CONFIRM,
-                           OPEN_DOWNGRADE, PUTFH, PUTROOTFH, RELEASE_LOCKOWNER, RENEW, SETCLIENTID_CONFIRM,
-                           TYPE_SIZE_FILEID, call, compound, confirmation, given, handle, lookup, opening, reply, results,
-                           setclientid, words)
+from nfs4.messages import (
+    CLOSE,
+    GETATTR,
+    LOCK,
+    LOCKT,
+    LOCKU,
+    LOOKUP,
+    NFS4_OK,
+    NULL,
+    OPEN,
+    OPEN_CONFIRM,
+    OPEN_DOWNGRADE,
+    PUTFH,
+    PUTROOTFH,
+    RELEASE_LOCKOWNER,
+    RENEW,
+    SETCLIENTID_CONFIRM,
+    TYPE_SIZE_FILEID,
+    call,
+    compound,
+    confirmation,
+    given,
+    handle,
+    lookup,
+    opening,
+    reply,
+    results,
+    setclientid,
+    words,
+)
 from nfs4.wire import READ_LT, Status, WRITE_LT, opaque, u64
 
 # The nodes of the tree's files, with their paths.
@@ -23,7 +49,7 @@ class Wrong(Exception):
 
 def numbers_of(reply: bytes) -> list[int]:
     """A reply's words behind its header."""
-    return [int.from_bytes(reply[at:at + 4], "big") for at in range(4, len(reply), 4)]
+    return [int.from_bytes(reply[at : at + 4], "big") for at in range(4, len(reply), 4)]
 
 
 def done(operation: int, rest: bytes = b"", status: int = NFS4_OK) -> bytes:
@@ -79,8 +105,10 @@ class Client:
     def expect(self, status: int, pairs: Sequence[Pair]) -> None:
         """The last reply has this status, and these results."""
         if self.got[-1] != (wanted := results(len(self.sent), status, *(result for _, result in pairs))):
-            raise Wrong(f"user {self.uid} gets {self.got[-1].hex(' ', 4)}\nfor {self.sent[-1].hex(' ', 4)}\n"
-                        f"wanted {wanted.hex(' ', 4)}")
+            raise Wrong(
+                f"user {self.uid} gets {self.got[-1].hex(' ', 4)}\nfor {self.sent[-1].hex(' ', 4)}\n"
+                f"wanted {wanted.hex(' ', 4)}"
+            )
 
     def want(self, *pairs: Pair) -> None:
         """A call gets these results."""
@@ -203,8 +231,13 @@ class Client:
         """Opens a file, locks and unlocks bytes of it, and closes it."""
         self.null()
         self.open_file(file)
-        self.want(*under(file, words(GETATTR, 1, TYPE_SIZE_FILEID), done(GETATTR, words(
-            1, TYPE_SIZE_FILEID, 20, 1, 0, 5 if file == 1 else 0, 0, file + 1))))
+        self.want(
+            *under(
+                file,
+                words(GETATTR, 1, TYPE_SIZE_FILEID),
+                done(GETATTR, words(1, TYPE_SIZE_FILEID, 20, 1, 0, 5 if file == 1 else 0, 0, file + 1)),
+            )
+        )
         self.lock_first()
         self.want(*under(file, self.lockt_words(b"other", self.span()), self.denial()))
         self.lock_again(LOCK, self.next_lock_words(self.lock_last + 1))

@@ -72,7 +72,7 @@ def split(data: bytes) -> tuple[list[bytes], bytes]:
     """The whole records of these bytes, and the rest."""
     found, start, at = [], 0, 0
     while at + 4 <= len(data):
-        header = int.from_bytes(data[at:at + 4], "big")
+        header = int.from_bytes(data[at : at + 4], "big")
         at += 4 + (header & 0x7FFFFFFF)
         if at > len(data):
             break
@@ -86,7 +86,7 @@ def xid(data: bytes) -> bytes:
     """The first word of a record, which is the xid of a call or a reply, without the headers of its fragments."""
     body, at = b"", 0
     while len(body) < 4 and at + 4 <= len(data):
-        length = int.from_bytes(data[at:at + 4], "big") & 0x7FFFFFFF
-        body += data[at + 4:at + 4 + length]
+        length = int.from_bytes(data[at : at + 4], "big") & 0x7FFFFFFF
+        body += data[at + 4 : at + 4 + length]
         at += 4 + length
     return body[:4]

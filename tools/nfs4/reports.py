@@ -14,6 +14,7 @@ Failure = NamedTuple("Failure", [("what", str), ("wanted", bytes), ("got", bytes
 class Outcome(NamedTuple):
     """A row that was sent, with what is wrong, or None, and the seconds that it took; or one that was left out, with
     why. What is known of a row's difference is a text, or None."""
+
     row: rows.Row
     failure: Failure | None
     seconds: float
@@ -64,6 +65,7 @@ def is_better(outcome: Outcome) -> bool:
 
 # Lines.
 
+
 def lines_of(outcome: Outcome) -> Iterator[str]:
     """What is said of a row, if anything is: nothing of one that passes, or differs as is known."""
     row = outcome.row
@@ -88,6 +90,7 @@ def summary(outcomes: list[Outcome]) -> str:
 
 
 # Files.
+
 
 def tap_lines(outcomes: list[Outcome]) -> Iterator[str]:
     """TAP version 13: a known difference is a TODO, and a row that was left out a SKIP."""
@@ -118,17 +121,23 @@ def case_of(outcome: Outcome) -> str:
         rule = " ".join(row.rule)
         told = f"<failure message={quoteattr(outcome.failure.what)}>{quoteattr(rule)[1:-1]}</failure>"
     sections = f'<properties><property name="sections" value={quoteattr(row.sections)}/></properties>'
-    return (f"  <testcase classname={quoteattr(row.file.rpartition('/')[2])} name={quoteattr(row.name)} "
-            f'time="{outcome.seconds:.3f}">{sections if row.sections else ""}{told}</testcase>')
+    return (
+        f"  <testcase classname={quoteattr(row.file.rpartition('/')[2])} name={quoteattr(row.name)} "
+        f'time="{outcome.seconds:.3f}">{sections if row.sections else ""}{told}</testcase>'
+    )
 
 
 def junit_lines(outcomes: list[Outcome]) -> Iterator[str]:
     failed = sum(map(is_failed, outcomes))
-    skipped = sum(outcome.left_out is not None or outcome.failure is not None and outcome.known is not None
-                  for outcome in outcomes)
+    skipped = sum(
+        outcome.left_out is not None or outcome.failure is not None and outcome.known is not None
+        for outcome in outcomes
+    )
     yield '<?xml version="1.0" encoding="UTF-8"?>'
-    yield (f'<testsuite name="rows" tests="{len(outcomes)}" failures="{failed}" errors="0" skipped="{skipped}" '
-           f'time="{sum(outcome.seconds for outcome in outcomes):.3f}">')
+    yield (
+        f'<testsuite name="rows" tests="{len(outcomes)}" failures="{failed}" errors="0" skipped="{skipped}" '
+        f'time="{sum(outcome.seconds for outcome in outcomes):.3f}">'
+    )
     yield from map(case_of, outcomes)
     yield "</testsuite>"
 

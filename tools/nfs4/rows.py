@@ -19,9 +19,27 @@ MESSAGE_LIMIT = 1 << 20
 
 # The words of the messages of ONC RPC that a row may name.
 MESSAGE_WORDS = (
-    "CALL", "REPLY", "MSG_ACCEPTED", "MSG_DENIED", "SUCCESS", "PROG_UNAVAIL", "PROG_MISMATCH", "PROC_UNAVAIL",
-    "GARBAGE_ARGS", "SYSTEM_ERR", "RPC_MISMATCH", "AUTH_ERROR", "AUTH_BADCRED", "AUTH_NONE", "AUTH_SYS", "AUTH_SHORT",
-    "RPCSEC_GSS", "NFS4_PROGRAM", "NFSPROC4_NULL", "NFSPROC4_COMPOUND")
+    "CALL",
+    "REPLY",
+    "MSG_ACCEPTED",
+    "MSG_DENIED",
+    "SUCCESS",
+    "PROG_UNAVAIL",
+    "PROG_MISMATCH",
+    "PROC_UNAVAIL",
+    "GARBAGE_ARGS",
+    "SYSTEM_ERR",
+    "RPC_MISMATCH",
+    "AUTH_ERROR",
+    "AUTH_BADCRED",
+    "AUTH_NONE",
+    "AUTH_SYS",
+    "AUTH_SHORT",
+    "RPCSEC_GSS",
+    "NFS4_PROGRAM",
+    "NFSPROC4_NULL",
+    "NFSPROC4_COMPOUND",
+)
 
 
 def names() -> dict[str, int]:
@@ -49,11 +67,13 @@ NO_XID = "a message has no xid, or a number that is none"
 NO_CREDENTIAL = "after the xid of a call only `credential FLAVOR WORDS` can follow"
 NO_END = "the line goes on after its message"
 NO_NUMBER = "a lease is 1 to 86,400 seconds, an epoch below 2^32, a moment below 2^40 - 2"
-NO_SWEEP = ("no sweep: `sweep SECONDS expired COUNT kept COUNT`, and after it, if need be, `revoked COUNT`, and then "
-            "`forgotten COUNT`")
+NO_SWEEP = (
+    "no sweep: `sweep SECONDS expired COUNT kept COUNT`, and after it, if need be, `revoked COUNT`, and then "
+    "`forgotten COUNT`"
+)
 NO_MARK = "no mark of a path: `mark CLIENT up` or `mark CLIENT down`, and then `done` or `not live`"
 NO_REVOCATION = "no revocation: `revoke SECONDS none` or `revoke SECONDS state NUMBER`"
-NO_FORGETTING = "no forgetting: `forget SECONDS none` or `forget SECONDS owner CLIENT \"NAME\"`"
+NO_FORGETTING = 'no forgetting: `forget SECONDS none` or `forget SECONDS owner CLIENT "NAME"`'
 NO_TAKE = "no recall that is taken: `take record` with its words, of which the first is its xid, or `take nothing`"
 NO_PENDING = "no number of recalls: `pending COUNT`"
 NO_PROBE = "no client to be tried: `probe CLIENT none` or `probe CLIENT client NUMBER`"
@@ -93,6 +113,7 @@ def refusal(path: str, error: Exception) -> str:
 class Sweep:
     """A look through the leases, and how many clients are to be removed by it, how many kept, how many delegations are
     to be taken, and how many owners forgotten."""
+
     moment: int
     expired: int
     kept: int
@@ -103,6 +124,7 @@ class Sweep:
 @dataclass(frozen=True)
 class Mark:
     """A client can be called back, or can't; and whether it is to be live."""
+
     client: int
     is_up: bool
     is_live: bool = True
@@ -111,6 +133,7 @@ class Mark:
 @dataclass(frozen=True)
 class Revoke:
     """A delegation is taken, if one is due; and the number of the state that it is to be, or None."""
+
     moment: int
     state: int | None = None
 
@@ -119,6 +142,7 @@ class Revoke:
 class Forget:
     """An open owner is forgotten, if one is due; and the number of its client and the name that it is to have, or
     None."""
+
     moment: int
     owner: tuple[int, bytes] | None = None
 
@@ -126,6 +150,7 @@ class Forget:
 @dataclass(frozen=True)
 class Take:
     """The first recall that waits is taken; and the record that is to be sent for it, or nothing where none waits."""
+
     record: bytes = b""
 
     @property
@@ -136,12 +161,14 @@ class Take:
 @dataclass(frozen=True)
 class Pending:
     """How many recalls are to wait."""
+
     count: int
 
 
 @dataclass(frozen=True)
 class Probe:
     """Of whose path nothing is known: the least client number above this one that it is to be, or None."""
+
     after: int
     client: int | None = None
 
@@ -157,6 +184,7 @@ ALONE_ORDERS = (Revoke, Pending, Forget)
 class Part:
     """A connection, or what is sent on one at a moment and between orders: the bytes, what has to come, and how the
     connection ends, if it isn't by the end of the input after a whole record."""
+
     moment: int = 0
     sent: bytes = b""
     wanted: bytes = b""
@@ -171,6 +199,7 @@ Step = Part | Order
 @dataclass
 class Connection:
     """A connection as its client sees it."""
+
     moment: int
     sent: bytes
     wanted: bytes
@@ -234,6 +263,7 @@ class Row:
 
 
 # Words.
+
 
 def split_word(line: str) -> tuple[str, str]:
     """A line up to its first space, and what follows that."""
@@ -319,9 +349,11 @@ def spelled(line: str) -> bytes:
 
 # Messages.
 
+
 @dataclass
 class Message:
     """Its direction (send, want, take), its form (bytes, record, compound), its head, and the words of its lines."""
+
     direction: str
     form: str
     head: bytes = b""
@@ -395,8 +427,12 @@ def reply(kind: str, text: str) -> bytes:
 # Lines.
 
 # What is counted of a sweep: the first two always.
-COUNTED = [["expired", "kept"], ["expired", "kept", "revoked"], ["expired", "kept", "forgotten"],
-           ["expired", "kept", "revoked", "forgotten"]]
+COUNTED = [
+    ["expired", "kept"],
+    ["expired", "kept", "revoked"],
+    ["expired", "kept", "forgotten"],
+    ["expired", "kept", "revoked", "forgotten"],
+]
 
 
 def sweep_of(text: str) -> Sweep:
@@ -480,8 +516,13 @@ def order_line(order: Order) -> str:
 
 
 ORDER_LINES: dict[str, Callable[[str], Order]] = {
-    "sweep": sweep_of, "mark": mark_of, "revoke": revocation_of, "pending": pending_of, "probe": probe_of,
-    "forget": forgetting_of}
+    "sweep": sweep_of,
+    "mark": mark_of,
+    "revoke": revocation_of,
+    "pending": pending_of,
+    "probe": probe_of,
+    "forget": forgetting_of,
+}
 
 
 class File:
@@ -626,8 +667,9 @@ def files_of(path: str) -> list[str]:
 
 # Replies beside those that are wanted.
 
+
 def words(data: bytes) -> list[str]:
-    return [data[at:at + 4].hex() for at in range(0, len(data), 4)]
+    return [data[at : at + 4].hex() for at in range(0, len(data), 4)]
 
 
 def words_beside(wanted: bytes, got: bytes, whose: str) -> Iterator[str]:

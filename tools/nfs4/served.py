@@ -104,7 +104,8 @@ class Served(Process):
 
     def end(self, seconds: float = PATIENCE) -> tuple[int | None, bytes, bytes]:
         """How it ends by itself: its status, and what it has written on standard output and, behind the lines with the
-        port and of what is served, on standard error. The status is None where it doesn't end in time, and is killed."""
+        port and of what is served, on standard error. The status is None where it doesn't end in time, and is killed.
+        """
         try:
             output, errors = self.program.communicate(timeout=seconds)
             status = self.program.returncode
@@ -146,7 +147,6 @@ class Served(Process):
         with open(f"/proc/{self.program.pid}/status", encoding="utf-8") as source:
             return int(re.findall(rf"{what}:\s*([0-9]+) kB", source.read())[0])
 
-
     def addresses(self) -> int:
         """Of a server that runs: how many bytes of addresses it has now."""
         with open(f"/proc/{self.program.pid}/statm", encoding="utf-8") as source:
@@ -184,7 +184,7 @@ class Peer:
             if not self.take_more(seconds):
                 found = [self.rest]
                 break
-        self.rest = self.rest[len(found[0]):]
+        self.rest = self.rest[len(found[0]) :]
         return found[0]
 
     def receive_each(self, seconds: float = REPLY_PATIENCE) -> Iterator[bytes]:
@@ -218,7 +218,7 @@ class Peer:
         self.socket.settimeout(seconds)
         while time.monotonic() < until:
             try:
-                sent += self.socket.send(data[sent % len(data):])
+                sent += self.socket.send(data[sent % len(data) :])
             except TimeoutError:
                 return sent
         raise TimeoutError("a server takes more and more of a peer that doesn't read")
@@ -245,7 +245,7 @@ class Piped(Process):
         try:
             # A write to a pipe may take less than all.
             while rest:
-                rest = rest[self.program.stdin.write(rest):]
+                rest = rest[self.program.stdin.write(rest) :]
         except BrokenPipeError:
             pass
 

@@ -15,35 +15,131 @@ BODY_LIMIT = 400
 
 
 # nfsstat4 of RFC 7531: the ones that this server gives.
-Status = IntEnum("Status", {
-    "OK": 0, "NOENT": 2, "ACCESS": 13, "EXIST": 17, "NOTDIR": 20, "ISDIR": 21, "INVAL": 22, "FBIG": 27, "ROFS": 30,
-    "NAMETOOLONG": 63, "BADHANDLE": 10001, "BAD_COOKIE": 10003, "NOTSUPP": 10004, "TOOSMALL": 10005, "DELAY": 10008,
-    "DENIED": 10010, "EXPIRED": 10011, "LOCKED": 10012, "SHARE_DENIED": 10015, "CLID_INUSE": 10017, "RESOURCE": 10018,
-    "NOFILEHANDLE": 10020, "MINOR_VERS_MISMATCH": 10021, "STALE_CLIENTID": 10022, "STALE_STATEID": 10023,
-    "OLD_STATEID": 10024, "BAD_STATEID": 10025, "BAD_SEQID": 10026, "NOT_SAME": 10027, "RESTOREFH": 10030,
-    "ATTRNOTSUPP": 10032, "NO_GRACE": 10033, "BADXDR": 10036, "LOCKS_HELD": 10037, "OPENMODE": 10038,
-    "OP_ILLEGAL": 10044})
+Status = IntEnum(
+    "Status",
+    {
+        "OK": 0,
+        "NOENT": 2,
+        "ACCESS": 13,
+        "EXIST": 17,
+        "NOTDIR": 20,
+        "ISDIR": 21,
+        "INVAL": 22,
+        "FBIG": 27,
+        "ROFS": 30,
+        "NAMETOOLONG": 63,
+        "BADHANDLE": 10001,
+        "BAD_COOKIE": 10003,
+        "NOTSUPP": 10004,
+        "TOOSMALL": 10005,
+        "DELAY": 10008,
+        "DENIED": 10010,
+        "EXPIRED": 10011,
+        "LOCKED": 10012,
+        "SHARE_DENIED": 10015,
+        "CLID_INUSE": 10017,
+        "RESOURCE": 10018,
+        "NOFILEHANDLE": 10020,
+        "MINOR_VERS_MISMATCH": 10021,
+        "STALE_CLIENTID": 10022,
+        "STALE_STATEID": 10023,
+        "OLD_STATEID": 10024,
+        "BAD_STATEID": 10025,
+        "BAD_SEQID": 10026,
+        "NOT_SAME": 10027,
+        "RESTOREFH": 10030,
+        "ATTRNOTSUPP": 10032,
+        "NO_GRACE": 10033,
+        "BADXDR": 10036,
+        "LOCKS_HELD": 10037,
+        "OPENMODE": 10038,
+        "OP_ILLEGAL": 10044,
+    },
+)
 
 
 # nfs_opnum4 of RFC 7531: the operations that have a rule in the model, and ILLEGAL.
-Opnum = IntEnum("Opnum", {
-    "ACCESS": 3, "CLOSE": 4, "COMMIT": 5, "DELEGRETURN": 8, "GETATTR": 9, "GETFH": 10, "LOCK": 12, "LOCKT": 13,
-    "LOCKU": 14, "LOOKUP": 15, "OPEN": 18, "OPEN_CONFIRM": 20, "OPEN_DOWNGRADE": 21, "PUTFH": 22, "PUTROOTFH": 24,
-    "READ": 25, "READDIR": 26, "RENEW": 30, "RESTOREFH": 31, "SAVEFH": 32, "SETATTR": 34, "SETCLIENTID": 35,
-    "SETCLIENTID_CONFIRM": 36, "WRITE": 38, "RELEASE_LOCKOWNER": 39, "ILLEGAL": 10044})
+Opnum = IntEnum(
+    "Opnum",
+    {
+        "ACCESS": 3,
+        "CLOSE": 4,
+        "COMMIT": 5,
+        "DELEGRETURN": 8,
+        "GETATTR": 9,
+        "GETFH": 10,
+        "LOCK": 12,
+        "LOCKT": 13,
+        "LOCKU": 14,
+        "LOOKUP": 15,
+        "OPEN": 18,
+        "OPEN_CONFIRM": 20,
+        "OPEN_DOWNGRADE": 21,
+        "PUTFH": 22,
+        "PUTROOTFH": 24,
+        "READ": 25,
+        "READDIR": 26,
+        "RENEW": 30,
+        "RESTOREFH": 31,
+        "SAVEFH": 32,
+        "SETATTR": 34,
+        "SETCLIENTID": 35,
+        "SETCLIENTID_CONFIRM": 36,
+        "WRITE": 38,
+        "RELEASE_LOCKOWNER": 39,
+        "ILLEGAL": 10044,
+    },
+)
 
 
 # The other operations of RFC 7531, which have no rule in the model.
 OTHER_OPERATIONS = {
-    "CREATE": 6, "DELEGPURGE": 7, "LINK": 11, "LOOKUPP": 16, "NVERIFY": 17, "OPENATTR": 19, "PUTPUBFH": 23,
-    "READLINK": 27, "REMOVE": 28, "RENAME": 29, "SECINFO": 33, "VERIFY": 37}
+    "CREATE": 6,
+    "DELEGPURGE": 7,
+    "LINK": 11,
+    "LOOKUPP": 16,
+    "NVERIFY": 17,
+    "OPENATTR": 19,
+    "PUTPUBFH": 23,
+    "READLINK": 27,
+    "REMOVE": 28,
+    "RENAME": 29,
+    "SECINFO": 33,
+    "VERIFY": 37,
+}
 # Its other statuses, which this server doesn't give.
 OTHER_STATUSES = {
-    "PERM": 1, "IO": 5, "NXIO": 6, "XDEV": 18, "NOSPC": 28, "MLINK": 31, "NOTEMPTY": 66, "DQUOT": 69, "STALE": 70,
-    "SERVERFAULT": 10006, "BADTYPE": 10007, "SAME": 10009, "GRACE": 10013, "FHEXPIRED": 10014, "WRONGSEC": 10016,
-    "MOVED": 10019, "LOCK_RANGE": 10028, "SYMLINK": 10029, "LEASE_MOVED": 10031, "RECLAIM_BAD": 10034,
-    "RECLAIM_CONFLICT": 10035, "BADOWNER": 10039, "BADCHAR": 10040, "BADNAME": 10041, "BAD_RANGE": 10042,
-    "LOCK_NOTSUPP": 10043, "DEADLOCK": 10045, "FILE_OPEN": 10046, "ADMIN_REVOKED": 10047, "CB_PATH_DOWN": 10048}
+    "PERM": 1,
+    "IO": 5,
+    "NXIO": 6,
+    "XDEV": 18,
+    "NOSPC": 28,
+    "MLINK": 31,
+    "NOTEMPTY": 66,
+    "DQUOT": 69,
+    "STALE": 70,
+    "SERVERFAULT": 10006,
+    "BADTYPE": 10007,
+    "SAME": 10009,
+    "GRACE": 10013,
+    "FHEXPIRED": 10014,
+    "WRONGSEC": 10016,
+    "MOVED": 10019,
+    "LOCK_RANGE": 10028,
+    "SYMLINK": 10029,
+    "LEASE_MOVED": 10031,
+    "RECLAIM_BAD": 10034,
+    "RECLAIM_CONFLICT": 10035,
+    "BADOWNER": 10039,
+    "BADCHAR": 10040,
+    "BADNAME": 10041,
+    "BAD_RANGE": 10042,
+    "LOCK_NOTSUPP": 10043,
+    "DEADLOCK": 10045,
+    "FILE_OPEN": 10046,
+    "ADMIN_REVOKED": 10047,
+    "CB_PATH_DOWN": 10048,
+}
 
 
 class Unreadable(Exception):
@@ -65,7 +161,7 @@ class Reader:
         if len(self.data) - self.at < count:
             raise Unreadable
         self.at += count
-        return self.data[self.at - count:self.at]
+        return self.data[self.at - count : self.at]
 
     def u32(self) -> int:
         return int.from_bytes(self.fixed(4), "big")
@@ -120,6 +216,7 @@ def bitmap(words: Sequence[int]) -> bytes:
 
 # Forms: how a value is read, and how it is written. The fields of a record have theirs in their annotations.
 
+
 class Form(NamedTuple):
     read: Callable[[Reader], Any]
     write: Callable[[Any], bytes]
@@ -131,8 +228,10 @@ def form_of(kind: Any) -> Form:
         form: Form = kind.__metadata__[0]
         return form
     forms = [form_of(each) for each in get_type_hints(kind, include_extras=True).values()]
-    return Form(lambda reader: kind(*[form.read(reader) for form in forms]),
-                lambda record: b"".join([form.write(value) for form, value in zip(forms, record)]))
+    return Form(
+        lambda reader: kind(*[form.read(reader) for form in forms]),
+        lambda record: b"".join([form.write(value) for form, value in zip(forms, record)]),
+    )
 
 
 def one_of(count: int, first: int = 0) -> Form:
@@ -175,8 +274,9 @@ LockOwner = NamedTuple("LockOwner", [("epoch", Word), ("client", Word), ("name",
 FATTR = Form(lambda reader: (reader.bitmap(), reader.opaque()), lambda pair: bitmap(pair[0]) + opaque(pair[1]))
 Fattr = Annotated[tuple[Sequence[int], bytes], FATTR]
 # Who locks: an owner that has no lock state on the file yet, by an open; or one that has, by its lock state.
-NewLocker = NamedTuple("NewLocker", [
-    ("open_seqid", Word), ("open_stateid", Stateid), ("lock_seqid", Word), ("owner", LockOwner)])
+NewLocker = NamedTuple(
+    "NewLocker", [("open_seqid", Word), ("open_stateid", Stateid), ("lock_seqid", Word), ("owner", LockOwner)]
+)
 KnownLocker = NamedTuple("KnownLocker", [("lock_stateid", Stateid), ("lock_seqid", Word)])
 Callback = NamedTuple("Callback", [("program", Word), ("netid", Text), ("address", Text), ("ident", Word)])
 # How an OPEN creates: its opentype, and with OPEN4_CREATE the createmode and the attributes or the verifier.
@@ -216,10 +316,15 @@ def claim_bytes(claim: Claim) -> bytes:
 
 
 LockType = Annotated[int, one_of(4, first=READ_LT)]
-Locker = Annotated[KnownLocker | NewLocker, Form(
-    lambda reader: (NEW_LOCKER if reader.one_of(2) else KNOWN_LOCKER).read(reader),
-    lambda locker: u32(1) + NEW_LOCKER.write(locker) if isinstance(locker, NewLocker)
-    else u32(0) + KNOWN_LOCKER.write(locker))]
+Locker = Annotated[
+    KnownLocker | NewLocker,
+    Form(
+        lambda reader: (NEW_LOCKER if reader.one_of(2) else KNOWN_LOCKER).read(reader),
+        lambda locker: u32(1) + NEW_LOCKER.write(locker)
+        if isinstance(locker, NewLocker)
+        else u32(0) + KNOWN_LOCKER.write(locker),
+    ),
+]
 How = Annotated[Openhow, Form(read_openhow, openhow_bytes)]
 ClaimOfOpen = Annotated[Claim, Form(read_claim, claim_bytes)]
 
@@ -233,27 +338,33 @@ Close = NamedTuple("Close", [("seqid", Word), ("stateid", Stateid)])
 Commit = NamedTuple("Commit", [("offset", Long), ("count", Word)])
 Delegreturn = NamedTuple("Delegreturn", [("stateid", Stateid)])
 Getattr = NamedTuple("Getattr", [("mask", Mask)])
-Lock = NamedTuple("Lock", [
-    ("locktype", LockType), ("reclaim", Bool), ("offset", Long), ("length", Long), ("locker", Locker)])
+Lock = NamedTuple(
+    "Lock", [("locktype", LockType), ("reclaim", Bool), ("offset", Long), ("length", Long), ("locker", Locker)]
+)
 Lockt = NamedTuple("Lockt", [("locktype", LockType), ("offset", Long), ("length", Long), ("owner", LockOwner)])
-Locku = NamedTuple("Locku", [
-    ("locktype", LockType), ("seqid", Word), ("stateid", Stateid), ("offset", Long), ("length", Long)])
+Locku = NamedTuple(
+    "Locku", [("locktype", LockType), ("seqid", Word), ("stateid", Stateid), ("offset", Long), ("length", Long)]
+)
 Lookup = NamedTuple("Lookup", [("name", Text)])
-Open = NamedTuple("Open", [
-    ("seqid", Word), ("access", Word), ("deny", Word), ("owner", OpenOwner), ("how", How), ("claim", ClaimOfOpen)])
+Open = NamedTuple(
+    "Open",
+    [("seqid", Word), ("access", Word), ("deny", Word), ("owner", OpenOwner), ("how", How), ("claim", ClaimOfOpen)],
+)
 OpenConfirm = NamedTuple("OpenConfirm", [("stateid", Stateid), ("seqid", Word)])
 OpenDowngrade = NamedTuple("OpenDowngrade", [("stateid", Stateid), ("seqid", Word), ("access", Word), ("deny", Word)])
 Putfh = NamedTuple("Putfh", [("filehandle", Filehandle)])
 Read = NamedTuple("Read", [("stateid", Stateid), ("offset", Long), ("count", Word)])
-Readdir = NamedTuple("Readdir", [
-    ("cookie", Long), ("verifier", Verifier), ("dircount", Word), ("maxcount", Word), ("mask", Mask)])
+Readdir = NamedTuple(
+    "Readdir", [("cookie", Long), ("verifier", Verifier), ("dircount", Word), ("maxcount", Word), ("mask", Mask)]
+)
 ReleaseLockowner = NamedTuple("ReleaseLockowner", [("owner", LockOwner)])
 Renew = NamedTuple("Renew", [("epoch", Word), ("client", Word)])
 Setattr = NamedTuple("Setattr", [("stateid", Stateid), ("attributes", Fattr)])
 Setclientid = NamedTuple("Setclientid", [("verifier", Verifier), ("id", Name), ("callback", Callback)])
 SetclientidConfirm = NamedTuple("SetclientidConfirm", [("epoch", Word), ("client", Word), ("confirm", Long)])
-Write = NamedTuple("Write", [
-    ("stateid", Stateid), ("offset", Long), ("stable", Annotated[int, one_of(3)]), ("data", Data)])
+Write = NamedTuple(
+    "Write", [("stateid", Stateid), ("offset", Long), ("stable", Annotated[int, one_of(3)]), ("data", Data)]
+)
 
 # Of the operations that have no rule in the model, which doesn't read them.
 
@@ -277,20 +388,53 @@ def read_create(reader: Reader) -> Create:
     return Create(kind, value, reader.opaque(), FATTR.read(reader))
 
 
-FORMS: dict[int, Form] = {number: form_of(record) for number, record in {
-    Opnum.ACCESS: Access, Opnum.CLOSE: Close, Opnum.COMMIT: Commit, Opnum.DELEGRETURN: Delegreturn,
-    Opnum.GETATTR: Getattr, Opnum.GETFH: Nothing, Opnum.LOCK: Lock, Opnum.LOCKT: Lockt, Opnum.LOCKU: Locku,
-    Opnum.LOOKUP: Lookup, Opnum.OPEN: Open, Opnum.OPEN_CONFIRM: OpenConfirm, Opnum.OPEN_DOWNGRADE: OpenDowngrade,
-    Opnum.PUTFH: Putfh, Opnum.PUTROOTFH: Nothing, Opnum.READ: Read, Opnum.READDIR: Readdir, Opnum.RENEW: Renew,
-    Opnum.RESTOREFH: Nothing, Opnum.SAVEFH: Nothing, Opnum.SETATTR: Setattr, Opnum.SETCLIENTID: Setclientid,
-    Opnum.SETCLIENTID_CONFIRM: SetclientidConfirm, Opnum.WRITE: Write, Opnum.RELEASE_LOCKOWNER: ReleaseLockowner,
-}.items()}
+FORMS: dict[int, Form] = {
+    number: form_of(record)
+    for number, record in {
+        Opnum.ACCESS: Access,
+        Opnum.CLOSE: Close,
+        Opnum.COMMIT: Commit,
+        Opnum.DELEGRETURN: Delegreturn,
+        Opnum.GETATTR: Getattr,
+        Opnum.GETFH: Nothing,
+        Opnum.LOCK: Lock,
+        Opnum.LOCKT: Lockt,
+        Opnum.LOCKU: Locku,
+        Opnum.LOOKUP: Lookup,
+        Opnum.OPEN: Open,
+        Opnum.OPEN_CONFIRM: OpenConfirm,
+        Opnum.OPEN_DOWNGRADE: OpenDowngrade,
+        Opnum.PUTFH: Putfh,
+        Opnum.PUTROOTFH: Nothing,
+        Opnum.READ: Read,
+        Opnum.READDIR: Readdir,
+        Opnum.RENEW: Renew,
+        Opnum.RESTOREFH: Nothing,
+        Opnum.SAVEFH: Nothing,
+        Opnum.SETATTR: Setattr,
+        Opnum.SETCLIENTID: Setclientid,
+        Opnum.SETCLIENTID_CONFIRM: SetclientidConfirm,
+        Opnum.WRITE: Write,
+        Opnum.RELEASE_LOCKOWNER: ReleaseLockowner,
+    }.items()
+}
 ARGUMENTS = {number: form.read for number, form in FORMS.items()}
 OTHER_ARGUMENTS = {OTHER_OPERATIONS["CREATE"]: read_create} | {
-    OTHER_OPERATIONS[name]: form_of(record).read for name, record in {
-        "DELEGPURGE": Renew, "LINK": Remove, "LOOKUPP": Nothing, "NVERIFY": Verify, "OPENATTR": Openattr,
-        "PUTPUBFH": Nothing, "READLINK": Nothing, "REMOVE": Remove, "RENAME": Rename, "SECINFO": Remove,
-        "VERIFY": Verify}.items()}
+    OTHER_OPERATIONS[name]: form_of(record).read
+    for name, record in {
+        "DELEGPURGE": Renew,
+        "LINK": Remove,
+        "LOOKUPP": Nothing,
+        "NVERIFY": Verify,
+        "OPENATTR": Openattr,
+        "PUTPUBFH": Nothing,
+        "READLINK": Nothing,
+        "REMOVE": Remove,
+        "RENAME": Rename,
+        "SECINFO": Remove,
+        "VERIFY": Verify,
+    }.items()
+}
 ALL_ARGUMENTS = {**ARGUMENTS, **OTHER_ARGUMENTS}
 
 
@@ -304,14 +448,28 @@ Denied = NamedTuple("Denied", [("offset", Long), ("length", Long), ("locktype", 
 # What a user may do with a file: an nfsace4.
 AccessEntry = NamedTuple("AccessEntry", [("kind", Word), ("flag", Word), ("mask", Word), ("who", Text)])
 ACCESS_ENTRY = form_of(AccessEntry)
-Opened = NamedTuple("Opened", [
-    ("stateid", Stateid), ("change", Change), ("flags", int), ("mask", tuple[int, ...]),
-    ("delegation", "Delegation | None")])
+Opened = NamedTuple(
+    "Opened",
+    [
+        ("stateid", Stateid),
+        ("change", Change),
+        ("flags", int),
+        ("mask", tuple[int, ...]),
+        ("delegation", "Delegation | None"),
+    ],
+)
 # A delegation: its type, stateid, and whether it is called back at once; how much a client may write under it, or None;
 # and who may open the file without asking.
-Delegation = NamedTuple("Delegation", [
-    ("kind", int), ("stateid", Stateid), ("is_recalled", int), ("limit", tuple[int, int] | None),
-    ("entry", AccessEntry)])
+Delegation = NamedTuple(
+    "Delegation",
+    [
+        ("kind", int),
+        ("stateid", Stateid),
+        ("is_recalled", int),
+        ("limit", tuple[int, int] | None),
+        ("entry", AccessEntry),
+    ],
+)
 
 
 def read_delegation(reader: Reader) -> Delegation | None:
@@ -397,8 +555,10 @@ def read_result(reader: Reader) -> OperationResult:
 CALLBACK_OPERATIONS = {"CB_GETATTR": 3, "CB_RECALL": 4}
 CallbackGetattr = NamedTuple("CallbackGetattr", [("filehandle", Filehandle), ("mask", Mask)])
 CallbackRecall = NamedTuple("CallbackRecall", [("stateid", Stateid), ("truncate", Bool), ("filehandle", Filehandle)])
-CALLBACK_ARGUMENTS = {CALLBACK_OPERATIONS["CB_GETATTR"]: form_of(CallbackGetattr).read,
-                      CALLBACK_OPERATIONS["CB_RECALL"]: form_of(CallbackRecall).read}
+CALLBACK_ARGUMENTS = {
+    CALLBACK_OPERATIONS["CB_GETATTR"]: form_of(CallbackGetattr).read,
+    CALLBACK_OPERATIONS["CB_RECALL"]: form_of(CallbackRecall).read,
+}
 
 
 def read_callback_result(reader: Reader) -> OperationResult:
@@ -408,6 +568,7 @@ def read_callback_result(reader: Reader) -> OperationResult:
 
 
 # Records (RFC 5531, section 11).
+
 
 def records(take: Callable[[int], bytes]) -> Iterator[bytes]:
     """The records of a connection, as they come, up to its end; or the Fault of a connection that ends otherwise.
@@ -459,8 +620,10 @@ SUCCESS, PROG_UNAVAIL, PROG_MISMATCH, PROC_UNAVAIL, GARBAGE_ARGS, SYSTEM_ERR = 0
 # Who calls: the flavor, and under AUTH_SYS the uid.
 Principal = tuple[int, int]
 # A COMPOUND that can be called: who calls, its head, and a reader of its operations.
-CompoundCall = NamedTuple("CompoundCall", [
-    ("xid", int), ("principal", Principal), ("tag", bytes), ("minor", int), ("count", int), ("operations", Reader)])
+CompoundCall = NamedTuple(
+    "CompoundCall",
+    [("xid", int), ("principal", Principal), ("tag", bytes), ("minor", int), ("count", int), ("operations", Reader)],
+)
 
 
 def accepted(xid: int, state: int, rest: bytes = b"") -> bytes:

@@ -18,6 +18,7 @@ NO_JOURNAL = "fault: not a journal"
 @dataclass(frozen=True)
 class Audit:
     """Journals that are audited by one task: what each is called, and its path."""
+
     judged: Judged
     journals: list[tuple[str, str]]
 

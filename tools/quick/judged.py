@@ -13,6 +13,7 @@ SERVE = "serve"
 
 class Kind(enum.Enum):
     """What is known of the server; the value is the word for it."""
+
     RELEASE = "release"
     PROVED = "proved"
     UNPROVED = "unproved"
@@ -21,8 +22,13 @@ class Kind(enum.Enum):
 
 
 # What is said of a server of each kind, if the caller has no words for it.
-WORDS = {Kind.RELEASE: "a release", Kind.PROVED: "proved", Kind.UNPROVED: "not proved",
-         Kind.MODEL: "the model, not proved", Kind.UNKNOWN: "perhaps not proved"}
+WORDS = {
+    Kind.RELEASE: "a release",
+    Kind.PROVED: "proved",
+    Kind.UNPROVED: "not proved",
+    Kind.MODEL: "the model, not proved",
+    Kind.UNKNOWN: "perhaps not proved",
+}
 
 
 def model_command(name: str) -> list[str]:
@@ -33,6 +39,7 @@ def model_command(name: str) -> list[str]:
 @dataclass(frozen=True)
 class Judged:
     """A server: the command that starts it, of which the last word is `serve` if it isn't the model's."""
+
     command: list[str]
     kind: Kind
 
@@ -63,6 +70,7 @@ def server_of(words: str | None, kind: str | None) -> Judged:
 class Outcome:
     """What comes of checks: how many there were and passed; of each other the lines that say what is wrong; what else
     there is to say; and the files of the journals that were left, each with what it is called."""
+
     passed: int = 0
     faults: list[list[str]] = field(default_factory=list)
     notes: list[str] = field(default_factory=list)

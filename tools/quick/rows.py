@@ -40,6 +40,7 @@ def read_all(folder: str) -> tuple[list[Row], Outcome]:
 @dataclass(frozen=True)
 class Batch:
     """Rows that are sent by one task, and how the paths of the journals begin that they leave."""
+
     judged: Judged
     rows: list[Row]
     journals: str
@@ -49,7 +50,7 @@ def batches(judged: Judged, rows: list[Row], journals: str) -> Iterator[Batch]:
     """The tasks of sending these rows."""
     size = len(rows) if judged.is_model else TOGETHER
     for first in range(0, len(rows), size):
-        yield Batch(judged, rows[first:first + size], os.path.join(journals, str(first)))
+        yield Batch(judged, rows[first : first + size], os.path.join(journals, str(first)))
 
 
 def sendable(judged: Judged, rows: list[Row]) -> tuple[list[Row], str]:

@@ -25,6 +25,7 @@ SHOWN, LINES = 10, 30
 class Plan:
     """What is tested: the server that is judged, with the rows and the samples that it gets; and, if there is one, a
     program that gets the rows of this tree besides."""
+
     judged: Judged
     rows: str
     samples: str
@@ -79,7 +80,7 @@ class Parts:
 
     def audited(self, work: Callable[[journals.Audit], Outcome], found: list[tuple[str, str]]) -> Outcome:
         starts = range(0, len(found), rows.TOGETHER)
-        tasks = [journals.Audit(self.plan.judged, found[at:at + rows.TOGETHER]) for at in starts]
+        tasks = [journals.Audit(self.plan.judged, found[at : at + rows.TOGETHER]) for at in starts]
         return self.hands.each(work, tasks)
 
 
@@ -114,10 +115,17 @@ def tell(part: str, outcome: Outcome, seconds: float) -> None:
 
 def read_options(description: str) -> tuple[argparse.Namespace, Plan]:
     parser = argparse.ArgumentParser(description=description, formatter_class=argparse.RawDescriptionHelpFormatter)
-    parser.add_argument("--server", metavar='"COMMAND WORDS"', help="what starts the server, with `serve` as its last "
-                        "word if it is the program (the program, if one is built here; else the model)")
-    parser.add_argument("--kind", choices=[kind.value for kind in Kind],
-                        help="what is known of the server (unknown; model, if it is the model)")
+    parser.add_argument(
+        "--server",
+        metavar='"COMMAND WORDS"',
+        help="what starts the server, with `serve` as its last "
+        "word if it is the program (the program, if one is built here; else the model)",
+    )
+    parser.add_argument(
+        "--kind",
+        choices=[kind.value for kind in Kind],
+        help="what is known of the server (unknown; model, if it is the model)",
+    )
     parser.add_argument("--named", metavar="WORDS", help="what the last line calls the server")
     parser.add_argument("--rows", metavar="FOLDER", default=DATA, help="the rows that are sent (those of this tree)")
     parser.add_argument("--samples", metavar="FOLDER", default=SAMPLES, help="its samples (those of this tree)")

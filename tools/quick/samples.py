@@ -29,6 +29,7 @@ SAMPLE = "sample."
 @dataclass(frozen=True)
 class Sample:
     """Rows that go to one server, one file after the other, and how that server is started; or records."""
+
     files: tuple[str, ...]
     tree: str | None = None
     lease: int = 90
@@ -44,14 +45,20 @@ class Sample:
 SAMPLES = [
     Sample(("two_owners.rows", "after_the_lease.rows"), "no_callbacks.toml", lease=1, pause=BEYOND_LEASE),
     Sample(("called_back.rows", "recalled_file.rows"), is_called_back=True),
-    Sample(("two_owners.rows",), "no_callbacks.toml"), Sample(("two_faults.rows",), "no_callbacks.toml"),
-    Sample(("cut_file.rows",), "clients.toml"), Sample(("lent_file.rows",), "lending.toml"),
-    Sample(("two_owners.records",)), Sample(("client_ids.records",)), Sample(("letters.records",), "letters.toml")]
+    Sample(("two_owners.rows",), "no_callbacks.toml"),
+    Sample(("two_faults.rows",), "no_callbacks.toml"),
+    Sample(("cut_file.rows",), "clients.toml"),
+    Sample(("lent_file.rows",), "lending.toml"),
+    Sample(("two_owners.records",)),
+    Sample(("client_ids.records",)),
+    Sample(("letters.records",), "letters.toml"),
+]
 
 
 @dataclass(frozen=True)
 class Run:
     """A sample that is run by one task, from this folder; and where its journal goes."""
+
     judged: Judged
     sample: Sample
     folder: str
@@ -73,8 +80,10 @@ def runs(judged: Judged, folder: str, journals: str) -> tuple[list[Run], Outcome
     if judged.is_model and any(sample.is_called_back for sample in wanted):
         wanted = [sample for sample in wanted if not sample.is_called_back]
         outcome.notes.append("those with callbacks left out, as the model makes none")
-    return [Run(judged, sample, folder, os.path.join(journals, f"{SAMPLE}{number}.journal"))
-            for number, sample in enumerate(wanted)], outcome
+    return [
+        Run(judged, sample, folder, os.path.join(journals, f"{SAMPLE}{number}.journal"))
+        for number, sample in enumerate(wanted)
+    ], outcome
 
 
 def is_left_by_sample(journal: str) -> bool:
@@ -99,6 +108,7 @@ def run_sample(run: Run) -> Outcome:
 
 
 # Records.
+
 
 def fault_of_records(run: Run, name: str) -> list[str]:
     """The lines on what is wrong with what `once` answers and how it ends, which are none if nothing is."""
@@ -127,6 +137,7 @@ def replies_to(run: Run, sent: bytes) -> bytes:
 
 
 # Rows.
+
 
 def faults_of_rows(run: Run) -> Iterator[list[str] | str | None]:
     """What is wrong with each row, or None, and with the end of the server."""

@@ -7,9 +7,29 @@ from model.traces import ACCEPTED_NAMES, DENIED_NAMES, LETTERS
 from model.words import STATUS_NAMES, words_read
 from nfs4 import wire
 from nfs4.callbacks import address_of
-from nfs4.wire import (AUTH_NONE, AUTH_SHORT, AUTH_SYS, CALL, KnownLocker, LockOwner, MSG_DENIED, NFS4_PROGRAM, NFS_V4,
-                       NewLocker, OpenOwner, OperationResult, Opnum, REPLY, Reader, SUCCESS, Stateid, Unreadable,
-                       accepted, opaque, u32)
+from nfs4.wire import (
+    AUTH_NONE,
+    AUTH_SHORT,
+    AUTH_SYS,
+    CALL,
+    KnownLocker,
+    LockOwner,
+    MSG_DENIED,
+    NFS4_PROGRAM,
+    NFS_V4,
+    NewLocker,
+    OpenOwner,
+    OperationResult,
+    Opnum,
+    REPLY,
+    Reader,
+    SUCCESS,
+    Stateid,
+    Unreadable,
+    accepted,
+    opaque,
+    u32,
+)
 from relay.plan import CB_NULL, NULL, OPERATIONS
 
 # Who asks: an owner, or a state where nothing else is known; what it is comes first.
@@ -20,8 +40,10 @@ Change = tuple[int, int, bytes]
 Read = Callable[[Reader], Any]
 
 # The names of operations, and how their arguments are read, by whether they are those of callbacks.
-NAMES = {False: {number: name for name, number in OPERATIONS.items()},
-         True: {number: name for name, number in wire.CALLBACK_OPERATIONS.items()}}
+NAMES = {
+    False: {number: name for name, number in OPERATIONS.items()},
+    True: {number: name for name, number in wire.CALLBACK_OPERATIONS.items()},
+}
 READS: dict[bool, Mapping[int, Read]] = {False: wire.ALL_ARGUMENTS, True: wire.CALLBACK_ARGUMENTS}
 # The word for a reply without a status, such as that to NULL.
 ANSWERED = "answered"
@@ -72,7 +94,7 @@ class Operation:
         self.seqid_at, self.who = request_of(arguments)
 
     def number_at(self, place: int) -> int:
-        return int.from_bytes(self.data[place:place + 4], "big")
+        return int.from_bytes(self.data[place : place + 4], "big")
 
     @property
     def number(self) -> int:
@@ -147,7 +169,7 @@ class Call:
         if read is None:
             raise Unreadable
         arguments = read(reader)
-        return Operation(NAMES[self.is_callback][number], read, arguments, begin, self.record[begin:reader.at])
+        return Operation(NAMES[self.is_callback][number], read, arguments, begin, self.record[begin : reader.at])
 
     @property
     def names(self) -> list[str]:
@@ -246,7 +268,7 @@ class Reply:
         self.status, self.status_at, self.count_at = status, status_at, count_at
         for _ in range(count):
             begin, result = reader.at, read_result(reader)
-            self.results.append((result, self.record[begin:reader.at]))
+            self.results.append((result, self.record[begin : reader.at]))
 
     def words(self) -> str:
         if self.status is None:
@@ -265,6 +287,7 @@ def name_of(names: Mapping[int, str], number: int) -> str:
 
 # Answers in the server's place.
 
+
 def result_bytes(operation: Operation, status: int) -> bytes:
     """A result with this status, which isn't OK."""
     mask = u32(0) if operation.number == Opnum.SETATTR else b""
@@ -280,5 +303,5 @@ def first_answer(call: Call, status: int) -> bytes:
 def next_answer(reply: Reply, operation: Operation, status: int) -> bytes:
     """The reply to the operations before this one, all of which are OK, with this one's behind it."""
     record, count = reply.record, len(reply.results)
-    head = record[:reply.status_at] + u32(status) + record[reply.status_at + 4:reply.count_at]
-    return head + u32(count + 1) + record[reply.count_at + 4:] + result_bytes(operation, status)
+    head = record[: reply.status_at] + u32(status) + record[reply.status_at + 4 : reply.count_at]
+    return head + u32(count + 1) + record[reply.count_at + 4 :] + result_bytes(operation, status)

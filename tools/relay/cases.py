@@ -28,6 +28,7 @@ class Case:
     """A fault that a call meets. It has a number, of 1 or more, once it is done. `owner` is whose request the call has,
     or None where it has none, or several; `is_moving` is whether an answer in the server's place moves its id on, or
     None where that isn't known."""
+
     rule: Rule
     call: Call
     place: str
@@ -60,6 +61,7 @@ class Case:
 @dataclass(eq=False)
 class Missed:
     """A call whose reply its client didn't get; the connection that it came on, and the case that it is, or None."""
+
     call: Call
     link: "Link"
     case: Case | None
@@ -201,8 +203,10 @@ class Tale:
         if case is not None:
             self.say_wrong(case, f"comes again on {link.place}, which is still open {CONNECTION}")
         else:
-            self.say_wrong(None, f"{link.place}, {call.words()}: comes again on its connection, which is still open "
-                                 f"{CONNECTION}")
+            self.say_wrong(
+                None,
+                f"{link.place}, {call.words()}: comes again on its connection, which is still open " f"{CONNECTION}",
+            )
 
     def compare(self, case: Case, call: Call, reply: Reply) -> None:
         """Tells whether the answer to a call that came again is that of the first time."""
@@ -229,8 +233,11 @@ class Tale:
     def may_be_forgotten(self, case: Case, reply: Reply) -> bool:
         """Whether this may be the answer to the call since the server has forgotten its owner meanwhile: as it may one
         without opens, when a lease has passed since its last request (RFC 7530, section 9.1.10)."""
-        return (case.call.request.number == Opnum.CLOSE and reply.status == Status.BAD_STATEID
-                and time.monotonic() - case.came > self.lease)
+        return (
+            case.call.request.number == Opnum.CLOSE
+            and reply.status == Status.BAD_STATEID
+            and time.monotonic() - case.came > self.lease
+        )
 
     # The end.
 
@@ -248,8 +255,9 @@ class Tale:
         never = [rule for rule in self.rules if not rule.met]
         for rule in never:
             self.say(f"never met: {rule.text} ({rule.count} such calls)")
-        self.say(f"between: {self.connections} connections, {self.calls} calls, {self.faults} faults, "
-                 f"{self.wrong} wrong")
+        self.say(
+            f"between: {self.connections} connections, {self.calls} calls, {self.faults} faults, " f"{self.wrong} wrong"
+        )
         self.is_over = True
         return not never and not self.wrong
 

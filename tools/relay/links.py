@@ -31,6 +31,7 @@ Address = tuple[str, int]
 
 class Record(NamedTuple):
     """A record without headers, and the sizes of the fragments in which it came."""
+
     body: bytes
     sizes: Sequence[int]
 
@@ -44,6 +45,7 @@ class TooLong(Exception):
 
 
 # Records.
+
 
 def take(stream: socket.socket, count: int) -> bytes:
     """The next so many bytes, or what there is before the end."""
@@ -78,7 +80,7 @@ def fragments(body: bytes, sizes: Iterable[int]) -> bytes:
     """Fragments of these sizes, none of which is the last."""
     data, at = bytearray(), 0
     for size in sizes:
-        part = body[at:at + size]
+        part = body[at : at + size]
         data += u32(len(part)) + part
         at += size
     return bytes(data)
@@ -86,7 +88,7 @@ def fragments(body: bytes, sizes: Iterable[int]) -> bytes:
 
 def framed(body: bytes, sizes: Sequence[int] = (0,)) -> bytes:
     """A record in fragments of these sizes, of which the last has what is left."""
-    rest = body[sum(sizes[:-1]):]
+    rest = body[sum(sizes[:-1]) :]
     return fragments(body, sizes[:-1]) + u32(0x80000000 + len(rest)) + rest
 
 
@@ -120,6 +122,7 @@ def do_later(seconds: float, act: Act) -> None:
 class Exchange:
     """A call that was taken: the fault that it meets, of which case it comes again, and what is kept for its id; each
     may be None. Of one that is answered in the server's place the operation's index; and what was passed on."""
+
     call: Call
     case: Case | None = None
     again: Case | None = None
@@ -136,11 +139,13 @@ class Exchange:
 
 class Link:
     """A connection of a caller, and the one to who answers that belongs to it."""
+
     place: str
     is_over: bool
 
-    def __init__(self, between: "Between", near: socket.socket, far: socket.socket, is_callback: bool,
-                 number: int) -> None:
+    def __init__(
+        self, between: "Between", near: socket.socket, far: socket.socket, is_callback: bool, number: int
+    ) -> None:
         self.between, self.tale, self.near, self.far = between, between.tale, near, far
         self.is_callback, self.place = is_callback, f"{'callback ' * is_callback}connection {number}"
         # The calls to which the caller has no reply; and by their xids those to which the server has given none.
@@ -169,8 +174,9 @@ class Link:
             self.pass_end(source, other, end.args[0])
         except TooLong:
             who = "client" if (source is self.near) != self.is_callback else "server"
-            self.between.say(f"{self.place}: closed, because its {who} sends a record of more than "
-                             f"{RECORD_LIMIT} bytes")
+            self.between.say(
+                f"{self.place}: closed, because its {who} sends a record of more than " f"{RECORD_LIMIT} bytes"
+            )
             self.end()
         except OSError:
             self.end()
@@ -307,9 +313,10 @@ class Link:
 
         def act() -> None:
             if fault == "cut-call":
-                self.send(self.far, data[:len(data) // 2])
+                self.send(self.far, data[: len(data) // 2])
             for link in ended:
                 link.shut()
+
         return act
 
     def answer(self, exchange: Exchange, index: int, before: Reply | None) -> Act:
@@ -387,8 +394,9 @@ class Link:
 
         def act() -> None:
             if case.rule.fault == "cut-reply":
-                self.send(self.near, data[:len(data) // 2])
+                self.send(self.near, data[: len(data) // 2])
             self.shut()
+
         return act
 
     def hold(self, exchange: Exchange, case: Case, reply: Reply, data: bytes) -> Act:
@@ -403,6 +411,7 @@ class Link:
             if is_last:
                 self.end()
             self.leave()
+
         return lambda: do_later(case.rule.value, act)
 
     def call_again(self, exchange: Exchange, case: Case, reply: Reply) -> Act:
@@ -468,6 +477,7 @@ class Between:
                 except (OSError, RuntimeError):
                     # There are no more files or threads.
                     time.sleep(TICK)
+
         start(take_all)
 
     def take(self, listener: socket.socket, target: Address, is_callback: bool) -> None:

@@ -11,6 +11,7 @@ if TYPE_CHECKING:
 
 class Kept(NamedTuple):
     """The last answer to an owner in the server's place: to which id and bytes, with which status, in which case."""
+
     seqid: int
     data: bytes
     status: int
@@ -87,6 +88,7 @@ class Owners:
             places = [] if operation.who is None else [(operation.seqid_at, self.owner_of(operation.who))]
             if operation.number == Opnum.LOCK and operation.locker is not None:
                 places.append((NEW_LOCK_SEQID, operation.locker))
-            found += [seqid_change(operation, place, self.ahead[owner]) for place, owner in places
-                      if owner in self.ahead]
+            found += [
+                seqid_change(operation, place, self.ahead[owner]) for place, owner in places if owner in self.ahead
+            ]
         return found

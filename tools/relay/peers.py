@@ -9,8 +9,23 @@ from typing import Any, Self
 
 from nfs4.callback_listener import Heard, Listener
 from nfs4.client import Client, VERIFIER, done, Wrong
-from nfs4.messages import (CLOSE, LOCK, NFS4_OK, PUTFH, PUTROOTFH, READ, WRITE, confirmation, handle, lookup, results,
-                           setclientid, split, words, xid)
+from nfs4.messages import (
+    CLOSE,
+    LOCK,
+    NFS4_OK,
+    PUTFH,
+    PUTROOTFH,
+    READ,
+    WRITE,
+    confirmation,
+    handle,
+    lookup,
+    results,
+    setclientid,
+    split,
+    words,
+    xid,
+)
 from nfs4.served import REPLY_PATIENCE, Peer, is_silent
 from nfs4.wire import FILE_SYNC4, OTHER_STATUSES, Status, opaque, record, split_records, u64
 
@@ -40,6 +55,7 @@ def with_xid(data: bytes, number: int) -> bytes:
 
 
 # Peers: each is a client's connection to a server, also where it takes several, one after the other.
+
 
 class Resender:
     """Sends a call again, by the same bytes and over a new connection, where the old one ended before its reply came.
@@ -147,6 +163,7 @@ class Resetting(Impatient):
 
 # Clients.
 
+
 class Patient(Client):
     """Asks again where it is put off. In its session it opens a file, locks bytes of it, writes, reads, unlocks and
     closes it: eleven calls, if none is put off."""
@@ -236,6 +253,7 @@ class Patient(Client):
 
 class Stuck(Patient):
     """Its sequence ids don't move on behind DELAY or GRACE. It gives up when it is put off once more."""
+
     times = 0
 
     def moves_on(self, status: int, is_run: bool) -> bool:
@@ -282,6 +300,7 @@ class Respelling(Patient):
 
 
 # Servers.
+
 
 class Relay(Listener):
     """Takes connections, each of which has one of its own to the server. What is answered to a record that has come

@@ -19,8 +19,24 @@ OF_CALLBACKS = (CB_NULL, CB_RECALL)
 CHANGES = ("OPEN", "LOCK", "LOCKT", "LOCKU", "READ", "WRITE", "SETATTR", "REMOVE", "RENAME")
 ALLOWED = {
     "GRACE": set(CHANGES),
-    "DELAY": {*CHANGES, "ACCESS", "CLOSE", "COMMIT", "CREATE", "DELEGRETURN", "GETATTR", "LINK", "LOOKUP",
-              "OPEN_DOWNGRADE", "PUTFH", "PUTROOTFH", "READDIR", "SETCLIENTID", "SETCLIENTID_CONFIRM", CB_RECALL},
+    "DELAY": {
+        *CHANGES,
+        "ACCESS",
+        "CLOSE",
+        "COMMIT",
+        "CREATE",
+        "DELEGRETURN",
+        "GETATTR",
+        "LINK",
+        "LOOKUP",
+        "OPEN_DOWNGRADE",
+        "PUTFH",
+        "PUTROOTFH",
+        "READDIR",
+        "SETCLIENTID",
+        "SETCLIENTID_CONFIRM",
+        CB_RECALL,
+    },
     "RESOURCE": {*OPERATIONS, CB_RECALL} - {"PUTFH", "PUTROOTFH", "PUTPUBFH"},
 }
 STATUSES = {name: rows.NAMES[f"NFS4ERR_{name}"] for name in ALLOWED}
@@ -62,8 +78,16 @@ def read_status(word: str) -> str:
 
 # The faults, each with how its value is read, where it has one.
 FAULTS: dict[str, Callable[[str], Any] | None] = {
-    "lose-call": None, "cut-call": None, "lose-reply": None, "cut-reply": None, "split": read_fragments,
-    "hold": read_seconds, "twice": None, "away": read_seconds, "answer": read_status}
+    "lose-call": None,
+    "cut-call": None,
+    "lose-reply": None,
+    "cut-reply": None,
+    "split": read_fragments,
+    "hold": read_seconds,
+    "twice": None,
+    "away": read_seconds,
+    "answer": read_status,
+}
 
 
 class Rule:

@@ -17,8 +17,9 @@ USAGE = "between [--listen ADDR] --to ADDR [--plan FILE] [--rule RULE].. [--seed
 
 
 def read_options(description: str) -> tuple[argparse.ArgumentParser, argparse.Namespace]:
-    parser = argparse.ArgumentParser(description=description, formatter_class=argparse.RawDescriptionHelpFormatter,
-                                     usage=USAGE)
+    parser = argparse.ArgumentParser(
+        description=description, formatter_class=argparse.RawDescriptionHelpFormatter, usage=USAGE
+    )
     parser.add_argument("--listen", metavar="ADDR", default="127.0.0.1:0", help=argparse.SUPPRESS)
     parser.add_argument("--to", metavar="ADDR", required=True, help=argparse.SUPPRESS)
     parser.add_argument("--plan", metavar="FILE", help=argparse.SUPPRESS)

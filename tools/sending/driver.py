@@ -88,8 +88,18 @@ Ended = NamedTuple("Ended", [("fault", str | None), ("replies", bytes), ("receip
 Served = NamedTuple("Served", [("ended", list[Ended]), ("sweeps", int), ("expired", int)])
 # What came of a sweep; of a mark, the number of an error, or 0; of a revocation this, how many delegations were revoked
 # (0 or 1), and the number of the entry, or 0; and the same of a forgetting, with how many owners were forgotten.
-Swept = NamedTuple("Swept", [("expired", int), ("kept", int), ("changed", int), ("refused", int), ("revoked", int),
-                             ("forgotten", int), ("stopped", int)])
+Swept = NamedTuple(
+    "Swept",
+    [
+        ("expired", int),
+        ("kept", int),
+        ("changed", int),
+        ("refused", int),
+        ("revoked", int),
+        ("forgotten", int),
+        ("stopped", int),
+    ],
+)
 Marked = NamedTuple("Marked", [("error", int)])
 Revoked = NamedTuple("Revoked", [("error", int), ("revoked", int), ("entry", int)])
 Forgotten = NamedTuple("Forgotten", [("error", int), ("forgotten", int), ("entry", int)])
@@ -137,8 +147,15 @@ class Driver(Process):
             self.expect_end()
         return refused
 
-    def serve(self, sent: list[bytes], moment: int, piece: int, pace: int = 0, is_swept: bool = False,
-              rooms: list[int] | None = None) -> Served:
+    def serve(
+        self,
+        sent: list[bytes],
+        moment: int,
+        piece: int,
+        pace: int = 0,
+        is_swept: bool = False,
+        rooms: list[int] | None = None,
+    ) -> Served:
         """Serves connections at once, on which these bytes are sent, of which a read gives so many at most. The clock
         begins at the moment, and shows a second more after each so many calls as the pace is; room for so many bytes of
         replies is made before."""
@@ -199,7 +216,7 @@ class Driver(Process):
         try:
             while rest:
                 self.wait([], [self.program.stdin], until)
-                rest = rest[os.write(self.program.stdin.fileno(), rest):]
+                rest = rest[os.write(self.program.stdin.fileno(), rest) :]
         except BrokenPipeError:
             raise self.failure() from None
 
@@ -210,7 +227,7 @@ class Driver(Process):
             if not self.take_more(until):
                 raise self.failure()
         self.at += count
-        return bytes(self.answers[self.at - count:self.at])
+        return bytes(self.answers[self.at - count : self.at])
 
     def take_more(self, until: float) -> bool:
         """Whether more came; or the end of the output."""

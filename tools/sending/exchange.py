@@ -60,6 +60,7 @@ class Plain:
 
 # Calls with names.
 
+
 def asked_of(body: bytes) -> Asked | None:
     """A body as a call of COMPOUND, or None where it is another one."""
     call = wire.read_call(body)
@@ -67,7 +68,7 @@ def asked_of(body: bytes) -> Asked | None:
         return None
     reader = call.operations
     operations: list[Operation] = []
-    head = body[:reader.at - 4]
+    head = body[: reader.at - 4]
     while len(operations) < call.count:
         at = reader.at
         try:
@@ -76,15 +77,15 @@ def asked_of(body: bytes) -> Asked | None:
         except (KeyError, wire.Unreadable):
             reader.at = at
             break
-        operations.append(Operation(number, arguments, body[at:reader.at]))
-    return Asked(head, call.count, operations, body[reader.at:])
+        operations.append(Operation(number, arguments, body[at : reader.at]))
+    return Asked(head, call.count, operations, body[reader.at :])
 
 
 def credential_of(head: bytes) -> bytes:
     reader = wire.Reader(head)
     reader.fixed(CREDENTIAL)
     reader.u32(), reader.opaque()
-    return head[CREDENTIAL:reader.at]
+    return head[CREDENTIAL : reader.at]
 
 
 class Named(Plain):
@@ -118,11 +119,11 @@ class Named(Plain):
 
     def as_user(self, body: bytes) -> bytes:
         """A call as that of a user, where it is nobody's."""
-        is_nobodys = body[4:12] == u32(wire.CALL, 2) and body[CREDENTIAL:CREDENTIAL + 8] == u32(wire.AUTH_NONE, 0)
+        is_nobodys = body[4:12] == u32(wire.CALL, 2) and body[CREDENTIAL : CREDENTIAL + 8] == u32(wire.AUTH_NONE, 0)
         if self.site.uid is None or not is_nobodys:
             return body
         user = u32(wire.AUTH_SYS) + opaque(u32(0, 0, self.site.uid, 0, 0))
-        return body[:CREDENTIAL] + user + body[CREDENTIAL + 8:]
+        return body[:CREDENTIAL] + user + body[CREDENTIAL + 8 :]
 
     def ask_in_pieces(self, peer: Peer, asked: Asked, wanted: Reply) -> str | None:
         """What is wrong with what comes for a call, which is sent in as many as it takes, or None."""
@@ -134,8 +135,9 @@ class Named(Plain):
             got = self.take(peer, asked, at, piece, handle, is_last)
             if not is_last:
                 got, handle = without_handle(got, len(piece))
-            told = (first_difference(wanted.head, got.head, self.names)
-                    or difference_of_results(wanted, got, self.names, at, is_last))
+            told = first_difference(wanted.head, got.head, self.names) or difference_of_results(
+                wanted, got, self.names, at, is_last
+            )
             if told or is_last:
                 return told or first_difference(wanted.tail, tail_behind(got, at), self.names)
             at += len(piece)
@@ -170,8 +172,8 @@ class Named(Plain):
         head = self.addressed(asked.head) + u32(len(before) + count)
         peer.send(record(head + b"".join(before + piece) + behind))
         got = values_of(receive(peer, self.seconds))
-        results = got.results[len(before):]
-        for place, operation in enumerate(asked.operations[at:at + len(results)]):
+        results = got.results[len(before) :]
+        for place, operation in enumerate(asked.operations[at : at + len(results)]):
             if operation.number == PUTROOTFH and place < len(results) and self.site.root is not None:
                 # A PUTFH was sent in its place.
                 results[place] = results[place]._replace(number=PUTROOTFH)
@@ -201,12 +203,15 @@ def without_handle(got: Reply, count: int) -> tuple[Reply, bytes | None]:
 
 def tail_behind(got: Reply, before: int) -> list[Value]:
     """What stands behind the results of the last piece of a call, as if it were the reply to the whole call."""
-    return [value._replace(value=before + len(got.results)) if value.what == "number of results" else value
-            for value in got.tail]
+    return [
+        value._replace(value=before + len(got.results)) if value.what == "number of results" else value
+        for value in got.tail
+    ]
 
 
 def begin_anew(peer: Peer, name: bytes, credential: bytes) -> bool:
     """Whether the client begins anew with another verifier, and is confirmed."""
+
     def ask(operation: bytes) -> list[Any]:
         head = u32(1, wire.CALL, 2, wire.NFS4_PROGRAM, wire.NFS_V4, wire.NFSPROC4_COMPOUND) + credential
         peer.send(record(head + u32(wire.AUTH_NONE, 0) + u32(0, 0, 1) + operation))
@@ -219,6 +224,7 @@ def begin_anew(peer: Peer, name: bytes, credential: bytes) -> bool:
 
 
 # Rows.
+
 
 def calls_of(connection: Connection) -> tuple[list[tuple[bytes, bytes | None]], bytes]:
     """The records of a connection, each with the reply that is wanted for it or None; and what is wanted that no record
@@ -243,8 +249,9 @@ def behind(peer: Peer, is_to_end: bool) -> bytes:
         return peer.rest
 
 
-def failure_of_connection(address: tuple[str, int], connection: Connection, sender: Plain, first: int,
-                          is_to_end: bool) -> Failure | None:
+def failure_of_connection(
+    address: tuple[str, int], connection: Connection, sender: Plain, first: int, is_to_end: bool
+) -> Failure | None:
     """What is wrong with a connection of a row, up to the first reply that isn't wanted, or None."""
     calls, left = calls_of(connection)
     with Peer(address) as peer:

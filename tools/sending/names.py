@@ -13,8 +13,21 @@ from nfs4.messages import GETFH, PUTFH, PUTROOTFH, compound, lookup, setclientid
 from nfs4.rows import Row
 from nfs4.served import Peer
 from nfs4.wire import FORMS, OWNER_LIMIT, Putfh, Setclientid, SetclientidConfirm, Stateid, opaque, u32, u64
-from sending.replies import (CLIENTID, CONFIRM, DISTINCT, Exact, FREE, HANDLE, Kind, Result, STATEID, Value, XID,
-                             name_of, values_of)
+from sending.replies import (
+    CLIENTID,
+    CONFIRM,
+    DISTINCT,
+    Exact,
+    FREE,
+    HANDLE,
+    Kind,
+    Result,
+    STATEID,
+    Value,
+    XID,
+    name_of,
+    values_of,
+)
 
 # The default tree's nodes by their numbers.
 PATHS = [(), (b"a",), (b"b",), (b"d",), (b"d", b"c")]
@@ -26,8 +39,16 @@ NO_STATE, ALL_ONES = bytes(12), b"\xff" * 12
 Operation = NamedTuple("Operation", [("number", int), ("arguments", Any), ("data", bytes)])
 # A server that goes on: its address; the uid of calls that have no credential, or None; the filehandle that stands for
 # that of the root, or None; the filehandles of the rows with those of the server; and the upper half of its clientids.
-Site = NamedTuple("Site", [("address", tuple[str, int]), ("uid", int | None), ("root", bytes | None),
-                           ("handles", dict[bytes, bytes]), ("epoch", int)])
+Site = NamedTuple(
+    "Site",
+    [
+        ("address", tuple[str, int]),
+        ("uid", int | None),
+        ("root", bytes | None),
+        ("handles", dict[bytes, bytes]),
+        ("epoch", int),
+    ],
+)
 
 
 # What is bound to something of the server's: the name of its kind, and what the row has.
@@ -39,6 +60,7 @@ class NoSite(Exception):
 
 
 # Servers.
+
 
 def ask(peer: Peer, *operations: bytes, uid: int | None) -> list[Result]:
     """The results of these operations, of which each is wanted to be OK."""
@@ -175,7 +197,7 @@ class Names(Exact):
 
     def own(self, name: bytes) -> bytes:
         """A client's id with the word at its end. One that would be too long has it in the place of its end."""
-        return name[:OWNER_LIMIT - len(self.word)] + self.word
+        return name[: OWNER_LIMIT - len(self.word)] + self.word
 
     def own_verifier(self, verifier: bytes) -> bytes:
         """One that no other row has: so a client begins anew even where an earlier row left one of the same id."""
@@ -194,4 +216,4 @@ class Names(Exact):
 
 
 def words_of(data: bytes) -> list[int]:
-    return [int.from_bytes(data[at:at + 4], "big") for at in range(0, len(data), 4)]
+    return [int.from_bytes(data[at : at + 4], "big") for at in range(0, len(data), 4)]

@@ -16,8 +16,15 @@ from nfs4.wire import Opnum, Reader, Status, Unreadable, split_records
 
 # How a value is read, and how it is shown; and whether it is a server's choice: none (False), one that stays what it
 # was at first (NAMED), one that is for nothing else either (DISTINCT), or one that may be anything (FREE).
-Kind = NamedTuple("Kind", [("name", str), ("read", Callable[[Reader], Any]), ("show", Callable[[Any], str]),
-                           ("choice", "str | Literal[False]")])
+Kind = NamedTuple(
+    "Kind",
+    [
+        ("name", str),
+        ("read", Callable[[Reader], Any]),
+        ("show", Callable[[Any], str]),
+        ("choice", "str | Literal[False]"),
+    ],
+)
 NAMED, DISTINCT, FREE = "named", "distinct", "free"
 # A value with what it is. The value of a list of bits has no zeros at its end.
 Value = NamedTuple("Value", [("what", str), ("kind", Kind), ("value", Any)])
@@ -27,11 +34,13 @@ Result = NamedTuple("Result", [("number", int), ("values", list[Value])])
 Reply = NamedTuple("Reply", [("head", list[Value]), ("results", list[Result]), ("tail", list[Value])])
 Layout = list[tuple[str, Kind]]
 
-OPERATION_NAMES = {number: name for name, number in rows.NAMES.items()
-                   if name in Opnum.__members__ or name in wire.OTHER_OPERATIONS}
+OPERATION_NAMES = {
+    number: name for name, number in rows.NAMES.items() if name in Opnum.__members__ or name in wire.OTHER_OPERATIONS
+}
 
 
 # Kinds.
+
 
 def show_bytes(value: bytes) -> str:
     first = value[:SHOWN]
@@ -43,7 +52,7 @@ def show_words(value: bytes) -> str:
     """Bytes that a server puts together from numbers, in words of four."""
     if len(value) % 4 or not value:
         return show_bytes(value)
-    return " ".join(number_word(int.from_bytes(value[at:at + 4], "big")) for at in range(0, len(value), 4))
+    return " ".join(number_word(int.from_bytes(value[at : at + 4], "big")) for at in range(0, len(value), 4))
 
 
 def show_long(value: bytes) -> str:
@@ -103,27 +112,49 @@ def time_kind(name: str) -> Kind:
 
 # The attributes that have a layout here, by their numbers.
 ATTRIBUTES = {
-    0: chosen("supported_attrs", read_mask, show_mask), 1: NUMBER._replace(name="type"), 2: chosen("fh_expire_type"),
-    3: CHANGE, 4: LONG._replace(name="size"), 5: chosen("link_support"), 6: chosen("symlink_support"),
-    7: chosen("named_attr"), 8: chosen("fsid", lambda reader: reader.fixed(16), show_words),
-    9: chosen("unique_handles"), 10: chosen("lease_time"), 11: NUMBER._replace(name="rdattr_error"), 19: HANDLE,
-    20: FILEID, 29: chosen("maxname"), 33: chosen("mode", show=oct), 35: chosen("numlinks"),
-    36: chosen("owner", Reader.opaque, show_bytes), 37: chosen("owner_group", Reader.opaque, show_bytes),
+    0: chosen("supported_attrs", read_mask, show_mask),
+    1: NUMBER._replace(name="type"),
+    2: chosen("fh_expire_type"),
+    3: CHANGE,
+    4: LONG._replace(name="size"),
+    5: chosen("link_support"),
+    6: chosen("symlink_support"),
+    7: chosen("named_attr"),
+    8: chosen("fsid", lambda reader: reader.fixed(16), show_words),
+    9: chosen("unique_handles"),
+    10: chosen("lease_time"),
+    11: NUMBER._replace(name="rdattr_error"),
+    19: HANDLE,
+    20: FILEID,
+    29: chosen("maxname"),
+    33: chosen("mode", show=oct),
+    35: chosen("numlinks"),
+    36: chosen("owner", Reader.opaque, show_bytes),
+    37: chosen("owner_group", Reader.opaque, show_bytes),
     **{number: chosen_long(NAMES[number]) for number in (21, 22, 23, 27, 30, 31, 42, 43, 44, 45)},
-    **{number: time_kind(NAMES[number]) for number in (47, 52, 53)}}
+    **{number: time_kind(NAMES[number]) for number in (47, 52, 53)},
+}
 
 # What follows the status of a result; of a listing what an entry begins with, and what follows the last one.
 OF_ENTRY, OF_LISTING = [("cookie", COOKIE), ("name", TEXT)], [("end of the directory", NUMBER)]
 OF_STATE = [("seqid", NUMBER), ("stateid", STATEID)]
 OF_DENIAL = [("offset", LONG), ("length", LONG), ("type", NUMBER), ("the owner's clientid", CLIENTID), ("owner", TEXT)]
-OF_OPEN = OF_STATE + [("atomic", ATOMIC), ("change before", CHANGE), ("change after", CHANGE), ("rflags", NUMBER),
-                      ("attributes set", MASK), ("delegation", NUMBER)]
+OF_OPEN = OF_STATE + [
+    ("atomic", ATOMIC),
+    ("change before", CHANGE),
+    ("change after", CHANGE),
+    ("rflags", NUMBER),
+    ("attributes set", MASK),
+    ("delegation", NUMBER),
+]
 # Of a delegation, by its kind.
 OF_DELEGATION = [("the delegation's seqid", NUMBER), ("the delegation's stateid", STATEID), ("recall", NUMBER)]
 OF_SPACE = [("limit's kind", NUMBER), ("limit", LONG)]
 OF_ACE = [("access list entry's type", NUMBER), ("its flag", NUMBER), ("its mask", NUMBER), ("its name", TEXT)]
 OF_KIND: dict[int, Layout] = {
-    wire.OPEN_DELEGATE_READ: OF_DELEGATION + OF_ACE, wire.OPEN_DELEGATE_WRITE: OF_DELEGATION + OF_SPACE + OF_ACE}
+    wire.OPEN_DELEGATE_READ: OF_DELEGATION + OF_ACE,
+    wire.OPEN_DELEGATE_WRITE: OF_DELEGATION + OF_SPACE + OF_ACE,
+}
 RESTS: dict[tuple[int, int], Layout] = {
     (Opnum.ACCESS, Status.OK): [("supported", NUMBER), ("access", NUMBER)],
     (Opnum.COMMIT, Status.OK): [("verifier", VERIFIER)],
@@ -135,11 +166,15 @@ RESTS: dict[tuple[int, int], Layout] = {
     (Opnum.WRITE, Status.OK): [("count", NUMBER), ("committed", NUMBER), ("verifier", VERIFIER)],
     (Opnum.SETCLIENTID, Status.OK): [("clientid", CLIENTID), ("confirm verifier", CONFIRM)],
     (Opnum.SETCLIENTID, Status.CLID_INUSE): [("netid", TEXT), ("address", TEXT)],
-    **{(opnum, Status.OK): OF_STATE for opnum in (Opnum.CLOSE, Opnum.LOCK, Opnum.LOCKU, Opnum.OPEN_CONFIRM,
-                                                  Opnum.OPEN_DOWNGRADE)}}
+    **{
+        (opnum, Status.OK): OF_STATE
+        for opnum in (Opnum.CLOSE, Opnum.LOCK, Opnum.LOCKU, Opnum.OPEN_CONFIRM, Opnum.OPEN_DOWNGRADE)
+    },
+}
 
 
 # Values.
+
 
 def take(reader: Reader, found: list[Value], layout: Layout) -> Any:
     """Adds the values of this layout to those that were found. The last one was read, or is what can't be."""
@@ -200,8 +235,13 @@ def take_denial(reader: Reader, head: list[Value]) -> None:
 def take_compound(reader: Reader, reply: Reply) -> None:
     status = take(reader, [], [("status", STATUS)])
     tag, count = take(reader, [], [("tag", TEXT)]), reader.u32()
-    reply.tail.extend([Value("number of results", NUMBER, count), Value("status of the COMPOUND", STATUS, status),
-                       Value("tag", TEXT, tag)])
+    reply.tail.extend(
+        [
+            Value("number of results", NUMBER, count),
+            Value("status of the COMPOUND", STATUS, status),
+            Value("tag", TEXT, tag),
+        ]
+    )
     for _ in range(count):
         take_result(reader, reply.results)
 
@@ -233,6 +273,7 @@ def values_of(record: bytes) -> Reply:
 
 
 # Differences.
+
 
 class Exact:
     """Whoever compares so leaves a server no choice."""
@@ -289,12 +330,14 @@ def difference_of_result(wanted: list[Result], got: Result | None, place: int, j
 def difference(wanted: Reply, got: Reply, judge: Exact = Exact()) -> str | None:
     """How a reply differs from the wanted one, in words; or None, where all values are the same. The results are looked
     at before the COMPOUND's own status, which is that of the last one."""
-    return (first_difference(wanted.head, got.head, judge) or difference_of_results(wanted, got, judge)
-            or first_difference(wanted.tail, got.tail, judge))
+    return (
+        first_difference(wanted.head, got.head, judge)
+        or difference_of_results(wanted, got, judge)
+        or first_difference(wanted.tail, got.tail, judge)
+    )
 
 
-def difference_of_results(wanted: Reply, got: Reply, judge: Exact, first: int = 0,
-                          is_last: bool = True) -> str | None:
+def difference_of_results(wanted: Reply, got: Reply, judge: Exact, first: int = 0, is_last: bool = True) -> str | None:
     """Of these results beside the wanted ones from this place on; of all that follow, where they are the last."""
     for place, have in enumerate(got.results, first):
         told = difference_of_result(wanted.results, have, place, judge)

@@ -7,11 +7,36 @@ from typing import Any, NamedTuple
 from model.entries import Call, Entry, Forget as OwnerForgotten, NotJournal, Revoke as DelegationRevoked
 from model.journal import read_journal
 from model.tree import DEFAULT
-from nfs4.rows import (Forget, Mark, Order, Part, Pending, Probe, Revoke, Row, Step, Sweep, Take, order_line,
-                       words_beside)
+from nfs4.rows import (
+    Forget,
+    Mark,
+    Order,
+    Part,
+    Pending,
+    Probe,
+    Revoke,
+    Row,
+    Step,
+    Sweep,
+    Take,
+    order_line,
+    words_beside,
+)
 from nfs4.wire import OpenOwner
-from sending.driver import (ALONE, Came, Driver, Ended, Failed, Forgotten, MEMORY, Marked, NOT_LIVE, Revoked, SHARED,
-                            Swept)
+from sending.driver import (
+    ALONE,
+    Came,
+    Driver,
+    Ended,
+    Failed,
+    Forgotten,
+    MEMORY,
+    Marked,
+    NOT_LIVE,
+    Revoked,
+    SHARED,
+    Swept,
+)
 
 
 # A read of the server asks for less than this, so that such pieces don't cut an input.
@@ -67,7 +92,7 @@ def wrongly_ended(row: Row, came: list[Came], entries: list[Entry] | None) -> Wr
     """The first revocation or forgetting whose entry is another one than the row wants, if one is."""
     for place, (step, got) in enumerate(zip(row.steps, came)):
         if isinstance(got, (Revoked, Forgotten)) and got[1] and entries is not None:
-            if entries[got.entry:got.entry + 1] != [entry_wanted(step, row.epoch)]:
+            if entries[got.entry : got.entry + 1] != [entry_wanted(step, row.epoch)]:
                 return Wrong(place, got)
     return None
 
@@ -135,8 +160,9 @@ def after(step: Any, first: Came, second: Came) -> Came:
     if not isinstance(first, Swept) or not isinstance(second, Swept):
         return second
     forgotten = min(first.forgotten + second.forgotten, step.forgotten if first.refused else 2**32)
-    return second._replace(expired=first.expired + second.expired, revoked=first.revoked + second.revoked,
-                           forgotten=forgotten)
+    return second._replace(
+        expired=first.expired + second.expired, revoked=first.revoked + second.revoked, forgotten=forgotten
+    )
 
 
 def wanted_of(step: Order) -> Came:
@@ -166,6 +192,7 @@ def is_right(step: Step, got: Any) -> bool:
 
 
 # The ways to run a row: each gives the lines that say what is wrong, of which there are none where it passes.
+
 
 def run_once(row: Row, **program: Any) -> list[str]:
     """With its input whole, and then in pieces of several lengths, each time on another server."""
@@ -211,6 +238,7 @@ def way_of(is_shared: bool, is_again: bool, **program: Any) -> Callable[[Row], l
 
 
 # Reports.
+
 
 def lines_of(row: Row, wrong: Wrong | None, piece: int = WHOLE) -> list[str]:
     if wrong is None:

@@ -11,8 +11,18 @@ from collections.abc import Callable
 from concurrent.futures import ThreadPoolExecutor
 
 from nfs4 import rows
-from nfs4.reports import (Failure, Outcome, is_failed, junit_lines, lines_of, read_known, summary, tap_lines, title,
-                          write)
+from nfs4.reports import (
+    Failure,
+    Outcome,
+    is_failed,
+    junit_lines,
+    lines_of,
+    read_known,
+    summary,
+    tap_lines,
+    title,
+    write,
+)
 from nfs4.rows import Row
 from nfs4.served import REPLY_PATIENCE, Served
 from sending import exchange
@@ -37,8 +47,16 @@ def is_refused(row: Row) -> bool:
 def failure_alone(command: str, row: Row) -> Failure | None:
     """What is wrong with a row by a server of its own, which has to end as the row says."""
     with tempfile.NamedTemporaryFile("w", suffix=".toml", encoding="utf-8") as tree:
-        options = ["--listen", "127.0.0.1:0", "--connections", str(len(row.connections)), "--lease", str(row.lease),
-                   "--epoch", str(row.epoch)]
+        options = [
+            "--listen",
+            "127.0.0.1:0",
+            "--connections",
+            str(len(row.connections)),
+            "--lease",
+            str(row.lease),
+            "--epoch",
+            str(row.epoch),
+        ]
         if row.document is not None:
             tree.write(row.document)
             tree.flush()
@@ -94,9 +112,15 @@ def named_sender(seconds: int, site: Site) -> Callable[[Row], Plain]:
     return lambda row: Named(seconds, site, row, f".{run}.{next(numbers)}".encode())
 
 
-def outcomes_of(found: list[Row], known: dict[str, str], why_left_out: Callable[[Row], str | None],
-                failure_of_row: Callable[[Row], Failure | None], jobs: int) -> list[Outcome]:
+def outcomes_of(
+    found: list[Row],
+    known: dict[str, str],
+    why_left_out: Callable[[Row], str | None],
+    failure_of_row: Callable[[Row], Failure | None],
+    jobs: int,
+) -> list[Outcome]:
     """What comes of the rows, in their order, where so many are sent at a time."""
+
     def outcome_of(row: Row) -> Outcome:
         why, begin = why_left_out(row), time.monotonic()
         failure = None if why else failure_of_row(row)
@@ -108,6 +132,7 @@ def outcomes_of(found: list[Row], known: dict[str, str], why_left_out: Callable[
 
 def send(given: argparse.Namespace, found: list[Row], known: dict[str, str], host: str, port: int) -> list[Outcome]:
     """What came of the rows."""
+
     def why_left_out(row: Row) -> str | None:
         return ALONE if given.names and row.is_alone else ORDERING if row.is_ordering else None
 
@@ -120,14 +145,16 @@ def send(given: argparse.Namespace, found: list[Row], known: dict[str, str], hos
         path = [name.encode() for name in given.path.split("/") if name]
         sender_of = named_sender(given.patience, learn(address, path, given.uid))
     server = Listener(address, sender_of)
-    return outcomes_of(found, known, lambda row: why_left_out(row) or (GONE if server.is_gone else None),
-                       server.failure_of, 1)
+    return outcomes_of(
+        found, known, lambda row: why_left_out(row) or (GONE if server.is_gone else None), server.failure_of, 1
+    )
 
 
 def read_options(description: str) -> tuple[argparse.Namespace, str, int, list[str]]:
     """The options, the host and the port of the server, if it runs, and the files and folders."""
-    parser = argparse.ArgumentParser(description=description, formatter_class=argparse.RawDescriptionHelpFormatter,
-                                     usage=USAGE)
+    parser = argparse.ArgumentParser(
+        description=description, formatter_class=argparse.RawDescriptionHelpFormatter, usage=USAGE
+    )
     parser.add_argument("--portable", action="store_true", help=argparse.SUPPRESS)
     parser.add_argument("--names", action="store_true", help=argparse.SUPPRESS)
     parser.add_argument("--serve", help=argparse.SUPPRESS)
@@ -162,8 +189,11 @@ def rows_of(given: argparse.Namespace, files: list[str]) -> list[Row]:
     for name in given.only or ():
         if all(row.name != name for row in read):
             sys.exit(f"send_rows: there is no row '{name}'")
-    return [row for row in read if (row.is_portable or not given.portable)
-            and (given.only is None or row.name in given.only)]
+    return [
+        row
+        for row in read
+        if (row.is_portable or not given.portable) and (given.only is None or row.name in given.only)
+    ]
 
 
 def run(given: argparse.Namespace, host: str, port: int, files: list[str]) -> list[Outcome]:

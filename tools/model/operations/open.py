@@ -1,8 +1,21 @@
 """OPEN (sections 9.9 to 9.11, and 16.16)."""
 from model.delegations import Delegating
 from model.states import OpenState, Refusal, conflict, expect_share, next_seqid
-from nfs4.wire import (CLAIM_DELEGATE_CUR, CLAIM_DELEGATE_PREV, CLAIM_PREVIOUS, EXCLUSIVE4, GUARDED4, OPEN4_CREATE,
-                       OPEN_DELEGATE_NONE, Open, OpenOwner, Status, bitmap, u32, u64)
+from nfs4.wire import (
+    CLAIM_DELEGATE_CUR,
+    CLAIM_DELEGATE_PREV,
+    CLAIM_PREVIOUS,
+    EXCLUSIVE4,
+    GUARDED4,
+    OPEN4_CREATE,
+    OPEN_DELEGATE_NONE,
+    Open,
+    OpenOwner,
+    Status,
+    bitmap,
+    u32,
+    u64,
+)
 
 # What rflags have.
 CONFIRM, LOCKTYPE_POSIX = 2, 4

@@ -11,5 +11,5 @@ def rule(server: Files, arguments: Read, filehandle: int | None) -> bytes:
     file = expect_filehandle(filehandle)
     server.expect_access(arguments.stateid, file, READ)
     text, begin = server.text_of(file), arguments.offset
-    data = text[begin:begin + min(arguments.count, LIMIT)]
+    data = text[begin : begin + min(arguments.count, LIMIT)]
     return u32(begin + len(data) >= len(text)) + opaque(data)

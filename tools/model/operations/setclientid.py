@@ -21,5 +21,6 @@ def rule(server: State, arguments: Setclientid, principal: Principal) -> bytes:
     server.last_confirm += 1
     server.drop(replaced)
     server.records.append(
-        ClientRecord(arguments.id, principal, arguments.verifier, callback, server.last_confirm, number))
+        ClientRecord(arguments.id, principal, arguments.verifier, callback, server.last_confirm, number)
+    )
     return u32(server.epoch, number) + u64(server.last_confirm)

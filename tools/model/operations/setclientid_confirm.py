@@ -7,6 +7,7 @@ from nfs4.wire import Principal, SetclientidConfirm, Status
 def rule(server: State, arguments: SetclientidConfirm, principal: Principal) -> bytes:
     def is_named(record: ClientRecord) -> bool:
         return (server.epoch, record.number, record.confirm) == tuple(arguments)
+
     unconfirmed = server.record_where(False, is_named)
     if unconfirmed is not None:
         server.confirm_record(unconfirmed, principal)

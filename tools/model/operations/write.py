@@ -14,7 +14,7 @@ def rule(server: Files, arguments: Write, filehandle: int | None) -> bytes:
         raise Refusal(Status.FBIG)
     if data:
         text = server.text_of(file).ljust(begin, b"\0")
-        server.change_text(file, text[:begin] + data + text[begin + len(data):])
+        server.change_text(file, text[:begin] + data + text[begin + len(data) :])
     return u32(len(data), FILE_SYNC4) + verifier(server)
 
 

@@ -7,5 +7,16 @@ from model.reasons.kinds import Again, Kind, Reason
 from model.reasons.replays import Observer, Replay, Told, is_refusal
 from model.reasons.sentences import again_words, repeated_words, sentence
 
-__all__ = ["Again", "Causes", "Kind", "Observer", "Reason", "Replay", "Told", "again_words", "is_refusal",
-           "repeated_words", "sentence"]
+__all__ = [
+    "Again",
+    "Causes",
+    "Kind",
+    "Observer",
+    "Reason",
+    "Replay",
+    "Told",
+    "again_words",
+    "is_refusal",
+    "repeated_words",
+    "sentence",
+]

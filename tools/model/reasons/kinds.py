@@ -11,75 +11,76 @@ from nfs4.wire import Principal, Stateid, Status
 
 class Kind(Enum):
     """One for each cause that a sentence tells apart; behind it the record that its reasons have."""
+
     # Of the call, whoever sends it.
-    NO_FILEHANDLE = auto()                # Nothing
-    NOT_A_FILE = auto()                   # NodeFacts: the current filehandle, or what the name of an OPEN leads to
-    NOT_A_DIRECTORY = auto()              # NodeFacts
+    NO_FILEHANDLE = auto()  # Nothing
+    NOT_A_FILE = auto()  # NodeFacts: the current filehandle, or what the name of an OPEN leads to
+    NOT_A_DIRECTORY = auto()  # NodeFacts
     # Of a clientid, or of the client in a stateid: `stateid` is None for a clientid.
-    CLIENTID_OTHER_EPOCH = auto()         # EpochFacts
-    CLIENT_NEVER_GIVEN = auto()           # ClientFacts
-    CLIENT_NEVER_CONFIRMED = auto()       # UnconfirmedClient
-    CLIENT_EXPIRED = auto()               # GoneClient
-    CLIENT_REPLACED = auto()              # GoneClient
+    CLIENTID_OTHER_EPOCH = auto()  # EpochFacts
+    CLIENT_NEVER_GIVEN = auto()  # ClientFacts
+    CLIENT_NEVER_CONFIRMED = auto()  # UnconfirmedClient
+    CLIENT_EXPIRED = auto()  # GoneClient
+    CLIENT_REPLACED = auto()  # GoneClient
     # Of a stateid.
-    STATEID_SPECIAL = auto()              # StateidFacts
-    STATEID_OTHER_EPOCH = auto()          # EpochFacts
-    STATE_NEVER_GIVEN = auto()            # StateidFacts
-    STATE_OF_OTHER_CLIENT = auto()        # StateFacts
-    STATE_CLOSED = auto()                 # EndedState: by the CLOSE of the open, or of the lock state's open
-    STATE_RELEASED = auto()               # EndedState: a lock state, by RELEASE_LOCKOWNER
-    STATE_RETURNED = auto()               # EndedState: a delegation, by DELEGRETURN
-    STATE_REVOKED = auto()                # EndedState: a delegation that wasn't given back in time
-    STATE_LOST_TO_OPEN = auto()           # EndedState: by an OPEN that started the unconfirmed owner anew
-    STATE_OF_OTHER_KIND = auto()          # OtherKind
-    STATE_OF_OTHER_FILE = auto()          # OtherFile
-    OWNER_NOT_CONFIRMED = auto()          # StateFacts: `entry` is the OPEN
-    OWNER_CONFIRMED = auto()              # StateFacts: OPEN_CONFIRM once more; `entry` confirmed the owner
-    SEQID_EARLIER = auto()                # MovedState (OLD_STATEID)
-    SEQID_LATER = auto()                  # MovedState (BAD_STATEID)
-    DELEGATION_OF_OTHER_CLIENT = auto()   # OtherClient: CLAIM_DELEGATE_CUR
+    STATEID_SPECIAL = auto()  # StateidFacts
+    STATEID_OTHER_EPOCH = auto()  # EpochFacts
+    STATE_NEVER_GIVEN = auto()  # StateidFacts
+    STATE_OF_OTHER_CLIENT = auto()  # StateFacts
+    STATE_CLOSED = auto()  # EndedState: by the CLOSE of the open, or of the lock state's open
+    STATE_RELEASED = auto()  # EndedState: a lock state, by RELEASE_LOCKOWNER
+    STATE_RETURNED = auto()  # EndedState: a delegation, by DELEGRETURN
+    STATE_REVOKED = auto()  # EndedState: a delegation that wasn't given back in time
+    STATE_LOST_TO_OPEN = auto()  # EndedState: by an OPEN that started the unconfirmed owner anew
+    STATE_OF_OTHER_KIND = auto()  # OtherKind
+    STATE_OF_OTHER_FILE = auto()  # OtherFile
+    OWNER_NOT_CONFIRMED = auto()  # StateFacts: `entry` is the OPEN
+    OWNER_CONFIRMED = auto()  # StateFacts: OPEN_CONFIRM once more; `entry` confirmed the owner
+    SEQID_EARLIER = auto()  # MovedState (OLD_STATEID)
+    SEQID_LATER = auto()  # MovedState (BAD_STATEID)
+    DELEGATION_OF_OTHER_CLIENT = auto()  # OtherClient: CLAIM_DELEGATE_CUR
     # Of an owner and its sequence id.
-    KEPT_ANSWER = auto()                  # KeptFacts, with any status
-    SEQUENCE_ID_OTHER = auto()            # SequenceFacts
-    OTHER_REQUEST_WITH_LAST_ID = auto()   # SequenceFacts, with `differs`
-    LOCK_SEQID_OTHER = auto()             # SequenceFacts: the lock_seqid of a new lock owner that is known
-    NEW_LOCK_OWNER_KNOWN = auto()         # KnownLocker: it has a lock state of the file
-    LOCK_OWNER_OF_OTHER_CLIENT = auto()   # OtherClient (INVAL)
+    KEPT_ANSWER = auto()  # KeptFacts, with any status
+    SEQUENCE_ID_OTHER = auto()  # SequenceFacts
+    OTHER_REQUEST_WITH_LAST_ID = auto()  # SequenceFacts, with `differs`
+    LOCK_SEQID_OTHER = auto()  # SequenceFacts: the lock_seqid of a new lock owner that is known
+    NEW_LOCK_OWNER_KNOWN = auto()  # KnownLocker: it has a lock state of the file
+    LOCK_OWNER_OF_OTHER_CLIENT = auto()  # OtherClient (INVAL)
     # Of OPEN.
-    RECLAIM = auto()                      # ReclaimFacts: CLAIM_PREVIOUS, or a LOCK that reclaims
-    CLAIM_NOT_SUPPORTED = auto()          # Nothing: CLAIM_DELEGATE_PREV
-    NAME_EMPTY = auto()                   # NameFacts
-    NAME_TOO_LONG = auto()                # NameFacts
-    NO_SUCH_NAME = auto()                 # NameFacts
-    NO_CREATION = auto()                  # NameFacts: ACCESS
-    FILE_EXISTS = auto()                  # ExistingFile
-    SHARE_CONFLICT = auto()               # ShareConflicts: SHARE_DENIED, or LOCKED by a special stateid
-    DELEGATION_CONFLICT = auto()          # DelegationConflicts (DELAY)
-    SHARE_INVALID = auto()                # ShareFacts: access or deny outside its limits
-    DOWNGRADE_NO_UNION = auto()           # DowngradeFacts
+    RECLAIM = auto()  # ReclaimFacts: CLAIM_PREVIOUS, or a LOCK that reclaims
+    CLAIM_NOT_SUPPORTED = auto()  # Nothing: CLAIM_DELEGATE_PREV
+    NAME_EMPTY = auto()  # NameFacts
+    NAME_TOO_LONG = auto()  # NameFacts
+    NO_SUCH_NAME = auto()  # NameFacts
+    NO_CREATION = auto()  # NameFacts: ACCESS
+    FILE_EXISTS = auto()  # ExistingFile
+    SHARE_CONFLICT = auto()  # ShareConflicts: SHARE_DENIED, or LOCKED by a special stateid
+    DELEGATION_CONFLICT = auto()  # DelegationConflicts (DELAY)
+    SHARE_INVALID = auto()  # ShareFacts: access or deny outside its limits
+    DOWNGRADE_NO_UNION = auto()  # DowngradeFacts
     # Of locks.
-    LOCKS_HELD = auto()                   # HeldLocks: CLOSE, RELEASE_LOCKOWNER
-    RANGE_INVALID = auto()                # RangeFacts
-    ACCESS_LACKING = auto()               # AccessFacts (OPENMODE)
-    LOCK_CONFLICT = auto()                # HeldLocks, one (DENIED)
+    LOCKS_HELD = auto()  # HeldLocks: CLOSE, RELEASE_LOCKOWNER
+    RANGE_INVALID = auto()  # RangeFacts
+    ACCESS_LACKING = auto()  # AccessFacts (OPENMODE)
+    LOCK_CONFLICT = auto()  # HeldLocks, one (DENIED)
     # Of bytes, attributes and listings.
-    TOO_LARGE = auto()                    # SizeFacts (FBIG)
-    ATTRIBUTES_NOT_SUPPORTED = auto()     # AttributeFacts
-    ATTRIBUTES_TO_SET_ONLY = auto()       # AttributeFacts
-    ATTRIBUTES_TO_READ_ONLY = auto()      # AttributeFacts
-    ATTRIBUTES_FIXED = auto()             # AttributeFacts (ROFS)
-    VALUES_UNREADABLE = auto()            # ValueFacts (BADXDR)
-    TIME_OF_CLIENT = auto()               # Nothing (ROFS)
-    COOKIE_UNKNOWN = auto()               # ListingFacts
-    VERIFIER_OTHER = auto()               # ListingFacts
-    LISTING_TOO_SMALL = auto()            # RoomFacts
+    TOO_LARGE = auto()  # SizeFacts (FBIG)
+    ATTRIBUTES_NOT_SUPPORTED = auto()  # AttributeFacts
+    ATTRIBUTES_TO_SET_ONLY = auto()  # AttributeFacts
+    ATTRIBUTES_TO_READ_ONLY = auto()  # AttributeFacts
+    ATTRIBUTES_FIXED = auto()  # AttributeFacts (ROFS)
+    VALUES_UNREADABLE = auto()  # ValueFacts (BADXDR)
+    TIME_OF_CLIENT = auto()  # Nothing (ROFS)
+    COOKIE_UNKNOWN = auto()  # ListingFacts
+    VERIFIER_OTHER = auto()  # ListingFacts
+    LISTING_TOO_SMALL = auto()  # RoomFacts
     # Of SETCLIENTID and its confirmation.
-    ID_IN_USE = auto()                    # IdFacts (CLID_INUSE)
-    CONFIRMED_BY_OTHER = auto()           # PrincipalFacts (CLID_INUSE)
-    CONFIRM_NEVER_GIVEN = auto()          # ConfirmFacts
-    CONFIRM_OF_OTHER_CLIENT = auto()      # ConfirmFacts
-    CONFIRM_GAVE_WAY = auto()             # ConfirmFacts
-    CONFIRM_REPLACED = auto()             # ConfirmFacts
+    ID_IN_USE = auto()  # IdFacts (CLID_INUSE)
+    CONFIRMED_BY_OTHER = auto()  # PrincipalFacts (CLID_INUSE)
+    CONFIRM_NEVER_GIVEN = auto()  # ConfirmFacts
+    CONFIRM_OF_OTHER_CLIENT = auto()  # ConfirmFacts
+    CONFIRM_GAVE_WAY = auto()  # ConfirmFacts
+    CONFIRM_REPLACED = auto()  # ConfirmFacts
 
 
 class Facts:
@@ -100,6 +101,7 @@ class NodeFacts(Facts):
 
 
 # Clients.
+
 
 @dataclass(frozen=True)
 class EpochFacts(Facts):
@@ -136,6 +138,7 @@ class UnconfirmedClient(ClientFacts):
 
 
 # States.
+
 
 @dataclass(frozen=True)
 class StateidFacts(Facts):
@@ -186,6 +189,7 @@ class OtherClient(StateFacts):
 
 # Owners.
 
+
 @dataclass(frozen=True)
 class SequenceFacts(Facts):
     owner: OwnerName
@@ -221,6 +225,7 @@ class KnownLocker(Facts):
 
 # OPEN.
 
+
 @dataclass(frozen=True)
 class ReclaimFacts(Facts):
     is_lock: bool
@@ -242,6 +247,7 @@ class ExistingFile(Facts):
 class ShareConflict:
     """An open that excludes another one: what it denies of that, and what it has that the other one would deny; and
     since which entries."""
+
     state: int
     owner: OwnerName
     denied: int
@@ -260,6 +266,7 @@ class ShareConflicts(Facts):
 class DelegationConflict:
     """A delegation that excludes an open, READ or WRITE; which entry gave it; and which recalled it before, or None;
     and the first mark of its client's path behind that, and whether that was up."""
+
     state: int
     client: int
     begun: int
@@ -289,10 +296,12 @@ class DowngradeFacts(ShareFacts):
 
 # Locks.
 
+
 @dataclass(frozen=True)
 class HeldLock:
     """A range that a lock state holds: since which entry the state is as it is, and of how many ranges it is the
     first."""
+
     state: int
     owner: OwnerName
     run: Run
@@ -316,6 +325,7 @@ class RangeFacts(Facts):
 @dataclass(frozen=True)
 class AccessFacts(Facts):
     """The access that the operation takes, and the state which gives less: an open, or a delegation."""
+
     operation: str
     wanted: int
     access: int
@@ -325,6 +335,7 @@ class AccessFacts(Facts):
 
 
 # Bytes, attributes, listings.
+
 
 @dataclass(frozen=True)
 class SizeFacts(Facts):
@@ -360,9 +371,11 @@ class RoomFacts(Facts):
 
 # SETCLIENTID.
 
+
 @dataclass(frozen=True)
 class IdFacts(Facts):
     """The id is that of a client of another principal, which has state."""
+
     id: bytes
     client: int
     principal: Principal
@@ -399,6 +412,7 @@ class Again:
 @dataclass(frozen=True)
 class Reason:
     """What is answered, and why."""
+
     kind: Kind
     status: Status
     # The heading of docs/RULES.md, and the section of RFC 7530.

@@ -4,8 +4,18 @@ from typing import NamedTuple
 from model.entries import Call, Expire
 from model.history import Introduction
 from model.reasons.common import CLIENT_IDS, Common, Reasons, reason
-from model.reasons.kinds import (ClientFacts, ConfirmFacts, EpochFacts, Facts, GoneClient, IdFacts, Kind,
-                                 PrincipalFacts, Reason, UnconfirmedClient)
+from model.reasons.kinds import (
+    ClientFacts,
+    ConfirmFacts,
+    EpochFacts,
+    Facts,
+    GoneClient,
+    IdFacts,
+    Kind,
+    PrincipalFacts,
+    Reason,
+    UnconfirmedClient,
+)
 from model.states import ClientRecord
 from nfs4.wire import Principal, Setclientid, SetclientidConfirm, Stateid, Status
 
@@ -58,8 +68,9 @@ class OfClientIds(Common):
         return UnconfirmedClient(number, stateid, given.entry, None, last.entry, last.record.number)
 
     def last_introduction(self, client_id: bytes) -> Introduction:
-        return max((it for it in self.server.introductions.values() if it.record.id == client_id),
-                   key=lambda it: it.entry)
+        return max(
+            (it for it in self.server.introductions.values() if it.record.id == client_id), key=lambda it: it.entry
+        )
 
     # SETCLIENTID and its confirmation.
 

@@ -3,13 +3,11 @@ from dataclasses import replace
 
 from model.ranges import READ_MODE, denial, range_of
 from model.reasons.common import RANGES, Reasons, reason
-from model.reasons.kinds import (AccessFacts, HeldLocks, Kind, KnownLocker, OtherClient, RangeFacts, Reason,
-                                 ReclaimFacts)
+from model.reasons.kinds import AccessFacts, HeldLocks, Kind, KnownLocker, OtherClient, RangeFacts, Reason, ReclaimFacts
 from model.reasons.of_opens import OfOpens
 from model.reasons.of_owners import differences
 from model.states import LockState, OpenState, Request, mode_of, next_sequence_id, stateid_of_locker
-from nfs4.wire import (Lock, LockOwner, Lockt, Locku, NewLocker, Opnum, Principal, READ, ReleaseLockowner, Status,
-                       WRITE)
+from nfs4.wire import Lock, LockOwner, Lockt, Locku, NewLocker, Opnum, Principal, READ, ReleaseLockowner, Status, WRITE
 
 
 class OfLocks(OfOpens):

@@ -4,16 +4,47 @@ from dataclasses import replace
 from model.delegations import bars
 from model.operations.close import holding
 from model.reasons.common import DELEGATIONS, SHARE, Reasons, reason
-from model.reasons.kinds import (DelegationConflict, DelegationConflicts, DowngradeFacts, ExistingFile, HeldLock,
-                                 HeldLocks, Kind, NameFacts, NodeFacts, Nothing, OtherClient, OtherFile, Reason,
-                                 ReclaimFacts, ShareConflict, ShareConflicts, ShareFacts, StateFacts)
+from model.reasons.kinds import (
+    DelegationConflict,
+    DelegationConflicts,
+    DowngradeFacts,
+    ExistingFile,
+    HeldLock,
+    HeldLocks,
+    Kind,
+    NameFacts,
+    NodeFacts,
+    Nothing,
+    OtherClient,
+    OtherFile,
+    Reason,
+    ReclaimFacts,
+    ShareConflict,
+    ShareConflicts,
+    ShareFacts,
+    StateFacts,
+)
 from model.reasons.of_owners import OfOwners
 from model.reasons.of_stateids import bad_stateid
 from model.ranges import Run
 from model.states import Delegation, LockState, OpenState, conflict, is_lawful_downgrade
 from model.tree import NAME_LIMIT
-from nfs4.wire import (BOTH, CLAIM_DELEGATE_CUR, CLAIM_DELEGATE_PREV, CLAIM_PREVIOUS, Close, EXCLUSIVE4, GUARDED4,
-                       OPEN4_CREATE, Open, OpenConfirm, OpenDowngrade, READ, Stateid, Status)
+from nfs4.wire import (
+    BOTH,
+    CLAIM_DELEGATE_CUR,
+    CLAIM_DELEGATE_PREV,
+    CLAIM_PREVIOUS,
+    Close,
+    EXCLUSIVE4,
+    GUARDED4,
+    OPEN4_CREATE,
+    Open,
+    OpenConfirm,
+    OpenDowngrade,
+    READ,
+    Stateid,
+    Status,
+)
 
 
 class OfOpens(OfOwners):
@@ -100,8 +131,9 @@ class OfOpens(OfOwners):
         """These opens deny what is asked, or have what it is to deny."""
         if opens:
             facts = ShareConflicts(tuple(self.share_conflict(it, share) for it in opens))
-            entries = sorted({at for it in facts.conflicts for at in (it.denied_since, it.held_since)
-                              if at is not None})
+            entries = sorted(
+                {at for it in facts.conflicts for at in (it.denied_since, it.held_since) if at is not None}
+            )
             status = Status.SHARE_DENIED if heading == SHARE else Status.LOCKED
             found = reason(Kind.SHARE_CONFLICT, status, heading, facts, entries, [it.number for it in opens])
             yield found if heading == SHARE else replace(found, section="9.1.6")
@@ -110,9 +142,15 @@ class OfOpens(OfOwners):
         """How an open excludes one with this access and deny."""
         (access, deny), since = opened.share(), self.server.since
         denied, held = deny & share[0], access & share[1]
-        return ShareConflict(opened.number, opened.owner, denied, since(opened, 1, denied) if denied else None,
-                             held, since(opened, 0, held) if held else None,
-                             self.server.open_owners[opened.owner].is_confirmed)
+        return ShareConflict(
+            opened.number,
+            opened.owner,
+            denied,
+            since(opened, 1, denied) if denied else None,
+            held,
+            since(opened, 0, held) if held else None,
+            self.server.open_owners[opened.owner].is_confirmed,
+        )
 
     # Operations on opens.
 
@@ -142,8 +180,14 @@ class OfOpens(OfOwners):
     # Locks that are held.
 
     def locks_held(self, locks: list[HeldLock], heading: str) -> Reason:
-        return reason(Kind.LOCKS_HELD, Status.LOCKS_HELD, heading, HeldLocks(tuple(locks)), [it.entry for it in locks],
-                      [it.state for it in locks])
+        return reason(
+            Kind.LOCKS_HELD,
+            Status.LOCKS_HELD,
+            heading,
+            HeldLocks(tuple(locks)),
+            [it.entry for it in locks],
+            [it.state for it in locks],
+        )
 
     def first_lock(self, state: LockState) -> HeldLock:
         """The first range that a lock state holds."""

@@ -4,18 +4,39 @@ from dataclasses import replace
 from typing import Any
 
 from model.reasons.common import IDLE, OWNERS, Reasons, SECTIONS_OF_HEADINGS, reason
-from model.reasons.kinds import (Again, DelegationConflicts, EndedState, KeptFacts, Kind, Reason, SequenceFacts)
+from model.reasons.kinds import Again, DelegationConflicts, EndedState, KeptFacts, Kind, Reason, SequenceFacts
 from model.reasons.of_stateids import OfStateids
-from model.states import (Delegation, LockState, OpenState, Owner, Request, closed_by, next_sequence_id, replay,
-                          sequence_id_of, stateid_of)
+from model.states import (
+    Delegation,
+    LockState,
+    OpenState,
+    Owner,
+    Request,
+    closed_by,
+    next_sequence_id,
+    replay,
+    sequence_id_of,
+    stateid_of,
+)
 from nfs4.wire import KnownLocker, LockOwner, OpenOwner, Opnum, Stateid, Status
 
 # What is named as a whole where it differs.
 WHOLE = (Stateid, OpenOwner, LockOwner)
 # The kinds of reasons that lie in the stateid of a request, or in that and its lock owner.
-OF_STATEIDS = {Kind.STATE_NEVER_GIVEN, Kind.STATE_OF_OTHER_CLIENT, Kind.STATE_CLOSED, Kind.STATE_RELEASED,
-               Kind.STATE_LOST_TO_OPEN, Kind.STATE_OF_OTHER_KIND, Kind.STATE_OF_OTHER_FILE, Kind.OWNER_NOT_CONFIRMED,
-               Kind.OWNER_CONFIRMED, Kind.SEQID_EARLIER, Kind.SEQID_LATER, Kind.LOCK_OWNER_OF_OTHER_CLIENT}
+OF_STATEIDS = {
+    Kind.STATE_NEVER_GIVEN,
+    Kind.STATE_OF_OTHER_CLIENT,
+    Kind.STATE_CLOSED,
+    Kind.STATE_RELEASED,
+    Kind.STATE_LOST_TO_OPEN,
+    Kind.STATE_OF_OTHER_KIND,
+    Kind.STATE_OF_OTHER_FILE,
+    Kind.OWNER_NOT_CONFIRMED,
+    Kind.OWNER_CONFIRMED,
+    Kind.SEQID_EARLIER,
+    Kind.SEQID_LATER,
+    Kind.LOCK_OWNER_OF_OTHER_CLIENT,
+}
 
 
 class OfOwners(OfStateids):
@@ -54,8 +75,13 @@ class OfOwners(OfStateids):
         if forgotten is None:
             return replace(missing, heading=OWNERS)
         assert isinstance(missing.facts, EndedState)
-        return replace(missing, heading=IDLE, section=SECTIONS_OF_HEADINGS[IDLE],
-                       facts=replace(missing.facts, forgotten=forgotten), entries=(*missing.entries, forgotten))
+        return replace(
+            missing,
+            heading=IDLE,
+            section=SECTIONS_OF_HEADINGS[IDLE],
+            facts=replace(missing.facts, forgotten=forgotten),
+            entries=(*missing.entries, forgotten),
+        )
 
     def of_sequence_id(self, owner: Owner, request: Request) -> Reasons:
         kept, came = owner.kept, sequence_id_of(request)
@@ -76,8 +102,9 @@ class OfOwners(OfStateids):
         kept, uncounted = owner.kept, self.server.uncounted_since(owner)
         last = self.server.last_uncounted.get(owner.name.client)
         is_later = last is not None and last.entry > kept.entry
-        return SequenceFacts(owner.name, next_sequence_id(kept.seqid), came, kept.entry, uncounted,
-                             last if is_later else None)
+        return SequenceFacts(
+            owner.name, next_sequence_id(kept.seqid), came, kept.entry, uncounted, last if is_later else None
+        )
 
     def also_wrong(self, request: Request) -> Reason | None:
         """What is wrong with the stateid of a request, whatever its sequence id is."""
@@ -105,8 +132,11 @@ class OfOwners(OfStateids):
 
 def wanted_by(request: Request) -> type:
     """The kind of state that a sequenced operation takes by its stateid."""
-    if request.opnum == Opnum.LOCKU or request.opnum == Opnum.LOCK and isinstance(
-            request.arguments.locker, KnownLocker):
+    if (
+        request.opnum == Opnum.LOCKU
+        or request.opnum == Opnum.LOCK
+        and isinstance(request.arguments.locker, KnownLocker)
+    ):
         return LockState
     return OpenState
 
@@ -128,4 +158,5 @@ def differing(name: str, kept: Any, came: Any) -> list[str]:
         return [name]
     fields = getattr(kept, "_fields", ())
     return [found for field in fields for found in differing(field, getattr(kept, field), getattr(came, field))] or [
-        name]
+        name
+    ]

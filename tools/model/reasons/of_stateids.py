@@ -3,8 +3,18 @@ from typing import Any, TypeVar
 
 from model.entries import Call, Revoke
 from model.reasons.common import STATEIDS, Reasons, reason
-from model.reasons.kinds import (ClientFacts, EndedState, EpochFacts, Kind, MovedState, OtherFile, OtherKind, Reason,
-                                 StateFacts, StateidFacts)
+from model.reasons.kinds import (
+    ClientFacts,
+    EndedState,
+    EpochFacts,
+    Kind,
+    MovedState,
+    OtherFile,
+    OtherKind,
+    Reason,
+    StateFacts,
+    StateidFacts,
+)
 from model.reasons.of_client_ids import OfClientIds
 from model.states import Delegation, KeptState, LockState, OpenState, is_special
 from nfs4.wire import Opnum, Stateid, Status
@@ -12,8 +22,12 @@ from nfs4.wire import Opnum, Stateid, Status
 S = TypeVar("S", OpenState, LockState, Delegation)
 
 # The kinds of states that ended, by the operation that ended them.
-ENDS = {Opnum.CLOSE: Kind.STATE_CLOSED, Opnum.RELEASE_LOCKOWNER: Kind.STATE_RELEASED,
-        Opnum.DELEGRETURN: Kind.STATE_RETURNED, Opnum.OPEN: Kind.STATE_LOST_TO_OPEN}
+ENDS = {
+    Opnum.CLOSE: Kind.STATE_CLOSED,
+    Opnum.RELEASE_LOCKOWNER: Kind.STATE_RELEASED,
+    Opnum.DELEGRETURN: Kind.STATE_RETURNED,
+    Opnum.OPEN: Kind.STATE_LOST_TO_OPEN,
+}
 
 
 def bad_stateid(kind: Kind, facts: StateFacts, status: Status = Status.BAD_STATEID) -> Reason:
@@ -103,8 +117,11 @@ class OfStateids(OfClientIds):
     def meant(self, found: KeptState, wanted: tuple[type, ...]) -> int | None:
         """The one state of a kind that is wanted which may be meant by that of another kind: the open of a lock state,
         a lock state of an open, or what the client has of the file."""
-        fitting = [it for it in self.server.states()
-                   if isinstance(it, wanted) and (it.client, it.file) == (found.client, found.file)]
+        fitting = [
+            it
+            for it in self.server.states()
+            if isinstance(it, wanted) and (it.client, it.file) == (found.client, found.file)
+        ]
         nearer = [it for it in fitting if belong_together(it, found)] or fitting
         return nearer[0].number if len(nearer) == 1 else None
 

@@ -4,13 +4,33 @@ from collections.abc import Sequence
 from model.attributes import FIRST_COOKIE, FIXED, SET_ONLY, SIZE, WRITABLE, numbers_of
 from model.operations.readdir import LISTING_ENDS, LISTING_LIMIT, NO_VERIFIER, room_of_entries
 from model.reasons.common import Reasons, reason
-from model.reasons.kinds import (AccessFacts, AttributeFacts, Kind, ListingFacts, Nothing, RoomFacts, SizeFacts,
-                                 ValueFacts)
+from model.reasons.kinds import (
+    AccessFacts,
+    AttributeFacts,
+    Kind,
+    ListingFacts,
+    Nothing,
+    RoomFacts,
+    SizeFacts,
+    ValueFacts,
+)
 from model.reasons.of_locks import OfLocks
 from model.states import Delegation, KeptState, LockState, OpenState, Refusal, is_special
 from model.tree import TEXT_LIMIT
-from nfs4.wire import (BOTH, Delegreturn, Getattr, OPEN_DELEGATE_WRITE, READ, Read, Readdir, Setattr, Stateid, Status,
-                       WRITE, Write)
+from nfs4.wire import (
+    BOTH,
+    Delegreturn,
+    Getattr,
+    OPEN_DELEGATE_WRITE,
+    READ,
+    Read,
+    Readdir,
+    Setattr,
+    Stateid,
+    Status,
+    WRITE,
+    Write,
+)
 
 
 class OfTransfers(OfLocks):
@@ -98,9 +118,10 @@ class OfTransfers(OfLocks):
         yield from self.of_filehandle(file)
         asked = numbers_of(mask)
         for kind, status, numbers in (
-                (Kind.ATTRIBUTES_NOT_SUPPORTED, Status.ATTRNOTSUPP, asked - self.server.supported()),
-                (Kind.ATTRIBUTES_TO_READ_ONLY, Status.INVAL, asked - WRITABLE),
-                (Kind.ATTRIBUTES_FIXED, Status.ROFS, asked & FIXED)):
+            (Kind.ATTRIBUTES_NOT_SUPPORTED, Status.ATTRNOTSUPP, asked - self.server.supported()),
+            (Kind.ATTRIBUTES_TO_READ_ONLY, Status.INVAL, asked - WRITABLE),
+            (Kind.ATTRIBUTES_FIXED, Status.ROFS, asked & FIXED),
+        ):
             if numbers:
                 yield reason(kind, status, "SETATTR", AttributeFacts(tuple(sorted(numbers))))
         yield from self.of_values(asked, values)

@@ -6,15 +6,50 @@ from model.attributes import NAMES
 from model.entries import Call
 from model.history import History, Uncounted
 from model.ranges import LAST_BYTE, READ_MODE, Run
-from model.reasons.kinds import (AccessFacts, Again, AttributeFacts, ClientFacts, ConfirmFacts, DelegationConflict,
-                                 DelegationConflicts, DowngradeFacts, EndedState, EpochFacts, ExistingFile, GoneClient,
-                                 HeldLock, HeldLocks, IdFacts, KeptFacts, Kind, KnownLocker, ListingFacts, MovedState,
-                                 NameFacts, NodeFacts, OtherClient, OtherFile, OtherKind, PrincipalFacts, RangeFacts,
-                                 Reason, ReclaimFacts, RoomFacts, SequenceFacts, ShareConflict, ShareConflicts,
-                                 ShareFacts, SizeFacts, StateFacts, StateidFacts, UnconfirmedClient, ValueFacts)
+from model.reasons.kinds import (
+    AccessFacts,
+    Again,
+    AttributeFacts,
+    ClientFacts,
+    ConfirmFacts,
+    DelegationConflict,
+    DelegationConflicts,
+    DowngradeFacts,
+    EndedState,
+    EpochFacts,
+    ExistingFile,
+    GoneClient,
+    HeldLock,
+    HeldLocks,
+    IdFacts,
+    KeptFacts,
+    Kind,
+    KnownLocker,
+    ListingFacts,
+    MovedState,
+    NameFacts,
+    NodeFacts,
+    OtherClient,
+    OtherFile,
+    OtherKind,
+    PrincipalFacts,
+    RangeFacts,
+    Reason,
+    ReclaimFacts,
+    RoomFacts,
+    SequenceFacts,
+    ShareConflict,
+    ShareConflicts,
+    ShareFacts,
+    SizeFacts,
+    StateFacts,
+    StateidFacts,
+    UnconfirmedClient,
+    ValueFacts,
+)
 from model.states import Delegation, KeptState, LockState, OpenState
 from model.tree import NAME_LIMIT, TEXT_LIMIT
-from model.words import (STATUS_NAMES, client_words, name_words, owner_words, place_words, principal_words, purpose_of)
+from model.words import STATUS_NAMES, client_words, name_words, owner_words, place_words, principal_words, purpose_of
 from nfs4.wire import BOTH, GUARDED4, OPEN_DELEGATE_WRITE, Opnum, READ, WRITE
 
 MODES = {0: "nothing", READ: "READ", WRITE: "WRITE", BOTH: "READ and WRITE"}
@@ -113,16 +148,21 @@ class Sentences:
 
     def client_never_given(self, facts: ClientFacts) -> str:
         client = client_words(facts.client)
-        return f"{client} was never given" if facts.stateid is None else (
-            f"the stateid is one of {client}, which was never given")
+        return (
+            f"{client} was never given"
+            if facts.stateid is None
+            else (f"the stateid is one of {client}, which was never given")
+        )
 
     def client_expired(self, facts: GoneClient) -> str:
         return f"{client_words(facts.client)} was removed by entry {facts.entry}, because its lease had expired"
 
     def client_replaced(self, facts: GoneClient) -> str:
         assert facts.other is not None
-        return (f"{client_words(facts.client)} was removed by {self.entry(facts.entry)}, because "
-                f"{client_words(facts.other)} took its place")
+        return (
+            f"{client_words(facts.client)} was removed by {self.entry(facts.entry)}, because "
+            f"{client_words(facts.other)} took its place"
+        )
 
     def client_never_confirmed(self, facts: UnconfirmedClient) -> str:
         text = f"{client_words(facts.client)}, which {self.entry(facts.entry)} gave, was never confirmed"
@@ -143,8 +183,10 @@ class Sentences:
 
     def state_of_other_client(self, facts: StateFacts) -> str:
         owner = self.server.given[facts.state].client
-        return (f"state {facts.state} was given to {client_words(owner)}, but the stateid names "
-                f"{client_words(facts.stateid.client)}")
+        return (
+            f"state {facts.state} was given to {client_words(owner)}, but the stateid names "
+            f"{client_words(facts.stateid.client)}"
+        )
 
     def state_ended(self, facts: EndedState) -> str:
         assert facts.entry is not None
@@ -169,8 +211,10 @@ class Sentences:
     def owner_not_confirmed(self, facts: StateFacts) -> str:
         found = self.server.given[facts.state]
         assert isinstance(found, OpenState)
-        return (f"{owner_words(found.owner)} isn't confirmed: it has opened the file in entry {facts.entry}, but no "
-                "OPEN_CONFIRM has followed")
+        return (
+            f"{owner_words(found.owner)} isn't confirmed: it has opened the file in entry {facts.entry}, but no "
+            "OPEN_CONFIRM has followed"
+        )
 
     def owner_confirmed(self, facts: StateFacts) -> str:
         found = self.server.given[facts.state]
@@ -180,8 +224,10 @@ class Sentences:
     def moved(self, facts: MovedState) -> str:
         assert facts.entry is not None
         side = "earlier" if facts.stateid.seqid < facts.seqid else "later"
-        return (f"state {facts.state} has seqid {facts.seqid} since {self.entry(facts.entry)}, but the stateid has the "
-                f"{side} {facts.stateid.seqid}")
+        return (
+            f"state {facts.state} has seqid {facts.seqid} since {self.entry(facts.entry)}, but the stateid has the "
+            f"{side} {facts.stateid.seqid}"
+        )
 
     def delegation_of_other_client(self, facts: OtherClient) -> str:
         return f"it is that of {self.state(facts.state)}, but the OPEN is one of {client_words(facts.client)}"
@@ -195,14 +241,18 @@ class Sentences:
         if not isinstance(facts.before.facts, DelegationConflicts):
             return f"{text}; the cause then: {sentence(facts.before, self.server)}"
         ended = dict(facts.ended)
-        found = [f"delegation {it.state} conflicted then" + (
-            f", and is gone since {self.entry(ended[it.state])}" if it.state in ended else "")
-            for it in facts.before.facts.conflicts]
+        found = [
+            f"delegation {it.state} conflicted then"
+            + (f", and is gone since {self.entry(ended[it.state])}" if it.state in ended else "")
+            for it in facts.before.facts.conflicts
+        ]
         return f"{text}; {listed(found)}; the owner's next sequence id is {facts.next_id}"
 
     def due(self, facts: SequenceFacts) -> str:
-        return (f"{facts.expected} is the next sequence id of {owner_words(facts.owner)}, after "
-                f"{self.entry(facts.entry)}")
+        return (
+            f"{facts.expected} is the next sequence id of {owner_words(facts.owner)}, after "
+            f"{self.entry(facts.entry)}"
+        )
 
     def uncounted(self, facts: SequenceFacts) -> str:
         """Those that had the next sequence id, and didn't count."""
@@ -231,12 +281,16 @@ class Sentences:
         return f"{self.due(facts)}, but the lock_seqid is {facts.given}{self.itself(facts)}{self.uncounted(facts)}"
 
     def new_lock_owner_known(self, facts: KnownLocker) -> str:
-        return (f"it names a new lock owner, but {owner_words(facts.owner)} has state {facts.state} on the file "
-                f"since {self.entry(facts.entry)}")
+        return (
+            f"it names a new lock owner, but {owner_words(facts.owner)} has state {facts.state} on the file "
+            f"since {self.entry(facts.entry)}"
+        )
 
     def lock_owner_of_other_client(self, facts: OtherClient) -> str:
-        return (f"the lock owner has the clientid {facts.epoch} {facts.client}, but the open is one of client "
-                f"{facts.stateid.client}")
+        return (
+            f"the lock owner has the clientid {facts.epoch} {facts.client}, but the open is one of client "
+            f"{facts.stateid.client}"
+        )
 
     # Of opens and delegations.
 
@@ -272,8 +326,11 @@ class Sentences:
         texts = [f"denies {MODES[it.denied]} of {place} since entry {it.denied_since}"] if it.denied else []
         if it.held:
             texts.append(f"has {place} open for {MODES[it.held]}, which this OPEN denies, since entry {it.held_since}")
-        return f"{owner_words(it.owner)} " + " and ".join(texts) + (
-            "" if it.is_confirmed else " (it isn't confirmed, which makes no difference here)")
+        return (
+            f"{owner_words(it.owner)} "
+            + " and ".join(texts)
+            + ("" if it.is_confirmed else " (it isn't confirmed, which makes no difference here)")
+        )
 
     def delegation_conflict(self, facts: DelegationConflicts) -> str:
         return listed([self.delegation_words(it, facts.is_special) for it in facts.conflicts])
@@ -302,8 +359,10 @@ class Sentences:
 
     def downgrade_no_union(self, facts: DowngradeFacts) -> str:
         kept = ", ".join(f"{access} and {deny}" for access, deny in facts.pairs)
-        return (f"access {facts.access} and deny {facts.deny} are no union of pairs with which the open was "
-                f"opened: {kept}")
+        return (
+            f"access {facts.access} and deny {facts.deny} are no union of pairs with which the open was "
+            f"opened: {kept}"
+        )
 
     # Of locks.
 
@@ -317,8 +376,10 @@ class Sentences:
         """The bytes that a lock state holds, and since when."""
         held = run_words(it.run, self.place(self.server.given[it.state].file))
         more = f", the first of {it.runs} ranges" if it.runs > 1 else ""
-        return (f"{owner_words(it.owner)} holds {held}{more}, in state {it.state}, which was changed last by "
-                f"{self.entry(it.entry)}")
+        return (
+            f"{owner_words(it.owner)} holds {held}{more}, in state {it.state}, which was changed last by "
+            f"{self.entry(it.entry)}"
+        )
 
     def range_invalid(self, facts: RangeFacts) -> str:
         if facts.length == 0:
@@ -336,8 +397,10 @@ class Sentences:
     def too_large(self, facts: SizeFacts) -> str:
         if facts.offset is None:
             return f"the size is {facts.size}, but a file has at most {TEXT_LIMIT} bytes"
-        return (f"offset {facts.offset} and {facts.size} bytes add up to {facts.offset + facts.size}, but a file has "
-                f"at most {TEXT_LIMIT} bytes")
+        return (
+            f"offset {facts.offset} and {facts.size} bytes add up to {facts.offset + facts.size}, but a file has "
+            f"at most {TEXT_LIMIT} bytes"
+        )
 
     def attributes_not_supported(self, facts: AttributeFacts) -> str:
         return f"{attribute_words(facts.numbers)} isn't supported"
@@ -371,12 +434,16 @@ class Sentences:
 
     def id_in_use(self, facts: IdFacts) -> str:
         client = f"{client_words(facts.client)}, by {principal_words(facts.principal)}"
-        return (f"the id {name_words(facts.id)} is that of {client}, which has state: {self.state(facts.state)}, since "
-                f"{self.entry(facts.entry)}")
+        return (
+            f"the id {name_words(facts.id)} is that of {client}, which has state: {self.state(facts.state)}, since "
+            f"{self.entry(facts.entry)}"
+        )
 
     def confirmed_by_other(self, facts: PrincipalFacts) -> str:
-        return (f"{self.entry(facts.entry)} came from {principal_words(facts.principal)}, but its confirmation from "
-                f"{principal_words(facts.other)}")
+        return (
+            f"{self.entry(facts.entry)} came from {principal_words(facts.principal)}, but its confirmation from "
+            f"{principal_words(facts.other)}"
+        )
 
     def confirm_never_given(self, facts: ConfirmFacts) -> str:
         return f"confirm verifier {facts.confirm} was never given"
@@ -392,17 +459,27 @@ class Sentences:
     def confirm_replaced(self, facts: ConfirmFacts) -> str:
         assert facts.entry is not None
         record = self.server.introductions[facts.confirm].record
-        return (f"confirm verifier {facts.confirm} is that of {self.entry(facts.entry)}, but entry {facts.later} gave "
-                f"the id {name_words(record.id)} confirm verifier {facts.later_confirm}")
+        return (
+            f"confirm verifier {facts.confirm} is that of {self.entry(facts.entry)}, but entry {facts.later} gave "
+            f"the id {name_words(record.id)} confirm verifier {facts.later_confirm}"
+        )
 
 
 # The kinds whose sentences have other names than they.
 OTHER_NAMES: dict[Kind, Callable[[Sentences, Any], str]] = {
-    Kind.CLIENTID_OTHER_EPOCH: Sentences.other_epoch, Kind.STATEID_OTHER_EPOCH: Sentences.other_epoch,
-    Kind.SEQID_EARLIER: Sentences.moved, Kind.SEQID_LATER: Sentences.moved, Kind.LOCK_CONFLICT: Sentences.locks_held,
-    **dict.fromkeys([Kind.STATE_CLOSED, Kind.STATE_RELEASED, Kind.STATE_RETURNED, Kind.STATE_REVOKED,
-                     Kind.STATE_LOST_TO_OPEN], Sentences.state_ended)}
+    Kind.CLIENTID_OTHER_EPOCH: Sentences.other_epoch,
+    Kind.STATEID_OTHER_EPOCH: Sentences.other_epoch,
+    Kind.SEQID_EARLIER: Sentences.moved,
+    Kind.SEQID_LATER: Sentences.moved,
+    Kind.LOCK_CONFLICT: Sentences.locks_held,
+    **dict.fromkeys(
+        [Kind.STATE_CLOSED, Kind.STATE_RELEASED, Kind.STATE_RETURNED, Kind.STATE_REVOKED, Kind.STATE_LOST_TO_OPEN],
+        Sentences.state_ended,
+    ),
+}
 SENTENCES: dict[Kind, Callable[[Sentences, Any], str]] = {
-    **{kind: getattr(Sentences, kind.name.lower()) for kind in Kind if kind not in OTHER_NAMES}, **OTHER_NAMES}
+    **{kind: getattr(Sentences, kind.name.lower()) for kind in Kind if kind not in OTHER_NAMES},
+    **OTHER_NAMES,
+}
 # What is wrong besides a sequence id that explains it, and stands before it.
 BEFORE = {Kind.STATE_OF_OTHER_KIND}
