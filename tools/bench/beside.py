@@ -1,9 +1,11 @@
 """What there is before the calls that are counted."""
 from collections import deque
+from collections.abc import Callable, Iterable, Iterator
 from itertools import cycle, islice
 
-from nfs4.wire import READ_LT
-from parties import NAME, OTHERS, TO_READ, Party
+from bench.clients import NAME, OTHERS, TO_READ, Party
+from nfs4tools.processes import Peer
+from nfs4tools.wire import READ_LT
 
 # Runs of a byte each, that don't touch, begin at 0, so far from each other; and where the locks of others begin.
 STEP, BEYOND = 4, 1 << 20
@@ -12,24 +14,25 @@ STEP, BEYOND = 4, 1 << 20
 class Scene:
     """What there is, by one peer. Who comes later has a greater number."""
 
-    def __init__(self, peer):
+    def __init__(self, peer: Peer) -> None:
         self.peer, self.count = peer, 0
         # From the oldest on: who has an open of the file, and the lock owners that hold nothing, with their names. And
         # how many clients are lent the other files, and how many runs whoever is measured is to hold.
-        self.openers, self.idle, self.lenders, self.own_runs = deque(), deque(), 0, 0
+        self.openers, self.idle = deque[Party](), deque[tuple[Party, bytes]]()
+        self.lenders = self.own_runs = 0
 
-    def come(self):
+    def come(self) -> Party:
         """One more client."""
         self.count += 1
         return Party(self.peer, self.count, self).arrive()
 
 
-def clients(scene, count):
+def clients(scene: Scene, count: int) -> None:
     for _ in range(count):
         scene.come()
 
 
-def lenders(scene, count, files=60):
+def lenders(scene: Scene, count: int, files: int = 60) -> list[Party]:
     """The clients."""
     borrowers = [scene.come() for _ in range(count)]
     for client in borrowers:
@@ -40,82 +43,82 @@ def lenders(scene, count, files=60):
     return borrowers
 
 
-def readers(scene, count):
+def readers(scene: Scene, count: int) -> None:
     for _ in range(count):
         client = scene.come()
         be_known(client)
         client.borrow_and_close(NAME)
 
 
-def owners(scene, count):
+def owners(scene: Scene, count: int) -> None:
     use(scene.come().owners(islice(cycle(OTHERS), count)))
 
 
-def opens(scene, count):
+def opens(scene: Scene, count: int) -> None:
     scene.openers.extend(scene.come().owners([NAME] * count))
 
 
-def locks(scene, count):
+def locks(scene: Scene, count: int) -> None:
     use(lock_states(scene.come().owners(OTHERS), count))
 
 
-def idle(scene, count):
+def idle(scene: Scene, count: int) -> None:
     for owner in lock_states(scene.come().owners(OTHERS), count):
         owner.unlock_byte(owner.byte)
         scene.idle.append((owner, owner.locker))
 
 
-def neighbours(scene, count):
+def neighbours(scene: Scene, count: int) -> None:
     use(lock_states(scene.come().owners([NAME]), count))
 
 
-def runs(scene, count):
+def runs(scene: Scene, count: int) -> Party:
     owner = scene.come()
     owner.open_it(NAME)
     lock_runs(owner, count)
     return owner
 
 
-def read_runs(scene, count):
+def read_runs(scene: Scene, count: int) -> None:
     owner = runs(scene, count)
     for number in range(count):
         owner.lock_byte(STEP * number, READ_LT)
 
 
-def own_runs(scene, count):
+def own_runs(scene: Scene, count: int) -> None:
     scene.own_runs = count
 
 
 # Parts of these.
 
 
-def use(items):
+def use(items: Iterable[Party]) -> None:
     """Has them made."""
     for _ in items:
         pass
 
 
-def be_known(client):
+def be_known(client: Party) -> None:
     """Its owner is confirmed, which brings no delegation."""
     client.open_it(OTHERS[0], TO_READ)
     client.close()
 
 
-def lock_states(owners, count):
+def lock_states(owners: Iterable[Party], count: int) -> Iterator[Party]:
     """So many lock owners of these owners in turn, each with a lock state of a byte: the owners, as they come."""
     for number, owner in enumerate(islice(cycle(owners), count)):
         owner.lock_as(b"locker %d" % number, BEYOND + STEP * number)
         yield owner
 
 
-def lock_runs(owner, count):
+def lock_runs(owner: Party, count: int) -> None:
     owner.lock_as(owner.locker, 0)
     for number in range(1, count):
         owner.lock_byte(STEP * number)
 
 
 # Each with what there is so many of.
-KINDS = {
+KINDS: dict[str, tuple[Callable[..., object], str]] = {
     "clients": (clients, "live clients"),
     "lenders": (lenders, "live clients that are lent 60 other files each to read; 250x10: 250, ten each"),
     "readers": (readers, "clients that are lent the file to read"),
@@ -130,11 +133,11 @@ KINDS = {
 }
 
 
-def read_besides(text):
+def read_besides(text: str) -> list[tuple[Callable[..., object], list[int]]]:
     """What each word makes, with its numbers: of `clients=250,lenders=250x10`, say."""
     pairs = [word.partition("=")[::2] for word in text.split(",") if word]
     return [(KINDS[name][0], [int(number) for number in numbers.split("x")]) for name, numbers in pairs]
 
 
-def spelled(text):
+def spelled(text: str) -> str:
     return text.replace(",", ", ") or "nothing"

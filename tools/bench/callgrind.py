@@ -1,14 +1,16 @@
 """Counts the instructions of a program by valgrind's callgrind, between two moments of its run."""
 import re
+import subprocess
+from collections.abc import Callable
 
-from script import said_by
+from bench.script import said_by
 
 
 class Callgrind:
     """Counts only what is to be counted: so the rest takes less time. Its files are in this folder, and the words are
     those before the program's."""
 
-    def __init__(self, folder):
+    def __init__(self, folder: str) -> None:
         self.folder, self.count = folder, 0
         self.words = [
             "valgrind",
@@ -18,10 +20,10 @@ class Callgrind:
             f"--log-file={folder}/log",
         ]
 
-    def instructions(self, process, task):
+    def instructions(self, process: subprocess.Popen[bytes], task: Callable[[], None]) -> int:
         """How many the process takes for this."""
 
-        def command(*words):
+        def command(*words: str) -> None:
             said_by(["vgdb", f"--pid={process.pid}", *words], "vgdb")
 
         command("instrumentation", "on")
@@ -30,4 +32,4 @@ class Callgrind:
         command("instrumentation", "off")
         self.count += 1
         with open(f"{self.folder}/counts.{self.count}", encoding="utf-8") as source:
-            return int(re.search(r"^totals: (\d+)", source.read(), re.MULTILINE)[1])
+            return int(re.findall(r"^totals: (\d+)", source.read(), re.MULTILINE)[0])

@@ -1,44 +1,50 @@
 """The calls that are counted beside what there is, each kind by a client that came after all others."""
-from collections import namedtuple
 
-from beside import STEP, be_known, lock_runs
-from nfs4.client import BOTH, done, under, Wrong
-from nfs4.messages import CLOSE, NFS4_OK, RELEASE_LOCKOWNER, words
-from nfs4.wire import Status, u64
-from parties import ALL, FILE, NAME, OTHERS, TO_READ, Party
+from collections.abc import Callable
+from typing import NamedTuple
+
+from bench.beside import STEP, be_known, lock_runs
+from bench.clients import ALL, FILE, NAME, OTHERS, TO_READ, Party
+from helpers.expecting_client import BOTH, done, under, Wrong
+from nfs4tools.messages import CLOSE, NFS4_OK, RELEASE_LOCKOWNER, words
+from nfs4tools.wire import Status, u64
 
 # A state's number that is never given; and a byte in the middle of 1,000 runs, that touches none.
 NO_STATE, MIDDLE = 0xFFFFFFF0, STEP * 500 + STEP // 2
 
 
-def nothing(party):
+def nothing(party: Party) -> None:
     pass
 
 
-def open_and_close(party):
+def open_and_close(party: Party) -> None:
     party.open_file(FILE)
     party.close()
 
 
-def be_lent_it(party):
+def arrive(party: Party) -> None:
+    party.arrive()
+
+
+def be_lent_it(party: Party) -> None:
     """From here on its OPENs to read bring nothing more."""
     be_known(party)
     party.borrow_and_close(NAME)
     party.access = TO_READ
 
 
-def open_it(party):
+def open_it(party: Party) -> None:
     party.open_file(FILE)
 
 
-def hold_runs(party):
+def hold_runs(party: Party) -> None:
     """The runs that whoever is measured is to hold."""
     party.open_file(FILE)
     if party.scene.own_runs:
         lock_runs(party, party.scene.own_runs)
 
 
-def hold_a_lock_state(party):
+def hold_a_lock_state(party: Party) -> None:
     """With these runs, or none."""
     hold_runs(party)
     if not party.scene.own_runs:
@@ -46,57 +52,67 @@ def hold_a_lock_state(party):
         party.unlock_byte(MIDDLE)
 
 
-def lock_and_unlock(party):
+def lock_and_unlock(party: Party) -> None:
     party.lock_byte(MIDDLE)
     party.unlock_byte(MIDDLE)
 
 
-def test(party):
+def test(party: Party) -> None:
     party.test(u64(MIDDLE) + u64(1))
 
 
-def test_all(party):
+def test_all(party: Party) -> None:
     party.test(ALL)
 
 
-def close_once(party):
+def close_once(party: Party) -> None:
     party.open_file(FILE)
     party.closing = party.close_words(party.last + 1)
     party.close()
 
 
-def close_again(party):
+def close_again(party: Party) -> None:
     party.want(*under(FILE, party.closing, done(CLOSE, party.open_stateid())))
 
 
-def close_nothing(party):
+def close_nothing(party: Party) -> None:
     party.refuse(Status.BAD_STATEID, words(CLOSE, party.last + 1) + party.stateid(NO_STATE, 1))
 
 
-def reopen_oldest(party):
+def reopen_oldest(party: Party) -> None:
     owner = party.scene.openers.popleft()
     owner.close()
     owner.open_it(NAME)
     party.scene.openers.append(owner)
 
 
-def release_oldest(party):
+def release_oldest(party: Party) -> None:
     owner, locker = party.scene.idle.popleft()
     owner.locker = locker
     owner.want((owner.release_words(), done(RELEASE_LOCKOWNER)))
 
 
-def open_for_writing(party):
+def open_for_writing(party: Party) -> None:
     """Another file each time, of which all that is lent is called back."""
-    party.turn = getattr(party, "turn", -1) + 1
     status = party.open_by_name(OTHERS[party.turn], BOTH).status
+    party.turn += 1
     if status != (Status.DELAY if party.scene.lenders else NFS4_OK):
         raise Wrong(f"an OPEN gets status {status}")
 
 
-# In words; what is done once, and then again and again; how many calls that is; how often it is done, uncounted and
-# counted; and what has to be there.
-Kind = namedtuple("Kind", "what begin again calls before times alone", defaults=[""])
+class Kind(NamedTuple):
+    """In words; what is done once, and then again and again; how many calls that is; how often it is done,
+    uncounted and counted; and what has to be there."""
+
+    what: str
+    begin: Callable[[Party], None]
+    again: Callable[[Party], None]
+    calls: int
+    before: int
+    times: int
+    alone: str = ""
+
+
 KINDS = {
     "OPEN+CLOSE": Kind("for reading and writing", open_and_close, open_and_close, 2, 50, 250),
     "OPEN+CLOSE-to-read": Kind(
@@ -108,7 +124,7 @@ KINDS = {
     "LOCKT": Kind("of a byte, for reading", hold_runs, test, 1, 50, 500),
     "LOCKT-of-all": Kind("of all bytes, for reading", open_it, test_all, 1, 2, 20),
     "READ": Kind("of 4 KiB, by an open's stateid", open_it, Party.read, 1, 50, 500),
-    "SETCLIENTID+CONFIRM": Kind("of one id, by the same verifier", nothing, Party.arrive, 2, 50, 250),
+    "SETCLIENTID+CONFIRM": Kind("of one id, by the same verifier", nothing, arrive, 2, 50, 250),
     "CLOSE-again": Kind("one that was answered OK comes again", close_once, close_again, 1, 50, 500),
     "CLOSE-of-nothing": Kind("by the number of no state", close_once, close_nothing, 1, 50, 500),
     "oldest-CLOSE+OPEN": Kind(

@@ -5,9 +5,13 @@ import subprocess
 import textwrap
 import time
 from collections import defaultdict
+from collections.abc import Callable, Collection, Iterable, Sequence
 from statistics import median
+from typing import Any
 
 HERE = os.path.dirname(os.path.abspath(__file__))
+# What the load says of itself, as a line of JSON.
+Line = dict[str, Any]
 OURS, THEIRS, ECHO = "nfs4state", "nfs-ganesha", "echo"
 NAMES = {
     "null": "NULL",
@@ -44,17 +48,17 @@ OF_RATES = {"read", "write"}
 QUIET = 5
 
 
-def number(value):
+def number(value: float) -> str:
     """Three digits, or all before the point."""
     digits = 0 if value >= 100 else 1 if value >= 10 else 2
     return f"{value:,.{digits}f}"
 
 
-def spread(values):
+def spread(values: list[float]) -> str:
     return f"{number(median(values))} [{number(min(values))}..{number(max(values))}]"
 
 
-def quotients(values, others):
+def quotients(values: list[float], others: list[float]) -> list[float]:
     """The one by the other, round by round."""
     return [value / other for value, other in zip(values, others) if other > 0]
 
@@ -62,63 +66,68 @@ def quotients(values, others):
 class Cell:
     """A workload with so many connections and calls under way: the rounds of each server."""
 
-    def __init__(self, workload, connections, under_way):
+    def __init__(self, workload: str, connections: int, under_way: int) -> None:
         self.workload, self.connections, self.under_way = workload, connections, under_way
-        self.rounds = defaultdict(list)
+        self.rounds: dict[str, list[Line]] = defaultdict(list)
 
-    def values(self, server, field):
+    def values(self, server: str, field: str) -> list[float]:
         return [line[field] for line in self.rounds[server]]
 
-    def ratios(self, field):
+    def ratios(self, field: str) -> list[float]:
         """Ours by theirs."""
         return quotients(self.values(OURS, field), self.values(THEIRS, field))
 
-    def both(self, field, scale=1):
+    def both(self, field: str, scale: int = 1) -> str:
         """The medians of what is compared, one behind the other."""
         return "/".join(
             number(median(self.values(server, field)) / scale) for server in (OURS, THEIRS) if self.rounds[server]
         )
 
-    def latency(self, server):
+    def latency(self, server: str) -> str:
         return "/".join(number(median(self.values(server, field))) for field in ("p50", "p99"))
 
-    def pair(self):
+    def pair(self) -> tuple[int, int]:
         return self.connections, self.under_way
 
-    def bound(self, bounds, key):
+    def bound(self, bounds: dict[str, dict[Any, float]], key: object) -> float | None:
         return bounds.get(self.workload, {}).get(key)
 
 
 class Cells:
     """All that was measured, by workload, connections and calls under way."""
 
-    def __init__(self, lines):
-        self.found = {}
+    def __init__(self, lines: Sequence[Line]) -> None:
+        self.found: dict[tuple[str, int, int], Cell] = {}
         for line in lines:
-            key = line["workload"], line["connections"], line["under_way"]
-            self.found.setdefault(key, Cell(*key)).rounds[line["server"]].append(line)
+            key = (str(line["workload"]), int(line["connections"]), int(line["under_way"]))
+            self.found.setdefault(key, Cell(*key)).rounds[str(line["server"])].append(line)
 
-    def shapes(self):
+    def shapes(self) -> list[tuple[int, int]]:
         return sorted({cell.pair() for cell in self.found.values()})
 
-    def workloads(self):
+    def workloads(self) -> list[str]:
         return list(dict.fromkeys(cell.workload for cell in self.found.values()))
 
-    def values(self, server, field, workload, pair):
+    def values(self, server: str, field: str, workload: str, pair: tuple[int, int]) -> list[float]:
         cell = self.found.get((workload, *pair))
         return cell.values(server, field) if cell else []
 
-    def of_many(self, cell):
+    def of_many(self, cell: Cell) -> list[float]:
         """Our calls a second on many connections by those on one alone."""
         alone = self.values(OURS, "rate", cell.workload, ALONE)
         return quotients(cell.values(OURS, "rate"), alone) if cell.pair() == MANY else []
 
-    def of_echo(self, cell):
+    def of_echo(self, cell: Cell) -> list[float]:
         """Our processor time by that of the echo for NULL."""
         return quotients(cell.values(OURS, "processor"), self.values(ECHO, "processor", "null", cell.pair()))
 
 
-def beside(ratios, least=None, most=None, say=spread):
+def beside(
+    ratios: list[float],
+    least: float | None = None,
+    most: float | None = None,
+    say: Callable[[list[float]], str] = spread,
+) -> str:
     """A ratio, and if it misses its bound, that, both in bold."""
     if not ratios:
         return ""
@@ -127,16 +136,18 @@ def beside(ratios, least=None, most=None, say=spread):
     return f"**{say(ratios)}, wanted {bound:g}**" if is_missed else say(ratios)
 
 
-def of_median(values):
+def of_median(values: list[float]) -> str:
     return number(median(values))
 
 
-def markdown(head, rows):
+def markdown(head: list[str], rows: Iterable[list[str]]) -> str:
     lines = [head, ["---"] + ["--:"] * (len(head) - 1), *rows]
     return "".join(f"| {' | '.join(line)} |\n" for line in lines)
 
 
-def table(cells, say, of_echo, without=()):
+def table(
+    cells: Cells, say: Callable[[Cell], str], of_echo: Callable[[Cell], str], without: Collection[str] = ()
+) -> str:
     """A line for each kind of call, and one for the echo, with a column for each shape: what these say of a cell."""
     rows = []
     for workload in (it for it in cells.workloads() if it not in without):
@@ -149,27 +160,27 @@ def table(cells, say, of_echo, without=()):
     return markdown(["Calls", *(f"{connections}×{under_way}" for connections, under_way in cells.shapes())], rows)
 
 
-def rate(cell):
+def rate(cell: Cell) -> str:
     ratios = beside(cell.ratios("rate"), least=cell.bound(LEAST_RATES, cell.pair()))
     return f"{cell.both('rate', 1000)} {ratios}".strip()
 
 
-def latency(cell):
+def latency(cell: Cell) -> str:
     return " ".join(cell.latency(server) for server in (OURS, THEIRS) if cell.rounds[server])
 
 
-def processor(cell):
+def processor(cell: Cell) -> str:
     ratios = beside(cell.ratios("processor"), most=cell.bound(MOST_PROCESSOR, cell.under_way), say=of_median)
     return f"{cell.both('processor')} {ratios}".strip()
 
 
-def told(head, ratios):
+def told(head: str, ratios: Iterable[tuple[str, str]]) -> list[str]:
     """A line of ratios by their names, if there are any."""
     said = ", ".join(f"{name} {ratio}" for name, ratio in ratios if ratio)
     return [filled(f"{head}: {said}.")] if said else []
 
 
-def of_many(cells):
+def of_many(cells: Cells) -> list[str]:
     """Many connections by one alone, where as many calls are under way."""
     many, alone = ("×".join(map(str, pair)) for pair in (MANY, ALONE))
     return told(
@@ -182,7 +193,7 @@ def of_many(cells):
     )
 
 
-def of_echo(cells):
+def of_echo(cells: Cells) -> list[str]:
     """Processor time by the echo's."""
     return told(
         f"Of {OURS} by what NULL takes the echo",
@@ -197,7 +208,7 @@ def of_echo(cells):
     )
 
 
-def tables(lines, servers, how):
+def tables(lines: Sequence[Line], servers: Sequence[str], how: str) -> str:
     """The text for docs/MEASURED.md. A cell has the figures of nfs4state and of nfs-ganesha, and their ratio; a bold
     one misses the bound behind it."""
     cells, compared = Cells(lines), [server for server in (OURS, THEIRS) if server in servers]
@@ -216,11 +227,11 @@ def tables(lines, servers, how):
     return "\n\n".join(parts) + "\n"
 
 
-def filled(text):
+def filled(text: str) -> str:
     return textwrap.fill(text, 120)
 
 
-def others(lines):
+def others(lines: Sequence[Line]) -> str:
     shares = [line["others"] for line in lines]
     quiet = "was quiet" if max(shares) <= QUIET else "wasn't quiet"
     return (
@@ -229,7 +240,7 @@ def others(lines):
     )
 
 
-def machine():
+def machine() -> str:
     with open("/proc/cpuinfo") as file:
         models = [line.partition(":")[2].strip() for line in file if line.startswith("model name")]
     commit = said(["git", "-C", HERE, "describe", "--always", "--dirty"])
@@ -241,7 +252,7 @@ def machine():
     )
 
 
-def said(words):
+def said(words: Sequence[str]) -> str:
     try:
         return subprocess.run(words, capture_output=True, text=True).stdout.strip() or "unknown"
     except OSError:

@@ -1,19 +1,10 @@
 #!/usr/bin/env python3
-"""Runs rows through the model, and compares its replies with the replies that the rows want.
-
-The status is 1 if a row differs, or if a file can't be read. A row without orders must also get the same replies from
-a server that reaches nobody at the callback addresses: over TCP it may send callbacks at any time."""
-import argparse
+"""Runs `main` of nfs4tools.rows.check from this folder, without an installation."""
+import os
 import sys
 
-sys.dont_write_bytecode = True
-from packages import make_known
-
-make_known()
-
-from model.row_checks import check
+sys.path[:1] = [os.path.join(os.path.dirname(os.path.realpath(__file__)), "../src")]
+from nfs4tools.rows.check import main
 
 if __name__ == "__main__":
-    parser = argparse.ArgumentParser(description=__doc__, formatter_class=argparse.RawDescriptionHelpFormatter)
-    parser.add_argument("paths", nargs="+", metavar="FOLDER|FILE.rows")
-    sys.exit(check(parser.parse_args().paths))
+    sys.exit(main())

@@ -38,7 +38,7 @@ fn assert_no_next(rt: &impl Abort, records: &mut Records) {
     assert!(rt; records.next().is_none());
 }
 
-/// Three records, cut here and there. `tools/gate/test_growths.py` runs this with each of its growths refused in turn: a
+/// Three records, cut here and there. `test_growths.py` runs this with each of its growths refused in turn: a
 /// piece that is refused leaves all as it was, and is taken when it comes again.
 #[test]
 fn takes_records_cut_here_and_there(rt: HostRuntime) {

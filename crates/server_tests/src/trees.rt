@@ -36,7 +36,7 @@ fn has_attributes(alloc: Global, node: u32, mask: u32, values: &[u32]) -> Result
 }
 
 /// The text of a file; and changes and sizes of a file that was written to, of which a directory has none.
-/// `tools/gate/test_program.py` has the other attributes of each node.
+/// `test_program.py` has the other attributes of each node.
 #[test]
 fn nodes_have_attributes(rt: HostRuntime) -> Result<(), Fail> {
     let tree = Tree::from_toml(rt.alloc(), DEFAULT_TREE)?;

@@ -1,5 +1,0 @@
-"""The parts of tools/build_unproved, tools/build_proved and tools/release: programs that are built from a copy of the
-sources, in which each says what it is."""
-from nfs4.python_version import require_python
-
-require_python()

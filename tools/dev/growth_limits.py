@@ -1,0 +1,51 @@
+"""Counts four things that grow by a little at a time, and compares each with its bound (`BOUNDS`).
+
+A count above its bound is reported. If it is above by more than a tenth, or can't be counted, the status is 1.
+
+1. The functions of the layers above the core. They are in nfs_core, nfs_leases, nfs_shared, nfs_server and
+   nfs_threads. Their names have one of these words: call, renew, sweep, expire, expiry, revoke, revocation, mark,
+   probe, callback, has_delegation, take.
+
+   Methods count, also if a trait declares them without a body. A function's lines begin with the comment before it.
+   Its clauses are each `requires` and `ensures` in it.
+2. The calls from `serve_on` over TCP to GETATTR's own rule: the functions that tools/dev/call_chain lists, with these two.
+   Each function has to be in its file, and its body, with the closures in it, has to call the next function by its
+   name.
+
+   No body may call a later function of the chain, if only one function has that name. The chain would be longer than
+   the way.
+3. The shared lines of the kind of entry `Path`: lines of `src` and `specs` with a word of the kind, in files that
+   aren't the kind's own. Comments don't count.
+
+   The words are Path, MarksPath, IsPathMark, MarksKeepClients, path_of, marks_keep_clients, and names with the whole
+   words mark_path or path_mark. The files are in `OWN`. The number of these lines with whole functions is printed,
+   too, and has no bound.
+4. The shared lines of GETATTR and of READ: lines of `src` and `specs` that name the operation outside a comment, in a
+   file that is no operation's own.
+
+   A line names the operation as a member of types and lists of operations, by the module of its file, or by a type of
+   its file in nfs_operations. These counts have no bound.
+
+Tests don't count, nor do the crates of tests and the program `rows`."""
+import argparse
+
+from dev.growth import counts
+
+BOUNDS = {"functions": 55, "calls": 30, "lines": 63}
+# By which part of a bound a count may be above it.
+SLACK = 0.1
+
+
+def main() -> int:
+    parser = argparse.ArgumentParser(description=__doc__, formatter_class=argparse.RawDescriptionHelpFormatter)
+    parser.add_argument("--list", action="store_true", help="print what was counted as well")
+    given = parser.parse_args()
+    is_well = True
+    for count in counts():
+        bound = BOUNDS.get(count.name, count.number)
+        is_above = count.number > bound * (1 + SLACK)
+        print(count.told + f"; above {bound}" * (count.number > bound) + ", by more than a tenth" * is_above)
+        print("".join(f"    {line}\n" for line in count.listed if given.list), end="")
+        print("".join(f"growth_limits: {count.name}: {line}\n" for line in count.wrong), end="")
+        is_well = is_well and not is_above and not count.wrong
+    return 0 if is_well else 1

@@ -1,0 +1,1 @@
+from nfs4tools.client import *

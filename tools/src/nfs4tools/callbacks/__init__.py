@@ -1,0 +1,1 @@
+"""Calls that a server makes to its clients, and a listener for them."""

@@ -1,0 +1,1 @@
+"""Journals: their entries, their file, the audit, and entries as text."""

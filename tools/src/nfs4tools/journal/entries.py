@@ -1,0 +1,269 @@
+"""The entries of a journal as bytes: docs/JOURNAL.md has the layout. `nfs4tools.wire` has the forms of the operations'
+arguments; what this server's answers may be is here.
+
+There is one spelling: what is read here is written again by the same bytes, so padding has to be zero.
+"""
+from collections.abc import Callable
+from typing import Annotated, Any, NamedTuple
+
+from nfs4tools import wire
+from nfs4tools.model.server import CHANGING_DIRECTORIES, STATEFUL_BY_PROFILE
+from nfs4tools.model.tree import CLIENTS, Tree
+from nfs4tools.wire import (
+    Bool,
+    FORMS,
+    Form,
+    OPEN_DELEGATE_NONE,
+    OPEN_DELEGATE_WRITE,
+    OpenOwner,
+    Opnum,
+    Principal,
+    STATEID,
+    Stateid,
+    Status,
+    Unreadable,
+    Word,
+    form_of,
+    u32,
+    u64,
+)
+
+MOMENT_LIMIT = 2**40 - 2
+
+# The statuses that an answer may have; and those of an operation without a rule that changes directories.
+STATUSES = wire.GIVEN_STATUSES
+WITHOUT_RULE = dict.fromkeys(CHANGING_DIRECTORIES, {Status.NOTSUPP, Status.ROFS})
+
+# How the bytes of the arguments are written, of each operation that makes an entry.
+ARGUMENT_BYTES = {opnum: FORMS[opnum].write for opnum in STATEFUL_BY_PROFILE[CLIENTS]}
+
+
+class NotJournal(Unreadable):
+    """The bytes are no journal; the argument says why."""
+
+
+class EndsEarly(NotJournal):
+    """The bytes may be the beginning of a journal, or of a part of one."""
+
+
+class StrictReader(wire.Reader):
+    """Takes values that have one spelling, and says what is wrong with them."""
+
+    def fixed(self, count: int) -> bytes:
+        end = self.at + count
+        if end > len(self.data):
+            raise EndsEarly("it ends too early")
+        value, self.at = self.data[self.at : end], end
+        return value
+
+    def opaque(self, limit: int = 2**32 - 1) -> bytes:
+        if int.from_bytes(self.data[self.at : self.at + 4], "big") > limit:
+            raise NotJournal(f"more than {limit} bytes")
+        value = super().opaque(limit)
+        padding = -len(value) % 4
+        if any(self.data[self.at - padding : self.at]):
+            raise NotJournal("padding that isn't zero")
+        return value
+
+    def bitmap(self) -> tuple[int, ...]:
+        return tuple(self.u32() for _ in range(self.u32()))
+
+    def one_of(self, count: int, first: int = 0) -> int:
+        number = self.u32()
+        if not first <= number < first + count:
+            raise NotJournal(f"a number that isn't {first} to {first + count - 1}")
+        return number
+
+    def fixed_words(self, *words: int) -> None:
+        """Words that the layout leaves no choice of."""
+        if self.fixed(4 * len(words)) != u32(*words):
+            raise NotJournal("other words than the layout has")
+
+
+# The entries by their kinds.
+
+
+def read_moment(reader: wire.Reader) -> int:
+    moment = reader.u64()
+    if moment >= MOMENT_LIMIT:
+        raise NotJournal("a moment of 2^40 - 2 or more")
+    return moment
+
+
+Moment = Annotated[int, Form(read_moment, u64)]
+
+
+class Answer(NamedTuple):
+    """The operation that is answered, by its number; the status; and the bytes after it."""
+
+    number: int
+    status: int
+    rest: bytes
+
+
+class Call(NamedTuple):
+    """A request with its answer: when it came, who sent it, and the current filehandle's node, or None."""
+
+    moment: int
+    principal: Principal
+    filehandle: int | None
+    opnum: Opnum
+    arguments: Any
+    answer: Answer
+
+
+class Expire(NamedTuple):
+    """A client's lease is over: it was seen last, and now it is removed."""
+
+    client: Word
+    seen: Moment
+    now: Moment
+
+
+class Revoke(NamedTuple):
+    """A delegation that was called back and not given back is taken."""
+
+    state: Word
+    now: Moment
+
+
+class Path(NamedTuple):
+    """A client can be called back, or can't."""
+
+    client: Word
+    is_up: Bool
+
+
+class Forget(NamedTuple):
+    """An open owner without opens is forgotten."""
+
+    owner: OpenOwner
+    now: Moment
+
+
+Entry = Call | Expire | Revoke | Path | Forget
+# The numbers of the kinds, and the forms of all but a Call.
+CALL = 1
+EXPIRE = 2
+REVOKE = 3
+PATH = 4
+FORGET = 5
+NUMBERS = {Expire: EXPIRE, Revoke: REVOKE, Path: PATH, Forget: FORGET}
+ENTRIES = {number: form_of(kind) for kind, number in NUMBERS.items()}
+
+
+# What follows the status of an answer, by the operation and the status; for all others nothing does.
+
+
+def read_delegation(reader: StrictReader) -> tuple[int, Stateid | None]:
+    """Its kind, and its stateid if there is one. What the server can't choose of a delegation is fixed: it isn't called
+    back, its space is 65,536 bytes, and its access list entry permits nobody anything."""
+    kind, stateid = reader.one_of(3), None
+    if kind != OPEN_DELEGATE_NONE:
+        stateid = STATEID.read(reader)
+        reader.fixed_words(0)
+    if kind == OPEN_DELEGATE_WRITE:
+        reader.fixed_words(1, 0, 65536)
+    if kind != OPEN_DELEGATE_NONE:
+        reader.fixed_words(0, 0, 0, 0)
+    return kind, stateid
+
+
+def read_open_answer(reader: StrictReader) -> tuple[int, Stateid | None]:
+    """The delegation that it brings."""
+    STATEID.read(reader), reader.one_of(2), reader.u64(), reader.u64()
+    reader.u32(), reader.bitmap()
+    return read_delegation(reader)
+
+
+def delegation_given(entry: Entry) -> tuple[int, Stateid] | None:
+    """The kind and the stateid of the delegation that an entry gives, or None."""
+    if not isinstance(entry, Call) or (entry.answer.number, entry.answer.status) != (Opnum.OPEN, Status.OK):
+        return None
+    kind, stateid = read_open_answer(StrictReader(entry.answer.rest))
+    return None if stateid is None else (kind, stateid)
+
+
+RESTS: dict[tuple[int, int], Callable[[Any], Any]] = {
+    **{(number, Status.OK): read for number, read in wire.RESULTS.items() if number in wire.ARGUMENTS},
+    **wire.OTHER_RESULTS,
+    (Opnum.OPEN, Status.OK): read_open_answer,
+    # How many bytes were written, how safe they are by stable_how4, and the verifier.
+    (Opnum.WRITE, Status.OK): lambda r: (r.u32(), r.one_of(3), r.u32(), r.u32()),
+    **{(Opnum.SETATTR, status): lambda r: r.bitmap() for status in STATUSES},
+}
+
+
+def read_answer(reader: StrictReader) -> Answer:
+    number, status = reader.u32(), reader.u32()
+    if not 3 <= number <= 39 and number != Opnum.ILLEGAL:
+        raise NotJournal("an answer to no operation")
+    if status not in STATUSES:
+        raise NotJournal("no status")
+    has_rule = number in wire.ARGUMENTS or number == Opnum.ILLEGAL
+    if not has_rule and status not in WITHOUT_RULE.get(number, {Status.NOTSUPP}):
+        raise NotJournal("an operation without a rule has another answer than NOTSUPP")
+    begin = reader.at
+    RESTS.get((number, status), lambda r: None)(reader)
+    return Answer(number, status, reader.data[begin : reader.at])
+
+
+def answer_bytes(answer: Answer) -> bytes:
+    return u32(answer.number, answer.status) + answer.rest
+
+
+# Calls. `nodes` is how many there are, with the root; which operations make an entry hangs on the profile.
+
+
+def read_principal(reader: StrictReader) -> Principal:
+    flavor, uid = reader.one_of(2), reader.u32()
+    if flavor == wire.AUTH_NONE and uid != 0:
+        raise NotJournal("a uid after AUTH_NONE")
+    return flavor, uid
+
+
+def read_filehandle(reader: StrictReader, nodes: int) -> int | None:
+    is_present, node = reader.one_of(2), reader.u32()
+    if not is_present and node != 0:
+        raise NotJournal("a node without a filehandle")
+    if node >= nodes:
+        raise NotJournal("a node that isn't there")
+    return node if is_present else None
+
+
+def read_operation(reader: StrictReader, profile: str) -> tuple[Opnum, Any]:
+    number = reader.u32()
+    if number not in STATEFUL_BY_PROFILE[profile]:
+        raise NotJournal("an operation that makes no entry")
+    return Opnum(number), wire.ARGUMENTS[number](reader)
+
+
+def read_call(reader: StrictReader, tree: Tree) -> Call:
+    moment, principal = read_moment(reader), read_principal(reader)
+    filehandle, operation = read_filehandle(reader, len(tree.nodes)), read_operation(reader, tree.policy.profile)
+    return Call(moment, principal, filehandle, *operation, read_answer(reader))
+
+
+def request_bytes(call: Call) -> bytes:
+    """A call up to its answer."""
+    filehandle = u32(0, 0) if call.filehandle is None else u32(1, call.filehandle)
+    head = u64(call.moment) + u32(*call.principal) + filehandle
+    return head + u32(call.opnum) + ARGUMENT_BYTES[call.opnum](call.arguments)
+
+
+def read_entry(reader: StrictReader, tree: Tree, has_forgets: bool = True) -> Entry:
+    """The next entry of a journal over this tree. Journals of an earlier version have no Forget."""
+    kind = reader.u32()
+    if kind == CALL:
+        return read_call(reader, tree)
+    if kind not in ENTRIES or kind == FORGET and not has_forgets:
+        raise NotJournal("no kind of entry")
+    entry: Entry = ENTRIES[kind].read(reader)
+    return entry
+
+
+def entry_bytes(entry: Entry) -> bytes:
+    if isinstance(entry, Call):
+        return u32(CALL) + request_bytes(entry) + answer_bytes(entry.answer)
+    number = NUMBERS[type(entry)]
+    return u32(number) + ENTRIES[number].write(entry)

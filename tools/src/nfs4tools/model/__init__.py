@@ -1,0 +1,1 @@
+"""The independent model of the server, and its journals (README.md)."""

@@ -1,0 +1,40 @@
+"""PUTROOTFH, PUTFH, LOOKUP, GETFH, SAVEFH and RESTOREFH (sections 16.22, 16.20, 16.13, 16.8, 16.30 and 16.29)."""
+from nfs4tools.model.state import State
+from nfs4tools.model.states import Filehandles, Refusal, expect_filehandle, handle_of
+from nfs4tools.wire import Lookup, Nothing, Putfh, Status, opaque
+
+
+def putrootfh(_server: State, _arguments: Nothing, handles: Filehandles) -> bytes:
+    handles.current = 0
+    return b""
+
+
+def putfh(server: State, arguments: Putfh, handles: Filehandles) -> bytes:
+    nodes = range(len(server.tree.nodes))
+    found = next((node for node in nodes if handle_of(node) == arguments.filehandle), None)
+    if found is None:
+        raise Refusal(Status.BADHANDLE)
+    handles.current = found
+    return b""
+
+
+def lookup(server: State, arguments: Lookup, handles: Filehandles) -> bytes:
+    directory = expect_filehandle(handles.current)
+    handles.current = server.named(directory, arguments.name, Status.NOENT)
+    return b""
+
+
+def getfh(_server: State, _arguments: Nothing, handles: Filehandles) -> bytes:
+    return opaque(handle_of(expect_filehandle(handles.current)))
+
+
+def savefh(_server: State, _arguments: Nothing, handles: Filehandles) -> bytes:
+    handles.saved = expect_filehandle(handles.current)
+    return b""
+
+
+def restorefh(_server: State, _arguments: Nothing, handles: Filehandles) -> bytes:
+    if handles.saved is None:
+        raise Refusal(Status.RESTOREFH)
+    handles.current = handles.saved
+    return b""
