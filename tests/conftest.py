@@ -4,6 +4,7 @@ are judged by a clock, by memory or by processor time, and run beside nothing el
 import os
 import signal
 import sys
+import threading
 from collections import Counter, defaultdict
 from collections.abc import Callable, Iterator
 from functools import cache, partial
@@ -14,6 +15,7 @@ import pytest
 
 from helpers.needs import expect_programs, pytest_addoption, pytest_runtest_setup, require
 from helpers.preload import preloading
+from helpers.refused_allocations import Memory
 from nfs4tools.built import SERVER
 from nfs4tools.processes import PROGRAM, TOP
 from nfs4tools.program import Program
@@ -38,8 +40,10 @@ def pytest_configure(config: pytest.Config) -> None:
         "`alone` are left out with `-m quick`",
     )
     expect_programs(config.getoption("--all-built"))
-    # Where the tests are ended, so are the servers.
-    signal.signal(signal.SIGTERM, lambda *_: sys.exit(1))
+    # If the tests are ended, so are the servers. A busy machine may begin a worker of xdist in another thread, which
+    # can't set this.
+    if threading.current_thread() is threading.main_thread():
+        signal.signal(signal.SIGTERM, lambda *_: sys.exit(1))
 
 
 def pytest_collection_modifyitems(config: pytest.Config, items: list[pytest.Item]) -> None:
@@ -104,11 +108,17 @@ def path_of() -> Iterator[Callable[[str], str]]:
 
 @pytest.fixture(scope="session")
 def preloaded(tmp_path_factory: pytest.TempPathFactory) -> Callable[..., dict[str, str]]:
-    """The environment in which a program is loaded with a library that is made of this file of helpers/preloaded, once, and with
-    these variables. CC names the compiler, if it isn't cc."""
+    """The environment in which a program is loaded with a library that is made of this file of helpers/preloaded, once,
+    and with these variables. CC names the compiler, if it isn't cc."""
     folder = str(tmp_path_factory.mktemp("libraries"))
     environment = cache(lambda source: preloading(os.path.join(TOP, "tests/helpers/preloaded", source), folder))
     return lambda source, **variables: {**environment(source), **variables}
+
+
+@pytest.fixture(scope="session")
+def memory(tmp_path_factory: pytest.TempPathFactory, preloaded: Callable[..., dict[str, str]]) -> Memory:
+    """The memory of programs, of which allocations are refused."""
+    return Memory(str(tmp_path_factory.mktemp("memory")), preloaded("refuse_allocation.c"))
 
 
 @pytest.fixture

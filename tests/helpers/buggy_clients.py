@@ -2,307 +2,52 @@
 the same sessions beside a client that has none. The finding is the one that a reader of RFC 7530 would name."""
 from typing import NamedTuple
 
-from helpers.bug_sessions import A, Session, with_delegations, with_files, with_locks, with_pauses
+from helpers.bug_sessions import Session, with_delegations, with_files, with_locks, with_pauses
+from helpers.buggy_sequence_ids import (
+    AddsTwo,
+    BeginsAgainAfterClose,
+    CountsAll,
+    CountsAtSending,
+    CountsNoFilehandle,
+    IdPerFile,
+    KeepsIdAfter,
+    KeepsIdAfterDelay,
+    KeepsIdAfterOldStateid,
+    KeepsIdAfterShareDenied,
+    LockLeavesOpenOwner,
+    LocksByOpenOwnersId,
+    NeverAdds,
+    NewIdForLostClose,
+    NewIdForLostOpen,
+    NewIdForLostUnlock,
+    OneIdForAll,
+    SixteenBits,
+)
+from helpers.buggy_stateids import (
+    ClosesByLock,
+    CountsStateids,
+    KeepsStateidAfter,
+    KeepsStateidAfterDowngrade,
+    KeepsStateidAfterLock,
+    KeepsStateidAfterOpen,
+    ReadsAfterClose,
+    ReadsByLastOpen,
+    ReturnsByOpen,
+    SeqidOfZero,
+    StaysAtFirstFile,
+    SwapsNumber,
+    UnlocksAfterClose,
+    UnlocksByOpen,
+    UsesReturnedDelegation,
+)
 from helpers.judge_servers import Setting
 from helpers.right_client import ENDLESS, Held, Lent, Locked, Opened, Owner, RightClient, Share, Span, Steps
-from nfs4tools.wire import BOTH, Close, OPEN_DELEGATE_WRITE, Opnum, READ, SetclientidConfirm, Stateid, Status
+from nfs4tools.wire import BOTH, OPEN_DELEGATE_WRITE, Opnum, READ, SetclientidConfirm, Status
 
 # Of what no journal shows.
 NOT_TOLD = ""
 LENDING, LENDING_SHORT = Setting(delegations="all"), Setting(lease=2, delegations="all")
 SHORT, REFUSING = Setting(lease=2), Setting(close_locks="refuse")
-
-
-# Bugs of sequence ids.
-
-
-class LockLeavesOpenOwner(RightClient):
-    """A LOCK of a new lock owner counts for the lock owner alone."""
-
-    def count(self, owner: Owner, seqid: int, opnum: Opnum, status: int) -> None:
-        if opnum != Opnum.LOCK or owner not in self.owners.values():
-            super().count(owner, seqid, opnum, status)
-
-
-class CountsAll(RightClient):
-    """Each answer counts; and a confirmation is sent again, as if its reply had been lost."""
-
-    def counts(self, opnum: Opnum, status: int) -> bool:
-        return True
-
-    def confirming(self, opened: Opened) -> Steps[int]:
-        status = yield from super().confirming(opened)
-        if opened.path == A:
-            yield from super().confirming(opened)
-        return status
-
-
-class CountsNoFilehandle(RightClient):
-    """A CLOSE without a filehandle first, and then a right one with the next sequence id."""
-
-    def closing(self, opened: Opened) -> Steps[int]:
-        seqid = self.next_id(opened.owner, Opnum.CLOSE)
-        results = yield [(Opnum.CLOSE, Close(seqid, opened.stateid))]
-        opened.owner.seqid = seqid
-        if results[-1].status == Status.NOFILEHANDLE:
-            status = yield from super().closing(opened)
-            opened.owner.seqid = seqid if status == Status.OK else seqid - 1
-        return (yield from super().closing(opened))
-
-
-class KeepsIdAfter(RightClient):
-    """One refusal doesn't count that does."""
-
-    refusal = Status.DENIED
-
-    def counts(self, opnum: Opnum, status: int) -> bool:
-        return super().counts(opnum, status) and status != self.refusal
-
-
-class KeepsIdAfterShareDenied(KeepsIdAfter):
-    refusal = Status.SHARE_DENIED
-
-
-class KeepsIdAfterDelay(KeepsIdAfter):
-    refusal = Status.DELAY
-
-
-class KeepsIdAfterOldStateid(KeepsIdAfter):
-    """It meets OLD_STATEID since it downgrades by the stateid before the last, and then uses the last."""
-
-    refusal = Status.OLD_STATEID
-    is_old = True
-
-    def stateid_for(self, opnum: Opnum, held: Held) -> Stateid:
-        self.is_old = opnum == Opnum.OPEN_DOWNGRADE and self.is_old
-        return held.stateid._replace(seqid=held.stateid.seqid - 1) if self.is_old else held.stateid
-
-    def downgrading(self, opened: Opened, share: Share) -> Steps[int]:
-        self.is_old = True
-        status = yield from super().downgrading(opened, share)
-        if status == Status.OLD_STATEID:
-            self.is_old = False
-            status = yield from super().downgrading(opened, (BOTH, 0))
-        return status
-
-
-class OneIdForAll(RightClient):
-    """The open owners have their sequence ids from one counter."""
-
-    last = 0
-
-    def next_id(self, owner: Owner, opnum: Opnum) -> int:
-        return self.last + 1
-
-    def count(self, owner: Owner, seqid: int, opnum: Opnum, status: int) -> None:
-        self.last = seqid
-
-
-class LocksByOpenOwnersId(RightClient):
-    """A lock owner's next sequence id is that of the open owner."""
-
-    def next_id(self, owner: Owner, opnum: Opnum) -> int:
-        is_locker = owner in self.lockers.values()
-        return super().next_id(self.owners[b"A"] if is_locker else owner, opnum)
-
-
-class IdPerFile(RightClient):
-    """Each open has a counter of its own."""
-
-    def opening(
-        self, owner: Owner, path: tuple[bytes, ...], share: Share = (BOTH, 0), lent: Lent | None = None
-    ) -> Steps[int]:
-        by_file = self.owners.setdefault(owner.name + path[-1], Owner(owner.name))
-        return (yield from super().opening(by_file, path, share, lent))
-
-
-class BeginsAgainAfterClose(RightClient):
-    """The owner's sequence ids begin again when its last file is closed."""
-
-    def closing(self, opened: Opened) -> Steps[int]:
-        status = yield from super().closing(opened)
-        opened.owner.seqid = 0
-        return status
-
-
-class SixteenBits(RightClient):
-    """Sequence ids are counted in sixteen bits."""
-
-    def owner(self, name: bytes) -> Owner:
-        return self.owners.setdefault(name, Owner(name, 2**16 - 4))
-
-    def next_id(self, owner: Owner, opnum: Opnum) -> int:
-        return super().next_id(owner, opnum) % 2**16
-
-
-class AddsTwo(RightClient):
-    """One is added for each operation of the COMPOUND that has a sequence id, and one for the COMPOUND."""
-
-    def next_id(self, owner: Owner, opnum: Opnum) -> int:
-        return owner.seqid + (1 if opnum == Opnum.OPEN else 2)
-
-
-class NeverAdds(RightClient):
-    """Requests behind the OPEN have its sequence id."""
-
-    def count(self, owner: Owner, seqid: int, opnum: Opnum, status: int) -> None:
-        owner.seqid = 0
-
-
-class CountsAtSending(RightClient):
-    """A refused LOCK counts twice: when it is sent, and when it is answered."""
-
-    def count(self, owner: Owner, seqid: int, opnum: Opnum, status: int) -> None:
-        owner.seqid = seqid + (status == Status.DENIED)
-
-
-class NewIdForLostOpen(RightClient):
-    """The reply to an OPEN is lost, and it is sent again with the next sequence id, which no server refuses."""
-
-    def opening(
-        self, owner: Owner, path: tuple[bytes, ...], share: Share = (BOTH, 0), lent: Lent | None = None
-    ) -> Steps[int]:
-        if owner.is_confirmed:
-            yield from super().opening(owner, path, share, lent)
-        return (yield from super().opening(owner, path, share, lent))
-
-
-class NewIdForLostUnlock(RightClient):
-    """The same of a LOCKU. The stateid is still the one before, which shows it."""
-
-    def unlocking(self, held: Locked, offset: int = 0, length: int = ENDLESS) -> Steps[int]:
-        before = held.stateid
-        yield from super().unlocking(held, offset, length)
-        now, held.stateid = held.stateid, before
-        yield from super().unlocking(held, offset, length)
-        held.stateid = now
-        return Status.OK
-
-
-class NewIdForLostClose(RightClient):
-    """The same of a CLOSE."""
-
-    def closing(self, opened: Opened) -> Steps[int]:
-        yield from super().closing(opened)
-        return (yield from super().closing(opened))
-
-
-# Bugs of stateids.
-
-
-class KeepsStateidAfter(RightClient):
-    """The stateid that one operation answers isn't taken."""
-
-    opnum = Opnum.OPEN_CONFIRM
-
-    def keep(self, opnum: Opnum, held: Held, stateid: Stateid) -> None:
-        if opnum != self.opnum or held.stateid == stateid:
-            super().keep(opnum, held, stateid)
-
-
-class KeepsStateidAfterOpen(KeepsStateidAfter):
-    opnum = Opnum.OPEN
-
-
-class KeepsStateidAfterDowngrade(KeepsStateidAfter):
-    opnum = Opnum.OPEN_DOWNGRADE
-
-
-class KeepsStateidAfterLock(KeepsStateidAfter):
-    opnum = Opnum.LOCK
-
-
-class UnlocksByOpen(RightClient):
-    def stateid_for(self, opnum: Opnum, held: Held) -> Stateid:
-        return held.opened.stateid if opnum == Opnum.LOCKU and isinstance(held, Locked) else held.stateid
-
-
-class ClosesFirst(RightClient):
-    """It gives up its opens before its lock owners."""
-
-    def leaving(self) -> Steps[None]:
-        for opened in list(self.opens):
-            yield from self.freeing(opened)
-            yield from self.closing(opened)
-        yield from super().leaving()
-
-    def freeing(self, opened: Opened) -> Steps[None]:
-        for held in opened.locks:
-            yield from self.unlocking(held)
-
-
-class ClosesByLock(ClosesFirst):
-    """What the client has of a file has one place for a stateid, and the last one that came stands there."""
-
-    def stateid_for(self, opnum: Opnum, held: Held) -> Stateid:
-        last = held.locks[-1] if opnum == Opnum.CLOSE and isinstance(held, Opened) and held.locks else held
-        return last.stateid
-
-
-class ReturnsByOpen(RightClient):
-    def stateid_for(self, opnum: Opnum, held: Held) -> Stateid:
-        return self.opens[-1].stateid if opnum == Opnum.DELEGRETURN and self.opens else held.stateid
-
-
-class ReadsByLastOpen(RightClient):
-    """The stateid of the file that was opened last, whatever is read."""
-
-    def stateid_for(self, opnum: Opnum, held: Held) -> Stateid:
-        return self.opens[-1].stateid if opnum == Opnum.READ and self.opens else held.stateid
-
-
-class StaysAtFirstFile(RightClient):
-    """WRITE has the filehandle of the first file."""
-
-    def handle_for(self, opnum: Opnum, held: Held) -> bytes:
-        return self.opens[0].handle if opnum == Opnum.WRITE and self.opens else held.handle
-
-
-class ReadsAfterClose(RightClient):
-    def closing(self, opened: Opened) -> Steps[int]:
-        status = yield from super().closing(opened)
-        yield from self.reading(opened)
-        return status
-
-
-class UnlocksAfterClose(ClosesFirst):
-    def closing(self, opened: Opened) -> Steps[int]:
-        status = yield from super().closing(opened)
-        for held in opened.locks:
-            yield from self.unlocking(held)
-        return status
-
-
-class SwapsNumber(RightClient):
-    """A part of the stateid is read by the wrong order of bytes."""
-
-    def stateid_for(self, opnum: Opnum, held: Held) -> Stateid:
-        swapped = int.from_bytes(held.stateid.number.to_bytes(4, "big"), "little")
-        return held.stateid._replace(number=swapped) if opnum == Opnum.READ else held.stateid
-
-
-class CountsStateids(RightClient):
-    """The client raises a stateid's seqid itself, at each WRITE."""
-
-    def stateid_for(self, opnum: Opnum, held: Held) -> Stateid:
-        if opnum == Opnum.WRITE:
-            held.stateid = held.stateid._replace(seqid=held.stateid.seqid + 1)
-        return held.stateid
-
-
-class SeqidOfZero(RightClient):
-    """A seqid of 0 is the present one, as in NFSv4.1."""
-
-    def stateid_for(self, opnum: Opnum, held: Held) -> Stateid:
-        return held.stateid._replace(seqid=0) if opnum in (Opnum.READ, Opnum.WRITE) else held.stateid
-
-
-class UsesReturnedDelegation(RightClient):
-    def giving_back(self, lent: Lent) -> Steps[int]:
-        status = yield from super().giving_back(lent)
-        yield from self.reading(lent)
-        return status
-
 
 # Bugs of confirmations, locks and shares.
 

@@ -1,9 +1,10 @@
-"""Steps of a long conversation: operations, with the results that are wanted of them; and the COMPOUNDs that they make."""
+"""Steps of a long conversation: operations, with the results that are wanted of them; and the COMPOUNDs that they
+make."""
 from collections.abc import Iterable, Iterator
 from typing import Any
 
 from nfs4tools import messages, wire
-from nfs4tools.model.states import handle_of
+from nfs4tools.model.state_parts import handle_of
 from nfs4tools.wire import Opnum, Status, opaque, u32, u64
 
 # An operation, with the result that is wanted of it.

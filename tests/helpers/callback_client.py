@@ -20,7 +20,7 @@ from nfs4tools.messages import (
     words,
 )
 from nfs4tools.model.operations.open import CONFIRM
-from nfs4tools.model.states import Recall
+from nfs4tools.model.state_parts import Recall
 from nfs4tools.processes import REPLY_PATIENCE
 from nfs4tools.wire import AUTH_NONE, AUTH_SYS, Callback, FORMS, Stateid, opaque
 
@@ -51,12 +51,16 @@ class Borrower(Client):
 
     def introduce(self, callback: Callback, verifier: bytes = VERIFIER) -> None:  # type: ignore[override]
         """SETCLIENTID with this callback, and SETCLIENTID_CONFIRM; also once more, with another one."""
+        self.want((self.identify(callback, verifier), done(SETCLIENTID_CONFIRM)))
+
+    def identify(self, callback: Callback, verifier: bytes = VERIFIER) -> bytes:
+        """SETCLIENTID with this callback: the operation that confirms it."""
         found = self.ask(words(SETCLIENTID) + FORMS[SETCLIENTID].write((verifier, self.name, callback)))
         if len(found) < 15:
             raise Wrong(f"{self.name!r} gets {self.got[-1].hex(' ', 4)} for SETCLIENTID")
         self.number, confirm, self.callback = found[12], found[14], callback
         self.expect(NFS4_OK, [(b"", given(self.epoch, self.number, confirm))])
-        self.want((confirmation(self.epoch, self.number, confirm), done(SETCLIENTID_CONFIRM)))
+        return confirmation(self.epoch, self.number, confirm)
 
     def open_by_name(self, name: bytes, access: int, deny: int = NONE) -> Opened:
         """OPEN by the owner's next sequence id, and OPEN_CONFIRM where that is wanted."""

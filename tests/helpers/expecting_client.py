@@ -1,7 +1,7 @@
 """A client with opens and locks of its own, on a connection: it knows each reply that it has to get, but for the
 numbers that the server gives it."""
-from collections.abc import Sequence
-from typing import Any
+from collections.abc import Iterable, Sequence
+from typing import Any, TypeVar
 
 from nfs4tools.messages import (
     CLOSE,
@@ -45,6 +45,17 @@ Pair = tuple[bytes, bytes]
 
 class Wrong(Exception):
     """What is wrong with an outcome."""
+
+
+T = TypeVar("T")
+
+
+def some(cases: Iterable[T]) -> list[T]:
+    """The cases of a test, of which there have to be some: with none of them it would show nothing."""
+    found = list(cases)
+    if not found:
+        raise Wrong("the test has no cases")
+    return found
 
 
 def numbers_of(reply: bytes) -> list[int]:

@@ -1,5 +1,5 @@
-"""The commands of README.md and of docs/CLIENTS.md that have a `$` before them, run as a reader runs them, with what they
-print compared to the page.
+"""The commands of README.md and of docs/CLIENTS.md that have a `$` before them, run as a reader runs them, with what
+they print compared to the page.
 
 A port of the system's choice takes the place of the page's, and a folder of the test that of /tmp. A server or a
 capture goes on while the commands after it run. A server's input ends before its journal is read, or another server
@@ -32,6 +32,7 @@ PATIENCE = 120
 # What may differ from run to run: moments, uids, the numbers of frames, and a journal's file.
 VARYING: list[tuple[str | re.Pattern[str], str]] = [
     (NAMED, ""),
+    (r"moment 0 at \S+Z", "moment 0 at TIME"),
     (r"moment \d+", "moment N"),
     (r"AUTH_SYS \d+", "AUTH_SYS N"),
     (r"In \d+", "In N"),

@@ -9,3 +9,9 @@ def preloading(source: str, folder: str, **variables: str) -> dict[str, str]:
     library = os.path.join(folder, os.path.basename(source) + ".so")
     subprocess.run([os.environ.get("CC", "cc"), "-O1", "-shared", "-fPIC", "-o", library, source, "-ldl"], check=True)
     return {**os.environ, "LD_PRELOAD": library, **variables}
+
+
+def is_loaded(pid: int, environment: dict[str, str]) -> bool:
+    """Whether the library of this environment is in the process: without it a test would pass that shows nothing."""
+    with open(f"/proc/{pid}/maps", encoding="utf-8") as maps:
+        return environment.get("LD_PRELOAD", "no library is named") in maps.read()

@@ -1,5 +1,5 @@
 """Random calls to a built `nfs4state serve`, over several connections, and each reply beside that of the model. The
-calls are those of `dev/fuzz.py`, without its orders.
+calls are those of `dev/fuzz_calls.py`, without its orders.
 
 Each run is a server of its own with eight connections: a call goes over one of them, and its reply has come before the
 next one is sent. Clients are called back at a listener that answers each call OK, and have a lease that doesn't end
@@ -11,7 +11,9 @@ from collections import Counter
 from tempfile import TemporaryDirectory
 from typing import Any
 
-from dev.fuzz import AGAIN, Caller, NONE_LEFT, YIELDED, missing_cases
+from dev.fuzz import missing_cases
+from dev.fuzz_calls import Caller
+from dev.fuzz_model import AGAIN, NONE_LEFT, YIELDED
 from helpers.expecting_client import Wrong, expect
 from helpers.server_helpers import lawful_journal
 from nfs4tools.callbacks.listener import Listener, accept, universal_address

@@ -8,7 +8,7 @@ from helpers.expecting_client import Wrong
 from nfs4tools.journal.entries import Call, Expire, Forget, MOMENT_LIMIT, Revoke
 from nfs4tools.journal.journal import Journal, states
 from nfs4tools.model.server import Server
-from nfs4tools.model.states import Filehandles, Refusal, Result, slot_of
+from nfs4tools.model.state_parts import Filehandles, Refusal, Result, slot_of
 from nfs4tools.wire import CompoundCall, Opnum, Status, split_records, u32
 
 STALE_RENEWAL = u32(Opnum.RENEW, Status.STALE_CLIENTID)
@@ -25,7 +25,7 @@ class Renewal(NamedTuple):
     last: int
 
 
-class Told(Server):
+class ServerByJournal(Server):
     """Answers each operation on the state by the entry of the next receipt, and RENEW as it was answered, if that is
     right."""
 
@@ -147,7 +147,7 @@ class Judge:
         asked, answered = split_records(sent)[0], split_records(replies)
         if answered[1] or len(answered[0]) != len(asked):
             raise Wrong(f"{len(answered[0])} replies to {len(asked)} calls")
-        server = Told(self.journal, self.lives, numbers)
+        server = ServerByJournal(self.journal, self.lives, numbers)
         calls = [server.expect_reply(record, reply) for record, reply in zip(asked, answered[0])]
         moments = [moment for moment, _ in calls if moment is not None]
         if server.numbers:

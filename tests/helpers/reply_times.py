@@ -11,10 +11,10 @@ from math import inf
 from typing import Any, NamedTuple
 
 from helpers.expecting_client import Wrong
-from helpers.reply_oracle import Judge, Told
+from helpers.reply_oracle import Judge, ServerByJournal
 from nfs4tools.journal.entries import Expire
 from nfs4tools.journal.journal import Journal
-from nfs4tools.model.states import Refusal
+from nfs4tools.model.state_parts import Refusal
 from nfs4tools.wire import Opnum, Status
 
 
@@ -31,7 +31,7 @@ class Exchange(NamedTuple):
     answered: int
 
 
-class Heard(NamedTuple):
+class RenewingOperation(NamedTuple):
     """An operation that renews the lease of the client that it names: the times of its call; the number of its entry,
     or None for RENEW; whether it is a RENEW that was answered OK; and the first and the last state between the entries
     of its connection, in which it was asked."""
@@ -51,14 +51,14 @@ def numbers_of(journal: Journal, uid: int) -> list[int]:
     return [number for number, entry in calls if getattr(entry, "principal", None) == (1, uid)]
 
 
-class Asked(Told):
+class TimedServerByJournal(ServerByJournal):
     """Answers by the entries of a connection's calls, and RENEW as it was answered. `heard` has each operation that
     renews a lease."""
 
     def __init__(self, *told: Any) -> None:
         super().__init__(*told)
         self.exchange: Any = None
-        self.heard: list[Heard] = []
+        self.heard: list[RenewingOperation] = []
 
     def renew_by(self, opnum: Opnum, arguments: Any) -> None:
         client = self.renewed_by(opnum, arguments)
@@ -66,7 +66,7 @@ class Asked(Told):
             is_renew, last = opnum == Opnum.RENEW, self.numbers[0] if self.numbers else len(self.journal)
             times = self.exchange.sent, self.exchange.answered
             number, is_ok = None if is_renew else last, is_renew and not self.is_stale
-            self.heard.append(Heard(client, *times, number, is_ok, self.state, last))
+            self.heard.append(RenewingOperation(client, *times, number, is_ok, self.state, last))
 
     def renew(self, _arguments: Any) -> bytes:
         if self.is_stale:
@@ -74,7 +74,7 @@ class Asked(Told):
         return b""
 
 
-class Entered(NamedTuple):
+class EnteredCall(NamedTuple):
     """A call that has entries: how it went, and the numbers of the first and the last of them."""
 
     exchange: Exchange
@@ -82,7 +82,7 @@ class Entered(NamedTuple):
     last: int
 
 
-def beginnings(entries: list[Any], calls: list[Entered], ends: list[tuple[int, Expire]]) -> tuple[int, int]:
+def beginnings(entries: list[Any], calls: list[EnteredCall], ends: list[tuple[int, Expire]]) -> tuple[int, int]:
     """Between which times the clock began by which the entries have their moments. It was read within each call; and by
     a sweep before each call was answered whose entry stands behind an end that it made."""
     calls = sorted(calls, key=lambda call: call.last)
@@ -110,7 +110,7 @@ def greater(one: int, other: int) -> int:
 class Times:
     """What the times of calls say of the order of entries, and of the server's clock."""
 
-    def __init__(self, entries: list[Any], calls: list[Entered]) -> None:
+    def __init__(self, entries: list[Any], calls: list[EnteredCall]) -> None:
         self.ends = [(number, end) for number, end in enumerate(entries) if isinstance(end, Expire)]
         self.begun_first, self.begun_last = beginnings(entries, calls, self.ends)
         # When calls were answered, and the state that is there once the first of these were.
@@ -146,8 +146,8 @@ class TimedJudge(Judge):
     def __init__(self, journal: Journal) -> None:
         super().__init__(journal)
         self.times: Times
-        self.calls: list[Entered] = []
-        self.heard: list[Heard] = []
+        self.calls: list[EnteredCall] = []
+        self.heard: list[RenewingOperation] = []
         # By clients: the number of the entry by which each came, and of the one by which it went.
         self.came: dict[int, int] = {}
         self.went: dict[int, int] = {}
@@ -158,12 +158,12 @@ class TimedJudge(Judge):
 
     def expect_exchanges(self, exchanges: Iterable[Exchange], numbers: list[int]) -> None:
         """The replies that a link got are those of the entries of its calls, which have these numbers."""
-        server = Asked(self.journal, self.lives, numbers)
+        server = TimedServerByJournal(self.journal, self.lives, numbers)
         for exchange in exchanges:
             server.exchange, before = exchange, server.numbers[:]
             server.expect_reply(exchange.record[4:], exchange.reply[4:])
             if taken := before[: len(before) - len(server.numbers)]:
-                self.calls.append(Entered(exchange, taken[0], taken[-1]))
+                self.calls.append(EnteredCall(exchange, taken[0], taken[-1]))
         if server.numbers:
             raise Wrong(f"{len(server.numbers)} entries of nothing that it sent")
         self.heard += server.heard
@@ -171,7 +171,7 @@ class TimedJudge(Judge):
     def expect_times(self) -> None:
         """What has to be once all links were looked at."""
         self.times = Times(self.journal.entries, self.calls)
-        by_client: dict[int, list[Heard]] = defaultdict(list)
+        by_client: dict[int, list[RenewingOperation]] = defaultdict(list)
         for one in self.heard:
             by_client[one.client].append(one)
         for client, heard in by_client.items():
@@ -186,11 +186,11 @@ class TimedJudge(Judge):
 
     # RENEW.
 
-    def first_state(self, one: Heard) -> int:
+    def first_state(self, one: RenewingOperation) -> int:
         """The earliest state in which it may have been asked."""
         return max(one.first, self.times.first_state(one.sent))
 
-    def expect_renews(self, client: int, renews: list[Heard]) -> None:
+    def expect_renews(self, client: int, renews: list[RenewingOperation]) -> None:
         """Each is answered as the client is live, or isn't, in a state that may have been meanwhile; and none OK that
         was sent behind one that showed the client's end. Of two clients of which one takes the other's place both may
         be answered so while the call is under way that does it: this isn't told by the order of the two."""
@@ -213,14 +213,14 @@ class TimedJudge(Judge):
 
     # Ends.
 
-    def moments(self, one: Heard) -> tuple[int, int]:
+    def moments(self, one: RenewingOperation) -> tuple[int, int]:
         """The first and the last moment to which it may have renewed."""
         if one.number is None:
             return self.times.seconds(one.sent, one.answered)
         moment: int = self.journal.entries[one.number].moment
         return moment, moment
 
-    def expect_timely_end(self, number: int, end: Expire, heard: list[Heard]) -> None:
+    def expect_timely_end(self, number: int, end: Expire, heard: list[RenewingOperation]) -> None:
         """No renewal that was answered is within a lease of the end, or later than what that saw; and something renewed
         the lease at the moment that it saw. A RENEW that was answered OK came before; so did a call whose entry does.
         One whose entry stands behind it may have, since a call renews before it waits for the lock."""
@@ -243,7 +243,7 @@ class TimedJudge(Judge):
         if not any(first <= end.seen <= last for first, last in seen):
             raise Wrong(f"client {end.client} ends, seen last at {end.seen}, when it wasn't heard of")
 
-    def expect_kept(self, number: int, now: int, by_client: dict[int, list[Heard]]) -> None:
+    def expect_kept(self, number: int, now: int, by_client: dict[int, list[RenewingOperation]]) -> None:
         """The sweep whose last entry is this one leaves none whose lease is over, whatever was renewed meanwhile."""
         over = min((call.exchange.answered for call in self.calls if call.first > number), default=inf)
         for client in self.lives[number + 1]:

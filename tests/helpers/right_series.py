@@ -6,28 +6,13 @@ lost and calls come again; calls of several owners are under way at once; leases
 as they end without a word; some come from a run before; some sleep without having anything; some can't be called back.
 Sequence ids begin near their last. Each answer is one that a client may get that does right."""
 import random
-from collections import Counter, defaultdict
+from collections import Counter
 from collections.abc import Callable, Sequence
-from dataclasses import dataclass
 from typing import Any
 
 from helpers.expecting_client import Wrong
-from helpers.right_client import (
-    Direct,
-    LAST,
-    Lent,
-    Locked,
-    NOWHERE,
-    Opened,
-    Operation,
-    Owner,
-    RightClient,
-    Results,
-    Share,
-    Span,
-    Steps,
-    ZEROS,
-)
+from helpers.right_client import Lent, Locked, NOWHERE, Opened, Operation, Owner, Results, Share, Span, Steps, ZEROS
+from helpers.series_clients import SeriesClient, Task
 from nfs4tools.journal.journal import Journal, Recorder
 from nfs4tools.model.tree import CLOSE_LOCKS, DEFAULT, PROFILES, Tree
 from nfs4tools.wire import (
@@ -64,74 +49,6 @@ LOCK_ANSWERS = {Status.OK, Status.DENIED}
 BYTES_ANSWERS = {Status.OK, Status.OLD_STATEID}
 
 
-@dataclass(eq=False)
-class Task:
-    """Steps of a client, of which a call is under way, or which wait for a later moment if it has no operations. While
-    they aren't done nobody else may use what they have to themselves, nor have to itself what they share."""
-
-    client: "Busy"
-    steps: Steps[None]
-    own: frozenset[Any]
-    shared: frozenset[Any]
-    operations: Sequence[Operation] = ()
-    built: int = 0
-
-    def hinders(self, own: frozenset[Any], shared: frozenset[Any]) -> bool:
-        return bool(self.own & (own | shared) or self.shared & own)
-
-
-class Busy(RightClient):
-    """A client of a series."""
-
-    def __init__(self, series: "Series", name: bytes, uid: int | None) -> None:
-        super().__init__(Direct(series.server), name, uid, NOWHERE)
-        self.chance, self.series = series.chance, series
-        self.is_reached = not series.is_rare(0.1)
-        self.is_asleep, self.begun, self.renewed = False, 0, 0
-        self.lost = self.how_often
-        # When an open or a lock state got its stateid; and of owners the answers that counted.
-        self.moved: dict[Any, int] = {}
-        self.counted: dict[Owner, list[int]] = defaultdict(list)
-        # When it gave up what is gone.
-        self.given_up: dict[Any, int] = {}
-
-    def how_often(self, _operations: Sequence[Operation]) -> int:
-        return self.chance.choice([0] * 12 + [1, 1, 2])
-
-    def keep(self, opnum: Opnum, held: Any, stateid: Stateid) -> None:
-        super().keep(opnum, held, stateid)
-        self.moved[held] = self.series.moment
-
-    def count(self, owner: Owner, seqid: int, opnum: Opnum, status: int) -> None:
-        super().count(owner, seqid, opnum, status)
-        self.counted[owner] += [status] if self.counts(opnum, status) else []
-
-    def give_up(self, *held: Any) -> None:
-        super().give_up(*held)
-        self.given_up.update((it, self.series.moment) for it in held)
-
-    def hear_of(self, recalled: Stateid) -> None:
-        for lent in self.lent:
-            lent.is_recalled |= lent.stateid == recalled
-
-    def new_owner(self, name: bytes) -> Owner:
-        """Of either kind: some begin near the last sequence id."""
-        return Owner(name, self.chance.choice([0, 0, 0, 7, LAST, LAST - 1, LAST - 3]))
-
-    def owner(self, name: bytes) -> Owner:
-        return self.owners.setdefault(name, self.new_owner(name))
-
-    def locker(self, name: bytes) -> Owner:
-        return self.lockers.setdefault(name, self.new_owner(name))
-
-    def is_live(self) -> bool:
-        return self.clientid != (0, 0)
-
-    def usable(self) -> list[Opened]:
-        """The opens whose owners are confirmed."""
-        return [it for it in self.opens if it.owner.is_confirmed]
-
-
 class Series:
     """A server, its clients, and what they do."""
 
@@ -145,7 +62,7 @@ class Series:
         self.lease, epoch = self.chance.choice(LEASES), self.chance.choice([1, 1, 1, 7])
         self.server = Recorder(Tree(f"policy = {{ {words} }}\n{DEFAULT}"), self.lease, epoch)
         self.clients = [
-            Busy(self, b"client %d" % number, self.chance.choice([None, number]))
+            SeriesClient(self, b"client %d" % number, self.chance.choice([None, number]))
             for number in range(self.chance.choice([1, 2, 2, 3]))
         ]
         self.tasks: list[Task] = []
@@ -182,7 +99,7 @@ class Series:
             self.chance.choice(ACTS)(self, client)
 
     def begin(
-        self, client: Busy, steps: Steps[Any], own: set[Any] = set(), shared: set[Any] = set(), name: str = ""
+        self, client: SeriesClient, steps: Steps[Any], own: set[Any] = set(), shared: set[Any] = set(), name: str = ""
     ) -> bool:
         """Begins steps, unless others hinder them: whether it did. The client itself is one of what they share."""
         mine, ours = frozenset(own), frozenset(shared | ({client} - own))
@@ -272,7 +189,7 @@ class Series:
 
     # What clients do.
 
-    def coming(self, client: Busy) -> Steps[None]:
+    def coming(self, client: SeriesClient) -> Steps[None]:
         """A client introduces itself, some after they had something in a run before."""
         if self.server.epoch > 1 and self.is_rare(0.5):
             earlier = Stateid(1, self.server.epoch - 1, 1, 1)
@@ -285,13 +202,13 @@ class Series:
             results = yield [(Opnum.PUTFH, Putfh(b"nfh1\0\0\0\1")), (Opnum.OPEN, reclaim)]
             self.expect(results[-1].status, {Status.NO_GRACE})
 
-    def introduced(self, client: Busy) -> Steps[None]:
+    def introduced(self, client: SeriesClient) -> Steps[None]:
         """Another callback of a live client doesn't renew its lease."""
         before = client.clientid
         self.expect((yield from client.introducing()), {Status.OK})
         client.renewed = client.renewed if client.clientid == before else self.moment
 
-    def waking(self, client: Busy) -> Steps[None]:
+    def waking(self, client: SeriesClient) -> Steps[None]:
         """The lease of a client that had nothing has ended meanwhile: it is told so, and begins anew."""
         client.is_asleep = False
         found = yield from client.opening(client.owner(b"A"), (b"b",), (READ, 0))
@@ -299,12 +216,12 @@ class Series:
             client.forget_all()
             yield from self.introduced(client)
 
-    def opens(self, client: Busy) -> None:
+    def opens(self, client: SeriesClient) -> None:
         path = self.chance.choice([*PATHS * 3, (b"e",)])
         owner, share = client.owner(self.chance.choice([b"A", b"A", b"B"])), self.chance.choice(self.shares)
         self.begin(client, self.opening(client, owner, path, share), {owner}, name="opens")
 
-    def opening(self, client: Busy, owner: Owner, path: tuple[bytes, ...], share: Share) -> Steps[None]:
+    def opening(self, client: SeriesClient, owner: Owner, path: tuple[bytes, ...], share: Share) -> Steps[None]:
         for _ in range(TRIES):
             status = self.expect((yield from client.opening(owner, path, share)), OPEN_ANSWERS)
             self.done[Status(status).name] += 1
@@ -312,7 +229,7 @@ class Series:
                 break
             yield []
 
-    def downgrades(self, client: Busy) -> None:
+    def downgrades(self, client: SeriesClient) -> None:
         fitting = [it for it in client.usable() if len(it.pairs) > 1]
         if fitting:
             opened = self.chance.choice(fitting)
@@ -325,12 +242,12 @@ class Series:
     def expected(self, steps: Steps[int], allowed: set[Status] = {Status.OK}) -> Steps[None]:
         self.expect((yield from steps), allowed)
 
-    def closes(self, client: Busy) -> None:
+    def closes(self, client: SeriesClient) -> None:
         if client.usable():
             opened = self.chance.choice(client.usable())
             self.begin(client, self.closing(client, opened), whole(opened), name="closes")
 
-    def closing(self, client: Busy, opened: Opened) -> Steps[None]:
+    def closing(self, client: SeriesClient, opened: Opened) -> Steps[None]:
         """Some close a file whose bytes they have locked, where they may."""
         if self.close_locks == "refuse" or not self.is_rare(0.2):
             for held in [it for it in opened.locks if it.held]:
@@ -338,7 +255,7 @@ class Series:
         yield from self.expected(client.closing(opened))
         self.come_late(client)
 
-    def come_late(self, client: Busy) -> None:
+    def come_late(self, client: SeriesClient) -> None:
         """Another copy of the last call may come later, as its reply was lost and nobody waits any more."""
         if self.is_rare(0.15):
             self.begin(client, self.late(client.last_call), name="comes late")
@@ -349,7 +266,7 @@ class Series:
 
     # Locks.
 
-    def locks(self, client: Busy) -> None:
+    def locks(self, client: SeriesClient) -> None:
         if client.usable():
             opened = self.chance.choice(client.usable())
             # A lock owner may have the name of the open owner.
@@ -363,7 +280,7 @@ class Series:
         offset, length = self.chance.choice([(0, 10), (5, 3), (8, 4), (20, 2**64 - 1), (0, 2**64 - 1), (2, 1)])
         return Span(self.chance.choice(types) + self.chance.choice([0, 0, 2]), offset, length)
 
-    def locking(self, client: Busy, locker: Owner, opened: Opened, span: Span) -> Steps[None]:
+    def locking(self, client: SeriesClient, locker: Owner, opened: Opened, span: Span) -> Steps[None]:
         for _ in range(TRIES):
             status = self.expect((yield from client.locking(locker, opened, span)), LOCK_ANSWERS)
             self.done[f"LOCK {Status(status).name}"] += 1
@@ -371,13 +288,13 @@ class Series:
                 break
             yield []
 
-    def unlocks(self, client: Busy) -> None:
+    def unlocks(self, client: SeriesClient) -> None:
         held = [it for opened in client.opens for it in opened.locks]
         if held:
             locked, part = self.chance.choice(held), self.chance.choice([(0, 2**64 - 1), (3, 2), (0, 10)])
             self.begin(client, self.expected(client.unlocking(locked, *part)), {locked.owner}, name="unlocks")
 
-    def tests(self, client: Busy) -> None:
+    def tests(self, client: SeriesClient) -> None:
         if client.usable():
             opened = self.chance.choice(client.usable())
             locker = client.locker(opened.owner.name)
@@ -387,7 +304,7 @@ class Series:
                 name="tests",
             )
 
-    def releases(self, client: Busy) -> None:
+    def releases(self, client: SeriesClient) -> None:
         idle = [
             it
             for it in client.lockers.values()
@@ -400,7 +317,7 @@ class Series:
 
     # Bytes and delegations.
 
-    def moves_bytes(self, client: Busy) -> None:
+    def moves_bytes(self, client: SeriesClient) -> None:
         opens = client.usable()
         held: list[Any] = [*opens, *[locked for opened in opens for locked in opened.locks], *client.lent]
         if held:
@@ -408,7 +325,7 @@ class Series:
             used = {one.opened, one} if isinstance(one, Locked) else {one}
             self.begin(client, self.moving(client, one), shared=used, name="moves bytes")
 
-    def moving(self, client: Busy, held: Opened | Locked | Lent) -> Steps[None]:
+    def moving(self, client: SeriesClient, held: Opened | Locked | Lent) -> Steps[None]:
         """A READ or a WRITE. The delegation of a client that can't be called back may have been revoked."""
         allowed, opened = set(BYTES_ANSWERS), held.opened if isinstance(held, Locked) else held
         if isinstance(opened, Opened):
@@ -422,7 +339,7 @@ class Series:
         if status == Status.BAD_STATEID and isinstance(held, Lent):
             client.lent = [it for it in client.lent if it is not held]
 
-    def looks(self, client: Busy) -> None:
+    def looks(self, client: SeriesClient) -> None:
         """GETATTR, a READ by a special stateid, or the size that is set."""
         handle = b"nfh1\0\0\0" + bytes([self.chance.choice([1, 2, 4])])
         read = (Opnum.READ, Read(ZEROS, 0, 5))
@@ -440,11 +357,11 @@ class Series:
         results = yield operations
         self.expect(results[-1].status, {Status.OK, Status.LOCKED, Status.DELAY})
 
-    def gives_back(self, client: Busy) -> None:
+    def gives_back(self, client: SeriesClient) -> None:
         if client.lent:
             self.give_back(client, self.chance.choice(client.lent))
 
-    def give_back(self, client: Busy, lent: Lent) -> None:
+    def give_back(self, client: SeriesClient, lent: Lent) -> None:
         owner, opens = client.owner(b"D"), [it for it in client.usable() if it.path == lent.path and it.access & READ]
         crossed = self.chance.choice(opens) if opens and self.is_rare(0.3) else None
         self.begin(
@@ -455,7 +372,7 @@ class Series:
             name="gives back",
         )
 
-    def giving_back(self, client: Busy, lent: Lent, owner: Owner, crossed: Opened | None) -> Steps[None]:
+    def giving_back(self, client: SeriesClient, lent: Lent, owner: Owner, crossed: Opened | None) -> Steps[None]:
         """Some have opens of their own to tell of before. Or a READ was under way, and is made again by an open."""
         if client.is_reached and self.is_rare(0.4):
             share = (3, 0) if lent.kind == OPEN_DELEGATE_WRITE else (1, 0)
@@ -470,7 +387,7 @@ class Series:
 
     # The client itself.
 
-    def begins_anew(self, client: Busy) -> None:
+    def begins_anew(self, client: SeriesClient) -> None:
         """It leaves, or ends without a word, also with calls under way, and comes again."""
         if self.is_rare(0.5):
             self.tasks = [task for task in self.tasks if task.client is not client]
@@ -478,26 +395,26 @@ class Series:
         else:
             self.begin(client, self.restarting(client, True), {client}, name="begins anew")
 
-    def restarting(self, client: Busy, leaves: bool) -> Steps[None]:
+    def restarting(self, client: SeriesClient, leaves: bool) -> Steps[None]:
         if leaves:
             yield from client.leaving()
         client.forget_all()
         client.verifier = self.chance.randbytes(8)
         yield from self.introduced(client)
 
-    def moves_callback(self, client: Busy) -> None:
+    def moves_callback(self, client: SeriesClient) -> None:
         """It says again who it is, with another callback."""
         client.callback = NOWHERE._replace(ident=client.callback.ident + 1)
         self.begin(client, self.introduced(client), {client}, name="moves its callback")
 
-    def sleeps(self, client: Busy) -> None:
+    def sleeps(self, client: SeriesClient) -> None:
         self.begin(client, self.falling_asleep(client), {client}, name="sleeps")
 
-    def falling_asleep(self, client: Busy) -> Steps[None]:
+    def falling_asleep(self, client: SeriesClient) -> Steps[None]:
         yield from client.leaving()
         client.begun, client.is_asleep = self.moment, True
 
-    def renews(self, client: Busy) -> None:
+    def renews(self, client: SeriesClient) -> None:
         self.begin(client, self.expected(client.renewing()), name="renews")
 
 
@@ -514,7 +431,7 @@ def whole(opened: Opened) -> set[Any]:
 
 
 # What a client does at random, each as often as it stands here.
-ACTS: list[Callable[[Series, Busy], None]] = [
+ACTS: list[Callable[[Series, SeriesClient], None]] = [
     *[Series.opens] * 10,
     *[Series.closes] * 5,
     *[Series.downgrades] * 4,

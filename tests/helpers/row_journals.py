@@ -5,7 +5,8 @@ from nfs4tools.journal.journal import Journal, Recorder
 from nfs4tools.model.tree import DEFAULT, Refused, Tree
 from nfs4tools.processes import TOP
 from nfs4tools.rows.by_model import converse
-from nfs4tools.rows.reading import File, Row, files_of
+from nfs4tools.rows.reading import File, files_of
+from nfs4tools.rows.row import Row
 
 # The files, by their names.
 ROW_FILES = {os.path.basename(path): path for path in files_of(os.path.join(TOP, "crates/rows/data"))}

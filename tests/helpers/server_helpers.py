@@ -2,15 +2,24 @@
 it, and what is tried again where it came late."""
 import functools
 import os
+import sys
 from collections.abc import Callable
 from typing import Any
+
+import pytest
 
 from helpers.expecting_client import Client, Wrong, expect
 from helpers.reply_oracle import Judge
 from nfs4tools.journal.journal import Journal, read_journal, verdict
-from nfs4tools.processes import PROGRAM, Peer, Served
+from nfs4tools.processes import PROGRAM, Peer, Served, TOP
 from nfs4tools.program import Program, bytes_of
 
+# The commands of the two servers; and these as the parameters of a fixture or a test.
+PROGRAM_SERVES, MODEL_SERVES = [PROGRAM, "serve"], [sys.executable, os.path.join(TOP, "tools/model/serve.py")]
+SERVERS = [
+    pytest.param(PROGRAM_SERVES, id="program", marks=pytest.mark.needs("nfs4state")),
+    pytest.param(MODEL_SERVES, id="model"),
+]
 # How often a test is tried where something comes late.
 TRIES = 3
 

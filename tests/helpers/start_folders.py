@@ -18,3 +18,8 @@ def room_for(folder: str, program: str | None) -> str:
         os.makedirs(built)
         os.symlink(program, os.path.join(built, "nfs4state"))
     return folder
+
+
+def is_named(said: str, program: str | None) -> bool:
+    """Whether `start` says that this program serves, or the model."""
+    return ("start: the independent model" if program is None else "start: nfs4state ") in said

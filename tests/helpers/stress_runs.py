@@ -28,10 +28,11 @@ from typing import Any, NamedTuple
 from helpers.expecting_client import Wrong
 from helpers.preload import preloading
 from helpers.reply_oracle import Judge
-from helpers.stress_plan import EPOCH, LARGE, LEASE, LINKS, PACE, PIECES, Plan, SMALL
+from helpers.stress_calls import EPOCH, LARGE, LEASE, LINKS, PACE, PIECES, SMALL
+from helpers.stress_plan import Plan
 from nfs4tools.journal.entries import Call, Expire, Forget, NotJournal, Revoke
 from nfs4tools.journal.journal import Journal, read_journal, verdict
-from nfs4tools.model.states import SLOTS
+from nfs4tools.model.state_parts import SLOTS
 from nfs4tools.processes import TOP
 from nfs4tools.program import Program
 from nfs4tools.rows.driver import Driver, Ended, Failed, PROGRAM as ROWS, SHARED

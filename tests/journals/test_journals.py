@@ -10,20 +10,9 @@ import random
 
 import pytest
 
-from helpers.expecting_client import expect
-from helpers.journal_cases import (
-    BROKEN,
-    NOT_JOURNAL,
-    all_answers,
-    beginnings,
-    file_of,
-    other_lengths,
-    sample,
-    sample_for_clients,
-    small,
-    whole_files,
-    written_out,
-)
+from helpers.expecting_client import expect, some
+from helpers.journal_cases import NOT_JOURNAL, beginnings, file_of, sample, sample_for_clients, small, written_out
+from helpers.journal_cases_broken import BROKEN, all_answers, other_lengths, whole_files
 from helpers.row_journals import ROW_FILES, journal_of, rows_of
 from helpers.verdict_cases import verdicts
 from nfs4tools.journal.entries import ARGUMENT_BYTES, Call, Expire, NotJournal, RESTS, answer_bytes, entry_bytes
@@ -32,7 +21,8 @@ from nfs4tools.journal.words import answer_words, line_of, operation_words
 from nfs4tools.model.server import STATEFUL_BY_PROFILE
 from nfs4tools.model.tree import Node, Refused, Tree, tree_of
 from nfs4tools.program import can_run_once, ending_of
-from nfs4tools.rows import reading as rows
+from nfs4tools.rows import words as rows
+from nfs4tools.send.servers import is_refused
 from nfs4tools.wire import GIVEN_STATUSES, Opnum, Status, u32
 
 # Of a journal whose answers have at most so many words, each is changed; of any other, so many.
@@ -115,13 +105,16 @@ def test_rows(file, program, add_up):
         if can_run_once(row):
             expect(f"how {row.name} runs", program.wrong_once(row, journal and journal_bytes(journal)), None)
             add_up(1, "rows whose journals the program writes")
+        expect(f"whether {row.name} has no journal", journal is None, is_refused(row))
         if journal is None:
             continue
         expect_round(journal)
         expect_audit(program, row.name, journal_bytes(journal))
         add_up(1, "journals")
         add_up(len(journal.entries), "entries")
-        for number, data in changed(journal, draw):
+        others = list(changed(journal, draw))
+        expect(f"whether words of {row.name} are changed", bool(others), bool(calls_of(journal)))
+        for number, data in others:
             name, said = f"{row.name}: a word changed in entry {number}", verdict(data)
             assert said in ((False, NOT_JOURNAL), (False, f"fault: wrong answer at entry {number}")), name
             expect_audit(program, name, data)
@@ -142,20 +135,20 @@ def reason_of(data):
 
 @pytest.mark.parametrize("broken", BROKEN, ids=lambda it: it.__name__)
 def test_broken(broken, program, add_up):
-    for name, data, reason in broken():
+    for name, data, reason in some(broken()):
         expect(f"the reason of {name}", reason_of(data), reason)
         expect_audit(program, name, data)
         add_up(1, "files that are no journals")
 
 
 def test_written_out(program):
-    for data, words in written_out():
+    for data, words in some(written_out()):
         expect("what is written", data, bytes.fromhex(words))
         expect_audit(program, "a file written out", data)
 
 
 def test_whole_files(program, add_up):
-    for name, data in whole_files():
+    for name, data in some(whole_files()):
         expect(f"the reason of {name}", reason_of(data), None)
         journal = read_journal(data)
         expect_words(journal)
@@ -215,7 +208,7 @@ def test_node_lists(part, program, add_up):
 
 
 def test_verdicts(program, add_up):
-    for name, data, line in verdicts():
+    for name, data, line in some(verdicts()):
         expect(name, verdict(data)[1], line)
         expect_audit(program, name, data)
         add_up(1, "verdicts")
@@ -232,20 +225,20 @@ def test_limit():
 
 
 def test_other_lengths(program, add_up):
-    for name, data in other_lengths():
+    for name, data in some(other_lengths()):
         expect(f"whether {name} is lawful", verdict(data)[0], False)
         expect_audit(program, name, data)
         add_up(1, "files")
 
 
 def test_answers(program, add_up):
-    for name, data in all_answers():
+    for name, data in some(all_answers()):
         expect_audit(program, name, data)
         add_up(1, "answers")
 
 
 def test_beginnings(program):
-    for name, data in beginnings():
+    for name, data in some(beginnings()):
         expect_audit(program, name, data)
 
 

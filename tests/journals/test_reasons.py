@@ -7,17 +7,18 @@ import re
 
 import pytest
 
-from dev.fuzz import Caller
-from helpers.delegation_cases import STORIES_OF_DELEGATIONS
+from dev.fuzz_calls import Caller
+from helpers.reason_cases_delegations import STORIES_OF_DELEGATIONS
 from helpers.expecting_client import expect
-from helpers.file_cases import STORIES_OF_FILES
+from helpers.reason_cases_files import STORIES_OF_FILES
 from helpers.reason_cases import STORIES
-from helpers.repeated_cases import FOLDED, STORIES_OF_REQUESTS
+from helpers.reason_cases_repeated import FOLDED, STORIES_OF_REQUESTS
 from helpers.row_journals import ROW_FILES, journal_of, rows_of
 from nfs4tools.explain import Replay, again_words, is_refusal, sentence
 from nfs4tools.explain.lines import Paragraphs
 from nfs4tools.journal.entries import Call
 from nfs4tools.processes import TOP
+from nfs4tools.send.servers import is_refused as is_refused_tree
 from nfs4tools.wire import Status
 
 pytestmark = pytest.mark.quick
@@ -68,7 +69,9 @@ def same_in_both(call):
 @pytest.mark.parametrize("file", ROW_FILES)
 def test_rows(file, headings, add_up):
     for row in rows_of(file):
-        if (journal := journal_of(row)) is not None:
+        journal = journal_of(row)
+        expect(f"whether {row.name} has no journal", journal is None, is_refused_tree(row))
+        if journal is not None:
             expect_reasons(journal, headings, add_up)
 
 

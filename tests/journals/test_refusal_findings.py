@@ -2,9 +2,9 @@
 right client does beside it, or meets without a fault, is none."""
 import pytest
 
-from helpers.refusal_cases import STATEIDS
-from helpers.request_cases import REQUESTS
-from helpers.sequence_cases import SEQUENCE_IDS
+from helpers.finding_cases import STATEIDS
+from helpers.finding_cases_requests import REQUESTS
+from helpers.finding_cases_sequence_ids import SEQUENCE_IDS
 from nfs4tools.explain import Replay, is_refusal
 from nfs4tools.judge.findings import SORTS
 from nfs4tools.judge.refusals import Refusals

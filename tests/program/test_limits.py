@@ -28,7 +28,7 @@ from helpers.call_steps import (
 from nfs4tools.model.pages import PAGE
 from nfs4tools.model.ranges import ALL_ONES, RUNS_LIMIT
 from nfs4tools.model.state import JOURNAL_LIMIT, OWNERS_LIMIT, STATES_LIMIT
-from nfs4tools.model.states import SLOTS, handle_of
+from nfs4tools.model.state_parts import SLOTS, handle_of
 from nfs4tools.model.tree import TEXT_LIMIT
 from nfs4tools.processes import PROGRAM
 from nfs4tools.wire import BOTH, FILE_SYNC4, Opnum, READ_LT, Status, WRITE_LT, opaque, u32, u64
@@ -359,6 +359,8 @@ def test_limit(name, tmp_path, tell):
     (tmp_path / "tree.toml").write_text(document)
     found = list(enumerate(compounds(steps()), 1))
     sent, wanted = (b"".join(one(*pair) for pair in found) for one in (call, reply))
+    refused = sum(int.from_bytes(reply(*pair)[28:32], "big") != Status.OK for pair in found)
+    assert len(found) > 10 and (refused > 0) == (name not in PATIENCE), "the steps don't come to the limit"
     begun = time.monotonic()
     got = subprocess.run([PROGRAM, "once", "--tree", tmp_path / "tree.toml"], input=sent, stdout=subprocess.PIPE).stdout
     seconds = time.monotonic() - begun

@@ -10,7 +10,7 @@ import pytest
 
 from helpers import call_steps as limits
 from helpers.expecting_client import expect
-from helpers.preload import preloading
+from helpers.preload import is_loaded, preloading
 from nfs4tools.journal.entries import Expire, Path
 from nfs4tools.journal.journal import read_journal
 from nfs4tools.messages import NULL, PUTROOTFH, call, compound, confirmation, setclientid, split, words
@@ -123,7 +123,9 @@ def test_sweeps():
 
 def test_last_sweep(preloaded):
     """Without a thread there is one sweep, at the end."""
-    with begin(SHARED, preloaded("refuse_threads.c", MOST_THREADS="0"), seats=1) as driver:
+    environment = preloaded("refuse_threads.c", MOST_THREADS="0")
+    with begin(SHARED, environment, seats=1) as driver:
+        expect("whether threads are refused", is_loaded(driver.program.pid, environment), True)
         expect("sweeps without a thread", driver.serve([ROOT], 1, 1, is_swept=True).sweeps, 1)
         driver.end()
 

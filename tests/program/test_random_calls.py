@@ -4,7 +4,8 @@ from collections import Counter
 
 import pytest
 
-from dev.fuzz import IDS, operations_in
+from dev.fuzz import operations_in
+from dev.fuzz_calls import IDS
 from helpers.random_calls import CALLED_BACK, missing, run
 from nfs4tools.processes import PROGRAM
 
@@ -20,7 +21,7 @@ CALLS = 200
 )
 def test_runs(ids, seeds, add_up):
     counts = sum((run(PROGRAM, seed, CALLS, ids) for seed in seeds), Counter())
-    assert not missing(counts, ids), "the runs show too little"
+    assert operations_in(counts) > CALLS * len(seeds) // 2 and not missing(counts, ids), "the runs show too little"
     add_up(len(seeds), "runs")
     add_up(operations_in(counts), "operations on the state")
     add_up(counts[CALLED_BACK], "calls back")

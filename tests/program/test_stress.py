@@ -1,13 +1,13 @@
 """64 connections at once over memory (`stress_runs.py`), and the judge of their numbers; and clients that renew their
-leases at the last moment (`last_moment.py`)."""
+leases at the last moment (`late_renewals.py`)."""
 from types import SimpleNamespace
 
 import pytest
 
-from helpers import last_moment
+from helpers import late_renewals
 from helpers.expecting_client import Wrong
 from helpers.reply_oracle import Judge
-from helpers.stress_plan import EPOCH
+from helpers.stress_calls import EPOCH
 from helpers.stress_runs import REFUSED_RUNS, Tally, run_both, run_refused
 from nfs4tools.journal.entries import Answer, Call
 from nfs4tools.wire import Opnum, Status, u32, u64
@@ -53,6 +53,6 @@ def test_without_threads(served, program):
 
 @pytest.mark.parametrize("seed", [1, 2, 3])
 def test_last_moment(seed, program, tell):
-    tally = last_moment.run(program, 20, seed)
+    tally = late_renewals.run(program, 20, seed)
     assert not tally.missing(), "the runs show too little"
     tell(tally.words())

@@ -16,17 +16,15 @@ import time
 import pytest
 
 from helpers.expecting_client import Client, done, expect, under, way_to, Wrong
-from helpers.server_helpers import judged, peer_of
+from helpers.server_helpers import PROGRAM_SERVES, SERVERS, judged, peer_of
 from nfs4tools.journal.entries import Forget
 from nfs4tools.messages import CLOSE, LOCK, LOCKU, NFS4_OK, OPEN, OPEN_CONFIRM, compound, results, words
 from nfs4tools.model.tree import DEFAULT
-from nfs4tools.processes import NO_CALLBACKS, PROGRAM, Served, TOP
+from nfs4tools.processes import NO_CALLBACKS, Served, TOP
 from nfs4tools.wire import OpenOwner, Status, opaque
 
 pytestmark = pytest.mark.quick
 
-# The commands of the two servers.
-PROGRAM_SERVES, MODEL_SERVES = [PROGRAM, "serve"], [sys.executable, os.path.join(TOP, "tools/model/serve.py")]
 # The lease, and how long after it an owner may still be known, on however busy a machine.
 LEASE, SOON = 2, 20
 # How many owners come, and how many in a second, and in a step of these.
@@ -35,12 +33,7 @@ MANY, RATE, STEP = 100_000, 4_000, 100
 SPARE = 32 << 10
 
 
-@pytest.fixture(
-    params=[
-        pytest.param(PROGRAM_SERVES, id="program", marks=pytest.mark.needs("nfs4state")),
-        pytest.param(MODEL_SERVES, id="model"),
-    ]
-)
+@pytest.fixture(params=SERVERS)
 def command(request):
     """How a server is started: the program, then the model."""
     return request.param

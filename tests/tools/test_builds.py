@@ -1,4 +1,5 @@
-"""What a program says of its build, and that only a proved program is taken for one: by its stamp, never by its word."""
+"""What a program says of its build, and that only a proved program is taken for one: by its stamp, never by its
+word."""
 import os
 import re
 import shutil
@@ -60,7 +61,7 @@ def test_program_alone_is_left(tmp_path):
     count = proved.keep_program_alone(str(tmp_path))
     left = sorted(os.listdir(tmp_path / "crates"))
     assert len(left) == count and "nfs4state" in left and "rows" not in left and "link_tests" not in left
-    assert [line.partition(":")[0] for line in (tmp_path / "crates.txt").read_text().splitlines()].sort() == left.sort()
+    assert sorted(line.partition(":")[0] for line in (tmp_path / "crates.txt").read_text().splitlines()) == left
     assert not list(tmp_path.glob("crates/*/must-fail"))
 
 
@@ -154,7 +155,8 @@ def put_crate(top, name, text="fn f() {}\n"):
 
 @pytest.fixture
 def lending(tmp_path, monkeypatch):
-    """Two crates of a checkout and of a copy, of which the second is the program; and who lends the first one's library."""
+    """Two crates of a checkout and of a copy, of which the second is the program; and who lends the first one's
+    library."""
     here, there = ([put_crate(tmp_path / top, name) for name in ("low", "program")] for top in ("here", "there"))
     toolchain = SimpleNamespace(crates_below=lambda top: there if top == "there" else here)
     monkeypatch.setattr(edits_kept, "toolchain", lambda: (str(tmp_path), toolchain))

@@ -1,4 +1,5 @@
-"""`tools/dev/changed_functions` names the functions in whose lines, or in the comment before them, something changed."""
+"""`tools/dev/changed_functions` names the functions in whose lines, or in the comment before them, something
+changed."""
 import os
 import subprocess
 import sys

@@ -6,11 +6,9 @@ import subprocess
 
 import pytest
 
-from helpers.start_folders import room_for
+from helpers.start_folders import is_named, room_for
 from helpers.wrong_rows import WRONG_ID
 from nfs4tools.processes import PROGRAM
-
-pytestmark = pytest.mark.quick
 
 CLIENT = ["tools/send_rows", "--names", "{host}", "{port}"]
 RIGHT_ROWS = "samples/two_owners.rows"
@@ -42,6 +40,7 @@ def run_job(request, tmp_path):
             text=True,
             timeout=300,
         )
+        assert is_named(ran.stderr, request.param), ran.stderr
         return ran.returncode, ran.stdout, ran.stderr
 
     return run

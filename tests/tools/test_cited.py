@@ -3,7 +3,7 @@ made-up program, and each fault of a made-up page is found."""
 import pytest
 
 from dev.called_functions import Program, program_of
-from dev.cited import MEANT, PROGRAM, SECTION, SPECIFIED, TABLE, Citations, citing
+from dev.citations import MEANT, PROGRAM, SECTION, SPECIFIED, TABLE, Citations, citing
 from dev.clause_index import CRATES, Source
 from dev.pages import Page
 

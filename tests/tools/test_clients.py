@@ -15,12 +15,10 @@ import pytest
 from helpers.expecting_client import expect
 from helpers.page_sessions import NAMED, PAGES, PATIENCE, Session, sections
 from helpers.server_helpers import tried_again
-from helpers.start_folders import room_for
+from helpers.start_folders import is_named, room_for
 from nfs4tools.processes import PROGRAM, TOP
-from nfs4tools.rows import reading as rows
+from nfs4tools.rows.reading import File
 from nfs4tools.wire import Status
-
-pytestmark = pytest.mark.quick
 
 SAMPLE = os.path.join(TOP, "samples/two_owners")
 # Words in the headings of the sections that need what may not be there.
@@ -68,7 +66,7 @@ def test_pages(tell):
 def test_sample():
     """The records are what the row sends, so that both show the same session."""
     with open(f"{SAMPLE}.records", "rb") as file:
-        sent = [connection.sent for row in rows.File(f"{SAMPLE}.rows").rows for connection in row.connections]
+        sent = [connection.sent for row in File(f"{SAMPLE}.rows").rows for connection in row.connections]
         expect("what the row sends", sent, [file.read()])
 
 
@@ -84,7 +82,7 @@ def test_statuses():
     )
 
 
-def test_first_command(room):
+def test_first_command(room, request):
     """The command of README that has a reply of the server runs as it stands."""
     with open(os.path.join(TOP, "README.md"), encoding="utf-8") as page:
         commands = re.findall(r"^    (\./start -- .*)$", page.read(), re.M)
@@ -99,6 +97,7 @@ def test_first_command(room):
     )
     expect("its output", (ran.returncode, ran.stdout), (0, "1 rows: 0 failed\n"))
     expect("the server's name", bool(NAMED.match(ran.stderr)), True)
+    expect("which server it is", is_named(ran.stderr, request.node.callspec.params["room"]), True)
     expect("the audit's line", "start: lawful: 5 entries\n" in ran.stderr, True)
     expect("the verdict", ran.stderr.splitlines()[-1].startswith("verdict: right"), True)
 

@@ -12,7 +12,7 @@ import pytest
 from dev.building.copies import version_here
 from nfs4tools.processes import PATIENCE, TOP, Process, Served
 
-pytestmark = [pytest.mark.quick, pytest.mark.xdist_group("install")]
+pytestmark = pytest.mark.xdist_group("install")
 RECORDS, ROW = os.path.join(TOP, "samples/two_owners.records"), os.path.join(TOP, "samples/two_owners.rows")
 # The commands that show a journal, with the path of each in this folder.
 SHOWING = {
@@ -21,6 +21,7 @@ SHOWING = {
     "nfs4-judge": "judge",
     "nfs4-show-journal": "show_journal",
 }
+SHOW_JOURNAL = os.path.join(TOP, "tools/show_journal")
 
 
 def project():
@@ -32,8 +33,8 @@ SCRIPTS = sorted(project()["scripts"])
 
 
 def run(*words, **how):
-    """What a command prints, which ends well; nothing of this run's Python is known to it. An environment is made of some
-    thousand files, which takes its time on a busy disk."""
+    """What a command prints, which ends well; nothing of this run's Python is known to it. An environment is made of
+    some thousand files, which takes its time on a busy disk."""
     ran = subprocess.run(words, capture_output=True, timeout=5 * PATIENCE, **how)
     assert ran.returncode == 0, ran.stderr.decode()
     return ran.stdout
@@ -78,6 +79,18 @@ def test_journal(installed, name):
         run(installed("nfs4-model"), "once", "--journal", "run.journal", stdin=records)
     shown = run(installed(name), "run.journal")
     assert shown and shown == run(sys.executable, os.path.join(TOP, "tools", SHOWING[name]), "run.journal")
+
+
+def test_page(installed):
+    """The page of a run has the same parts as that which the command of this folder writes."""
+    with open(RECORDS, "rb") as records:
+        run(installed("nfs4-model"), "once", "--journal", "run.journal", stdin=records)
+    pages = []
+    for number, command in enumerate([[installed("nfs4-show-journal")], [sys.executable, SHOW_JOURNAL]]):
+        run(*command, "--html", f"{number}.html", "run.journal")
+        with open(f"{number}.html", "rb") as file:
+            pages.append(file.read())
+    assert pages[0] == pages[1] and b"</html>" in pages[0]
 
 
 def test_rows_through_between(installed):

@@ -2,8 +2,8 @@
 page is found. The numbers of the repository are printed."""
 import pytest
 
-from dev.kept_numbers import told
-from dev.pages import Page, Sources, faults_of, helps, pages
+from dev.release_numbers import number_lines
+from dev.pages import Page, Sources, faults_of, files, helps, pages
 from dev.sentences import (
     EXCEPTIONS,
     GLOSSARY,
@@ -63,6 +63,7 @@ def sources():
 
 def test_pages(sources, tell):
     found = pages()
+    assert {page.path for page in found} == {path for path in files() if path.endswith(".md")} - {"CHANGELOG.md"}
     faults = [fault for page in found for fault in faults_of(page, sources)]
     assert not faults, "\n".join(faults)
     tell(f"{len(found)} pages, {sum(len(page.spans) for page in found):,} words in backticks")
@@ -78,17 +79,18 @@ def test_sentences(tell):
 
 def test_helps():
     """The help of each command of tools is written as the pages are."""
-    used = set()
+    used, found = set(), helps()
+    assert {"tools/src/nfs4tools/explain/command.py", "tools/dev/growth_limits.py"} <= found.keys()
     faults = [
         f"{path}:{line}: {fault}"
-        for path, text in helps().items()
+        for path, text in found.items()
         for line, fault in [*wrong_sentences(path, text, used), *wrong_words(path, text, used)]
     ]
     assert not faults, "\n".join(faults)
 
 
 def test_numbers(tell):
-    for line in told():
+    for line in number_lines():
         tell(line)
 
 

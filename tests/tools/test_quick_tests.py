@@ -13,7 +13,6 @@ from nfs4tools.quick.samples import SAMPLES
 from nfs4tools.rows.reading import File, files_of
 from nfs4tools.send.servers import is_refused
 
-pytestmark = pytest.mark.quick
 needs_program = pytest.mark.needs("nfs4state")
 DATA = os.path.join(TOP, "crates/rows/data")
 NAME = "the server of this test"

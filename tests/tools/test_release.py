@@ -49,6 +49,14 @@ def test_server():
     assert run(["./start", "--", "true"]).stderr.startswith(said)
 
 
+def test_page(tmp_path):
+    """The page of a run has its style and its scripts."""
+    journal, page = str(tmp_path / "run.journal"), tmp_path / "run.html"
+    assert run(["./start", "--journal", journal, "--", "true"]).returncode == 0
+    ran = run(["tools/show_journal", "--html", str(page), journal])
+    assert (ran.returncode, ran.stderr) == (0, "") and page.read_text().count("function") > 20
+
+
 @pytest.mark.parametrize("page", pages.PAGES)
 def test_examples(page, tmp_path, unpacked):
     """The commands with a `$` of the first section that has some; and what they print."""

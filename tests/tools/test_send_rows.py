@@ -28,8 +28,6 @@ from nfs4tools.rows.reading import File, files_of
 from nfs4tools.rows.reports import read_known, title
 from nfs4tools.wire import Opnum
 
-pytestmark = pytest.mark.quick
-
 DATA = os.path.join(TOP, "crates/rows/data")
 # A server goes on until its input ends.
 GOES_ON = ["--listen", "127.0.0.1:0", "--until-input-ends"]

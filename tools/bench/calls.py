@@ -3,8 +3,8 @@
 from collections.abc import Callable
 from typing import NamedTuple
 
-from bench.beside import STEP, be_known, lock_runs
-from bench.clients import ALL, FILE, NAME, OTHERS, TO_READ, Party
+from bench.scenes import STEP, be_known, lock_runs
+from bench.clients import ALL, FILE, NAME, OTHERS, TO_READ, SceneClient
 from helpers.expecting_client import BOTH, done, under, Wrong
 from nfs4tools.messages import CLOSE, NFS4_OK, RELEASE_LOCKOWNER, words
 from nfs4tools.wire import Status, u64
@@ -13,90 +13,90 @@ from nfs4tools.wire import Status, u64
 NO_STATE, MIDDLE = 0xFFFFFFF0, STEP * 500 + STEP // 2
 
 
-def nothing(party: Party) -> None:
+def nothing(client: SceneClient) -> None:
     pass
 
 
-def open_and_close(party: Party) -> None:
-    party.open_file(FILE)
-    party.close()
+def open_and_close(client: SceneClient) -> None:
+    client.open_file(FILE)
+    client.close()
 
 
-def arrive(party: Party) -> None:
-    party.arrive()
+def arrive(client: SceneClient) -> None:
+    client.arrive()
 
 
-def be_lent_it(party: Party) -> None:
+def be_lent_it(client: SceneClient) -> None:
     """From here on its OPENs to read bring nothing more."""
-    be_known(party)
-    party.borrow_and_close(NAME)
-    party.access = TO_READ
+    be_known(client)
+    client.borrow_and_close(NAME)
+    client.access = TO_READ
 
 
-def open_it(party: Party) -> None:
-    party.open_file(FILE)
+def open_it(client: SceneClient) -> None:
+    client.open_file(FILE)
 
 
-def hold_runs(party: Party) -> None:
+def hold_runs(client: SceneClient) -> None:
     """The runs that whoever is measured is to hold."""
-    party.open_file(FILE)
-    if party.scene.own_runs:
-        lock_runs(party, party.scene.own_runs)
+    client.open_file(FILE)
+    if client.scene.own_runs:
+        lock_runs(client, client.scene.own_runs)
 
 
-def hold_a_lock_state(party: Party) -> None:
+def hold_a_lock_state(client: SceneClient) -> None:
     """With these runs, or none."""
-    hold_runs(party)
-    if not party.scene.own_runs:
-        party.lock_as(party.locker, MIDDLE)
-        party.unlock_byte(MIDDLE)
+    hold_runs(client)
+    if not client.scene.own_runs:
+        client.lock_as(client.locker, MIDDLE)
+        client.unlock_byte(MIDDLE)
 
 
-def lock_and_unlock(party: Party) -> None:
-    party.lock_byte(MIDDLE)
-    party.unlock_byte(MIDDLE)
+def lock_and_unlock(client: SceneClient) -> None:
+    client.lock_byte(MIDDLE)
+    client.unlock_byte(MIDDLE)
 
 
-def test(party: Party) -> None:
-    party.test(u64(MIDDLE) + u64(1))
+def test(client: SceneClient) -> None:
+    client.test(u64(MIDDLE) + u64(1))
 
 
-def test_all(party: Party) -> None:
-    party.test(ALL)
+def test_all(client: SceneClient) -> None:
+    client.test(ALL)
 
 
-def close_once(party: Party) -> None:
-    party.open_file(FILE)
-    party.closing = party.close_words(party.last + 1)
-    party.close()
+def close_once(client: SceneClient) -> None:
+    client.open_file(FILE)
+    client.closing = client.close_words(client.last + 1)
+    client.close()
 
 
-def close_again(party: Party) -> None:
-    party.want(*under(FILE, party.closing, done(CLOSE, party.open_stateid())))
+def close_again(client: SceneClient) -> None:
+    client.want(*under(FILE, client.closing, done(CLOSE, client.open_stateid())))
 
 
-def close_nothing(party: Party) -> None:
-    party.refuse(Status.BAD_STATEID, words(CLOSE, party.last + 1) + party.stateid(NO_STATE, 1))
+def close_nothing(client: SceneClient) -> None:
+    client.refuse(Status.BAD_STATEID, words(CLOSE, client.last + 1) + client.stateid(NO_STATE, 1))
 
 
-def reopen_oldest(party: Party) -> None:
-    owner = party.scene.openers.popleft()
+def reopen_oldest(client: SceneClient) -> None:
+    owner = client.scene.openers.popleft()
     owner.close()
     owner.open_it(NAME)
-    party.scene.openers.append(owner)
+    client.scene.openers.append(owner)
 
 
-def release_oldest(party: Party) -> None:
-    owner, locker = party.scene.idle.popleft()
+def release_oldest(client: SceneClient) -> None:
+    owner, locker = client.scene.idle.popleft()
     owner.locker = locker
     owner.want((owner.release_words(), done(RELEASE_LOCKOWNER)))
 
 
-def open_for_writing(party: Party) -> None:
+def open_for_writing(client: SceneClient) -> None:
     """Another file each time, of which all that is lent is called back."""
-    status = party.open_by_name(OTHERS[party.turn], BOTH).status
-    party.turn += 1
-    if status != (Status.DELAY if party.scene.lenders else NFS4_OK):
+    status = client.open_by_name(OTHERS[client.turn], BOTH).status
+    client.turn += 1
+    if status != (Status.DELAY if client.scene.lenders else NFS4_OK):
         raise Wrong(f"an OPEN gets status {status}")
 
 
@@ -105,8 +105,8 @@ class Kind(NamedTuple):
     uncounted and counted; and what has to be there."""
 
     what: str
-    begin: Callable[[Party], None]
-    again: Callable[[Party], None]
+    begin: Callable[[SceneClient], None]
+    again: Callable[[SceneClient], None]
     calls: int
     before: int
     times: int
@@ -123,7 +123,7 @@ KINDS = {
     ),
     "LOCKT": Kind("of a byte, for reading", hold_runs, test, 1, 50, 500),
     "LOCKT-of-all": Kind("of all bytes, for reading", open_it, test_all, 1, 2, 20),
-    "READ": Kind("of 4 KiB, by an open's stateid", open_it, Party.read, 1, 50, 500),
+    "READ": Kind("of 4 KiB, by an open's stateid", open_it, SceneClient.read, 1, 50, 500),
     "SETCLIENTID+CONFIRM": Kind("of one id, by the same verifier", nothing, arrive, 2, 50, 250),
     "CLOSE-again": Kind("one that was answered OK comes again", close_once, close_again, 1, 50, 500),
     "CLOSE-of-nothing": Kind("by the number of no state", close_once, close_nothing, 1, 50, 500),

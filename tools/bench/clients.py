@@ -13,7 +13,7 @@ from nfs4tools.processes import Peer
 from nfs4tools.wire import WRITE_LT, u64, opaque
 
 if TYPE_CHECKING:
-    from bench.beside import Scene
+    from bench.scenes import Scene
 
 # The file that is measured, by its node, its name and its bytes; and the others.
 FILE, NAME, BLOCK = 1, b"a", b"x" * 4096
@@ -34,7 +34,7 @@ NOWHERE = callback_at(("127.0.0.1", 1000))
 TO_READ, ALL = 1, u64(0) + u64(2**64 - 1)
 
 
-class Party(Borrower):
+class SceneClient(Borrower):
     """A client of a scene, by one of its owners: the others are copies. The first lock of a lock owner is of one
     byte."""
 
@@ -44,11 +44,11 @@ class Party(Borrower):
         # The words of the CLOSE that came last, and the file that is opened next.
         self.closing, self.turn = b"", 0
 
-    def arrive(self) -> "Party":
+    def arrive(self) -> "SceneClient":
         self.introduce(NOWHERE)
         return self
 
-    def beside(self, number: int) -> "Party":
+    def beside(self, number: int) -> "SceneClient":
         """Another owner of the client, that isn't known yet."""
         other = copy(self)
         other.owner, other.last, other.is_confirmed, other.sent, other.got = b"owner %d" % number, 0, False, [], []
@@ -74,7 +74,7 @@ class Party(Borrower):
             raise Wrong(f"user {self.uid} is lent nothing")
         self.close()
 
-    def owners(self, names: Iterable[bytes]) -> Iterator["Party"]:
+    def owners(self, names: Iterable[bytes]) -> Iterator["SceneClient"]:
         """More owners, as they come, each with an open of one of these files."""
         for number, name in enumerate(names):
             owner = self.beside(number)

@@ -28,7 +28,7 @@ import tempfile
 from collections.abc import Callable, Sequence
 from concurrent.futures import ThreadPoolExecutor
 
-from bench.beside import KINDS as BESIDE, read_besides, spelled
+from bench.scenes import KINDS as BESIDE, read_besides, spelled
 from bench.calls import KINDS as CALLS
 from bench.figures import Figures, table
 from bench.script import Failure, expect_program, parser_of, run, some_of

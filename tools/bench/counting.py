@@ -6,7 +6,7 @@ import time
 from collections.abc import Sequence
 from typing import Any, cast
 
-from bench.beside import Scene, read_besides
+from bench.scenes import Scene, read_besides
 from bench.callgrind import Callgrind
 from bench.calls import KINDS
 from bench.clients import TREE
@@ -73,11 +73,11 @@ def spoken(program: str, tree: str, beside: str, names: Sequence[str]) -> list[t
         for make, numbers in read_besides(beside):
             make(scene, *numbers)
         for name in names:
-            kind, party = KINDS[name], scene.come()
-            kind.begin(party)
+            kind, client = KINDS[name], scene.come()
+            kind.begin(client)
             for times in kind.before, kind.times:
                 for _ in range(times):
-                    kind.again(party)
+                    kind.again(client)
                 conversation.mark()
         conversation.end()
         return conversation.joined()

@@ -3,7 +3,7 @@ import sys
 from collections.abc import Iterator, Sequence
 from typing import NamedTuple
 
-from bench.beside import spelled
+from bench.scenes import spelled
 from bench.calls import KINDS
 from bench.counting import counts
 from bench.table import markdown

@@ -17,8 +17,8 @@ import time
 from collections.abc import Sequence
 from itertools import cycle, islice
 
-from bench.beside import lenders, use
-from bench.clients import FILE, OTHERS, Party
+from bench.scenes import lenders, use
+from bench.clients import FILE, OTHERS, SceneClient
 from bench.lending import call_back, open_revoked, renew, server, sweep_alone, sweeper_milliseconds
 from bench.script import parser_of, run
 from helpers.expecting_client import done, under, Client
@@ -36,7 +36,7 @@ CALLED_BACK = 20
 IDLE, TOGETHER = 4000, 30
 
 
-def watch(pid: int, moment: float, renewed: Sequence[Party] = ()) -> list[float]:
+def watch(pid: int, moment: float, renewed: Sequence[SceneClient] = ()) -> list[float]:
     """How long each sweep runs up to a moment; these clients are renewed meanwhile."""
     sweeps: list[float] = []
     ran, seen, next_renewal = sweeper_milliseconds(pid), 0.0, 0.0
@@ -80,9 +80,9 @@ def revoke(program: str) -> list[float]:
         return sweeps
 
 
-def close_together(client: Client, owners: Sequence[Party]) -> list[tuple[Party, bytes]]:
+def close_together(client: Client, owners: Sequence[SceneClient]) -> list[tuple[SceneClient, bytes]]:
     """Each closes its open: their CLOSEs, and what is answered."""
-    closings: list[tuple[Party, bytes]] = []
+    closings: list[tuple[SceneClient, bytes]] = []
     for owner in owners:
         words = owner.close_words(owner.last + 1)
         owner.open_seqid += 1
@@ -117,7 +117,7 @@ def forget(program: str) -> list[float]:
         return sweeps
 
 
-def owners_of(client: Party, count: int) -> None:
+def owners_of(client: SceneClient, count: int) -> None:
     use(client.owners(islice(cycle(OTHERS), count)))
 
 

@@ -5,8 +5,8 @@ from collections.abc import Iterable, Iterator
 from contextlib import contextmanager
 from tempfile import NamedTemporaryFile
 
-from bench.beside import Scene
-from bench.clients import Party, TREE
+from bench.scenes import Scene
+from bench.clients import SceneClient, TREE
 from bench.servers import serving
 from helpers.expecting_client import BOTH, Wrong
 from helpers.server_helpers import peer_of
@@ -39,19 +39,19 @@ def sweep_alone(pid: int, seconds: float) -> float:
     return (sweeper_milliseconds(pid) - begun) / seconds
 
 
-def renew(clients: Iterable[Party]) -> None:
+def renew(clients: Iterable[SceneClient]) -> None:
     for client in clients:
         client.renew()
 
 
-def call_back(caller: Party, files: Iterable[bytes]) -> None:
+def call_back(caller: SceneClient, files: Iterable[bytes]) -> None:
     """Each is opened to write, which has to wait."""
     for name in files:
         if (status := caller.open_by_name(name, BOTH).status) != Status.DELAY:
             raise Wrong(f"an OPEN of a file that is lent gets status {status}")
 
 
-def open_revoked(caller: Party, files: Iterable[bytes]) -> None:
+def open_revoked(caller: SceneClient, files: Iterable[bytes]) -> None:
     """Each is opened to write, which needn't wait."""
     for name in files:
         if (status := caller.open_by_name(name, BOTH).status) != NFS4_OK:

@@ -29,8 +29,8 @@ import time
 from collections import defaultdict
 from statistics import median
 
-from bench.beside import lenders, Scene
-from bench.clients import FILE, OTHERS, Party
+from bench.scenes import lenders, Scene
+from bench.clients import FILE, OTHERS, SceneClient
 from bench.lending import call_back, open_revoked, renew, server, sweep_alone, sweeper_milliseconds
 from bench.script import parser_of, run
 from bench.servers import serving
@@ -136,7 +136,7 @@ def await_sweep(pid: int) -> None:
         time.sleep(0.001)
 
 
-def lend_and_call_back(scene: Scene, pid: int, count: int) -> Party:
+def lend_and_call_back(scene: Scene, pid: int, count: int) -> SceneClient:
     """The last of these clients, which calls back, in one second, what the others are lent: shortly before it is
     revoked."""
     clients, caller = lenders(scene, count - 1, len(OTHERS)), scene.come()
@@ -152,7 +152,7 @@ def lend_and_call_back(scene: Scene, pid: int, count: int) -> Party:
     return caller
 
 
-def second(pid: int, caller: Party) -> tuple[float, float, float]:
+def second(pid: int, caller: SceneClient) -> tuple[float, float, float]:
     """How long the sweeps ran in a second, and the longest time of RENEW and of NULL."""
     sent, got = compound(1, caller.renew_words()), results(1, NFS4_OK, done(RENEW))
     ran = sweeper_milliseconds(pid)

@@ -52,7 +52,7 @@ def answer(listener: socket.socket, change: tuple[int | None, int]) -> list[byte
     return replies
 
 
-class Trial:
+class LoadCheck:
     def __init__(self, load: str, workload: str, listener: socket.socket) -> None:
         self.workload, self.listener = workload, listener
         self.words = [load, workload, "--server", f"127.0.0.1:{listener.getsockname()[1]}", *OPTIONS]
@@ -86,7 +86,7 @@ def work() -> int:
         listener.settimeout(10)
         load = build("load/main.rs", folder)
         for workload in NAMES:
-            found, count = Trial(load, workload, listener).wrong()
+            found, count = LoadCheck(load, workload, listener).wrong()
             print(f"{workload}: {count} words changed in turn, {len(found)} misjudged")
             wrong += [f"{workload}: {line}" for line in found]
     print("\n".join(wrong[:20]), end="\n" * bool(wrong))

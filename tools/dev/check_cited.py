@@ -1,11 +1,11 @@
 """Checks that the functions that docs/CLAIMS.md and docs/CONTRACTS.md name are laws, or are called by what runs from
 `main` of nfs4state on. CONTRACTS lists those that the program doesn't run, and what runs in their place.
-tools/dev/cited.py says what names a function, and tools/dev/called_functions.py how calls are read. If there is a fault, the
-status is 1."""
+tools/dev/citations.py says what names a function, and tools/dev/called_functions.py how calls are read. If there is a
+fault, the status is 1."""
 import argparse
 
 from dev.called_functions import program_of
-from dev.cited import MEANT, PROGRAM, Citations, citing, unused
+from dev.citations import MEANT, PROGRAM, Citations, citing, unused
 
 
 def main() -> int:

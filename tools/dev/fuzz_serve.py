@@ -10,7 +10,8 @@ from collections import Counter
 from functools import partial
 from typing import Any
 
-from dev.fuzz import IDS, tell
+from dev.fuzz import tell
+from dev.fuzz_calls import IDS
 from helpers.expecting_client import Wrong
 from helpers.random_calls import CALLED_BACK, CONNECTIONS, missing, run
 from nfs4tools.built import expect_program

@@ -4,11 +4,12 @@
     gate_costs --from FILE
 
 - how long each command took, and how busy the machine was
-- the processor seconds of each crate: its library or program, its tests, and its edits that must fail
+- the processor seconds of each crate: its library or program, its tests, and its mutants
 - what has to be proved and tried again if a body of a crate changes
 
 Without a command it runs the commands of `.ci/run`, all from nothing: `rt ci --anew`, `tools/try_edits --all`, and
-the others. If all end well, it keeps their processor minutes for tools/dev/release_numbers, in tools/dev/release_numbers.json.
+the others. If all end well, it keeps their processor minutes for tools/dev/release_numbers, in
+tools/dev/release_numbers.json.
 
 With --keep it writes what it saw to FILE when a command ends. With --from it prints the tables of such a file.
 
@@ -28,15 +29,15 @@ from collections.abc import Iterator, Sequence
 from typing import Any
 
 from dev.clause_index import crates
-from dev.kept_numbers import keep
+from dev.release_numbers import keep_numbers
 
 TOP = os.path.dirname(os.path.dirname(os.path.dirname(os.path.abspath(__file__))))
 THEN = "then"
 # How the lines of `.ci/run` begin that something is kept for, and what makes them try all of it again.
 ANEW = {"rt ci": "--anew", "tools/try_edits": "--all"}
-PARTS = ("library", "tests", "edits")
-# How the folders begin in which `rt ci` and `tools/try_edits` check copies of a crate with edits.
-EDITED = ("rt-edit", "try-edits-", "try_edits-")
+PARTS = ("library", "tests", "mutants")
+# How the folders begin in which `rt ci` and `tools/try_edits` check mutants of a crate.
+OF_MUTANTS = ("rt-edit", "try-edits-", "try_edits-")
 TICK = os.sysconf("SC_CLK_TCK")
 # What was seen of commands and crates, as JSON keeps it.
 Run = dict[str, Any]
@@ -68,8 +69,8 @@ def is_below(process: str, top: str) -> bool:
 def part_of(words: Sequence[str], folder: str) -> str:
     """Which part of a crate this process of the prover is for."""
     # No check of a whole crate is of some functions only.
-    if "--only" in words or any(name.startswith(EDITED) for name in folder.split("/")):
-        return "edits"
+    if "--only" in words or any(name.startswith(OF_MUTANTS) for name in folder.split("/")):
+        return "mutants"
     return "tests" if "--test" in words or any(word.endswith("_tests.o") for word in words) else "library"
 
 
@@ -232,20 +233,20 @@ def crates_above() -> dict[str, list[str]]:
 
 
 def prices_of(crates: dict[str, Any]) -> dict[str, tuple[float, float]]:
-    """What is proved and tried again where a body of a crate changes, in seconds: proofs, and edits. A crate has no price
-    where one above it wasn't seen."""
+    """What is proved and tried again where a body of a crate changes, in seconds: proofs, and mutants. A crate has no
+    price where one above it wasn't seen."""
     prices = {}
     for name, again in crates_above().items():
         if all(it in crates for it in again):
-            edits = sum(crates[it].get("edits", 0) for it in again)
-            prices[name] = sum(crates[it].get(part, 0) for it in again for part in PARTS) - edits, edits
+            mutants = sum(crates[it].get("mutants", 0) for it in again)
+            prices[name] = sum(crates[it].get(part, 0) for it in again for part in PARTS) - mutants, mutants
     return prices
 
 
 def tell_crates(crates: dict[str, Any]) -> None:
     print(
-        "What each crate takes, in processor seconds, and how many of the machine's processors were busy meanwhile; and\n"
-        "what a change of one of its bodies has proved and tried again, in processor minutes:\n"
+        "What each crate takes, in processor seconds, and how many of the machine's processors were busy meanwhile;\n"
+        "and what a change of one of its bodies has proved and tried again, in processor minutes:\n"
     )
     total = {name: sum(it.get(part, 0) for part in PARTS) for name, it in crates.items()}
     prices, rows = prices_of(crates), []
@@ -262,7 +263,7 @@ def tell_crates(crates: dict[str, Any]) -> None:
         )
     sums = [sum(it.get(part, 0) for it in crates.values()) for part in PARTS]
     table(
-        ("Crate", "Library or program", "Tests", "Edits", "All", "Busy", "Proofs again", "Edits again", "A change"),
+        ("Crate", "Library or program", "Tests", "Mutants", "All", "Busy", "Proofs again", "Mutants again", "A change"),
         [*rows, ("all", *map(whole, (*sums, sum(sums))))],
     )
 
@@ -328,6 +329,6 @@ def main() -> int:
             write(run, given.keep)
     if not given.words and status == 0:
         seconds = sum(command["seconds"] for command in run["commands"])
-        keep("gate", {"minutes": round(seconds / 60), "kit": run["kit"], "date": run["date"]})
+        keep_numbers("gate", {"minutes": round(seconds / 60), "kit": run["kit"], "date": run["date"]})
     tell(run)
     return status

@@ -8,8 +8,8 @@ A count above its bound is reported. If it is above by more than a tenth, or can
 
    Methods count, also if a trait declares them without a body. A function's lines begin with the comment before it.
    Its clauses are each `requires` and `ensures` in it.
-2. The calls from `serve_on` over TCP to GETATTR's own rule: the functions that tools/dev/call_chain lists, with these two.
-   Each function has to be in its file, and its body, with the closures in it, has to call the next function by its
+2. The calls from `serve_on` over TCP to GETATTR's own rule: the functions that tools/dev/call_chain lists, with these
+   two. Each function has to be in its file, and its body, with the closures in it, has to call the next function by its
    name.
 
    No body may call a later function of the chain, if only one function has that name. The chain would be longer than
@@ -29,7 +29,7 @@ A count above its bound is reported. If it is above by more than a tenth, or can
 Tests don't count, nor do the crates of tests and the program `rows`."""
 import argparse
 
-from dev.growth import counts
+from dev.growth_counts import counts
 
 BOUNDS = {"functions": 55, "calls": 30, "lines": 63}
 # By which part of a bound a count may be above it.
@@ -44,7 +44,7 @@ def main() -> int:
     for count in counts():
         bound = BOUNDS.get(count.name, count.number)
         is_above = count.number > bound * (1 + SLACK)
-        print(count.told + f"; above {bound}" * (count.number > bound) + ", by more than a tenth" * is_above)
+        print(count.line + f"; above {bound}" * (count.number > bound) + ", by more than a tenth" * is_above)
         print("".join(f"    {line}\n" for line in count.listed if given.list), end="")
         print("".join(f"growth_limits: {count.name}: {line}\n" for line in count.wrong), end="")
         is_well = is_well and not is_above and not count.wrong

@@ -1,23 +1,24 @@
-"""What the pages say that can be looked up: README.md, docs/*.md, and the README.md of each folder in crates and tools, and
-of tools.
+"""What the pages say that can be looked up: README.md, docs/*.md, and the README.md of each folder in crates and tools,
+and of tools.
 
 Links lead to what is there, and their anchors to headings. Those to other machines aren't tried.
 
 Paths, in backticks or in a block of code, are words with a `/` that begin with a folder of the top, a crate, a folder
-of tools, or tests, src, specs, proofs or mutants; and those that end with .rt, .antt, .py or .edit. Each is the path of a file
-or folder, or the end of one. NAME, FILE, CRATE and `*` stand for any name. What is in a folder `out` isn't looked for.
+of tools, or tests, src, specs, proofs or mutants; and those that end with .rt, .antt, .py or .edit. Each is the path of
+a file or folder, or the end of one. NAME, FILE, CRATE and `*` stand for any name. What is in a folder `out` isn't
+looked for.
 
 Names stand in backticks, with nothing beside. Of `Core::apply` the last two are a type or trait with its function, a
 file or a crate with its, or an enumeration with its variant. A name with a capital and a small letter is defined in the
-sources, or imported there from elsewhere. So is one with an underscore, but on the pages for whoever writes a client, which name
-functions of other programs; and a word of small letters on those that say where something is to be changed. Elsewhere
-that may be a word of anything, and words of capitals are the protocol's.
+sources, or imported there from elsewhere. So is one with an underscore, but on the pages for whoever writes a client,
+which name functions of other programs; and a word of small letters on those that say where something is to be changed.
+Elsewhere that may be a word of anything, and words of capitals are the protocol's.
 
-Options stand in a line behind commands of this repository, of which one takes them: by tests/program/help*.txt for `nfs4state`;
-behind `--serve` of `./start` the server takes them, too; where it is Python, by the texts in its module that are an
-option and in no list, where those for other programs are, and by the calls of `add_argument` in what it imports; by any
-place in its text where it isn't. An option by itself in backticks is one of `nfs4state` or of a command that the page
-names, or stands there behind a command of others."""
+Options stand in a line behind commands of this repository, of which one takes them: by tests/program/help*.txt for
+`nfs4state`; behind `--serve` of `./start` the server takes them, too; where it is Python, by the texts in its module
+that are an option and in no list, where those for other programs are, and by the calls of `add_argument` in what it
+imports; by any place in its text where it isn't. An option by itself in backticks is one of `nfs4state` or of a command
+that the page names, or stands there behind a command of others."""
 import ast
 import os
 import re

@@ -14,7 +14,9 @@ from collections.abc import Iterator
 
 from nfs4tools import wire
 from nfs4tools.processes import TOP
-from nfs4tools.rows import reading as rows
+from nfs4tools.rows.errors import UNREAD
+from nfs4tools.rows.reading import File, files_of
+from nfs4tools.rows.row import Row
 from nfs4tools.send.replies import name_of
 from nfs4tools.wire import CompoundCall, NFSPROC4_NULL, Unreadable, split_records
 
@@ -42,7 +44,7 @@ def operations_of(record: bytes) -> Iterator[str]:
         return
 
 
-def operations_of_row(row: rows.Row) -> set[str]:
+def operations_of_row(row: Row) -> set[str]:
     records = (record for connection in row.connections for record in split_records(connection.sent)[0])
     return {name for record in records for name in operations_of(record)} or {NONE}
 
@@ -50,9 +52,9 @@ def operations_of_row(row: rows.Row) -> set[str]:
 def counted() -> dict[str, Counter[str]]:
     """By the operations: how many rows of each file send them."""
     found: dict[str, Counter[str]] = defaultdict(Counter)
-    for path in rows.files_of(DATA):
+    for path in files_of(DATA):
         file = os.path.basename(path).removesuffix(".rows")
-        for row in rows.File(path).rows:
+        for row in File(path).rows:
             for name in operations_of_row(row):
                 found[name][file] += 1
     return found
@@ -96,7 +98,7 @@ def main() -> int:
     given = parser.parse_args()
     try:
         wanted = index()
-    except rows.UNREAD as error:
+    except UNREAD as error:
         sys.exit(f"rows_index: {error}")
     if given.check:
         return check(wanted)

@@ -8,12 +8,12 @@ The inputs are made from the seed, and are the same for the same seed. The order
 `--runs` it goes on with the next seeds.
 
 `--last-moment [SECONDS]` does something else, for a minute if no time is given. Clients of two servers `nfs4state
-serve`, with leases of 1 and of 2 seconds, renew them about when the sweeps come (`helpers/last_moment.py`)."""
+serve`, with leases of 1 and of 2 seconds, renew them about when the sweeps come (`helpers/late_renewals.py`)."""
 import argparse
 import sys
 from typing import Any
 
-from helpers import last_moment
+from helpers import late_renewals
 from helpers.expecting_client import Wrong
 from helpers.stress_runs import run_all
 from nfs4tools.built import expect_program
@@ -39,7 +39,7 @@ def main() -> None:
         if given.last_moment is None:
             tally: Any = run_all(given, program)
         else:
-            tally = last_moment.run(program, given.last_moment, given.seed)
+            tally = late_renewals.run(program, given.last_moment, given.seed)
             print(f"stress: {tally.words()}")
     except Wrong as wrong:
         sys.exit(f"stress: {wrong}")

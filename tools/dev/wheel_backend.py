@@ -6,7 +6,7 @@ from typing import Any
 
 TOP = Path(__file__).resolve().parent.parent.parent
 SOURCES = TOP / "tools/src"
-SUFFIXES = ".py", ".pyi"
+SUFFIXES = ".py", ".pyi", ".html", ".css", ".js"
 WHEEL = "Wheel-Version: 1.0\nGenerator: nfs4tools\nRoot-Is-Purelib: true\nTag: py3-none-any\n"
 
 

@@ -68,7 +68,8 @@ def kit_here() -> str:
 
 
 def copy_sources(room: str, text: str) -> None:
-    """Copies the sources, as they stand in the checkout, to a folder, in which the program has this text of its build."""
+    """Copies the sources, as they stand in the checkout, to a folder, in which the program has this text of its
+    build."""
     for path in git("ls-files", "-z", "--cached", *UNTRACKED, *SOURCES).split("\0"):
         origin, target = os.path.join(TOP, path), os.path.join(room, path)
         if path and os.path.exists(origin):

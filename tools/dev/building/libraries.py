@@ -1,5 +1,5 @@
-"""The libraries that the toolchain's gate proved in this checkout. A copy of the same sources is lent them, so that only
-the program is proved again."""
+"""The libraries that the toolchain's gate proved in this checkout. A copy of the same sources is lent them, so that
+only the program is proved again."""
 import os
 import shutil
 from typing import Any

@@ -1,8 +1,8 @@
 """The program, proved and built in a copy of the sources, in which it says of which commit it is and what proves it.
 
-If the gate has proved all libraries of these sources here, the copy is lent them, and `rt run` proves the program alone.
-Else `rt ci` proves the program and all below it. Both compile what was proved. A stamp beside the program then ends with
-the program's SHA-256; without such a stamp no command of this repository takes a program for a proved one."""
+If the gate has proved all libraries of these sources here, the copy is lent them, and `rt run` proves the program
+alone. Else `rt ci` proves the program and all below it. Both compile what was proved. A stamp beside the program then
+ends with the program's SHA-256; without such a stamp no command of this repository takes a program for a proved one."""
 import hashlib
 import os
 import re
@@ -88,7 +88,7 @@ def crates_below(lines: list[str], name: str) -> set[str]:
 
 
 def keep_program_alone(room: str) -> int:
-    """Leaves in a copy of the sources the program and what is below it, without edits that must fail: how many crates."""
+    """Leaves in a copy of the sources the program and what is below it, without mutants: how many crates."""
     path = os.path.join(room, "crates.txt")
     with open(path, encoding="utf-8") as file:
         lines = file.read().splitlines()

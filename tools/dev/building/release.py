@@ -13,7 +13,7 @@ from dev.building.archive import Proved
 from dev.building.copies import BUILD_FILE, BUILD_TEXT, Unbuildable, commit_here, git, version_here
 from dev.building.telling import tell
 from dev.building.unproved import kit_folder
-from dev.kept_numbers import KEPT, keep, numbers
+from dev.release_numbers import NUMBERS_FILE, keep_numbers, numbers
 from nfs4tools.processes import TOP
 
 DIST, SUMS = os.path.join(TOP, "dist"), os.path.join(TOP, "dist/SHA256SUMS")
@@ -21,7 +21,7 @@ DIST, SUMS = os.path.join(TOP, "dist"), os.path.join(TOP, "dist/SHA256SUMS")
 GREEN, GATE_LOG = os.path.join(TOP, "out/gate/commit"), os.path.join(TOP, "out/gate/log")
 # Where the version of the tools stands, and how; and the numbers of the release.
 PROJECT_FILE, PROJECT_TEXT = "pyproject.toml", re.compile(r'\nversion = "[0-9.]+"\n')
-NUMBERS = os.path.relpath(KEPT, TOP)
+NUMBERS = os.path.relpath(NUMBERS_FILE, TOP)
 # What the toolchain says of a crate that it proves.
 CRATE = re.compile(r"^== (\w+)$(?:(?!^== )[\s\S])*?^logic=proved functions=([0-9]+)", re.M)
 ENDED = re.compile(r"^[0-9]+ passed, 0 failed", re.M)
@@ -155,7 +155,7 @@ def release(wanted: Wanted) -> None:
         raise Unbuildable(f"the archive has {len(data)} bytes, above {archive.LIMIT}")
     write_dist(archive.archive_of(wanted.version), data)
     set_version(wanted.version)
-    keep("release", numbers())
+    keep_numbers("release", numbers())
     tell(
         f"dist/{archive.archive_of(wanted.version)}: {len(data)} bytes; commit dist, {BUILD_FILE}, {PROJECT_FILE} and {NUMBERS}"
     )

@@ -1,4 +1,4 @@
-"""NFSv4.0 messages as bytes (RFC 5531, RFC 7531): built by hand for tests and measurements; `wire.py` has the types."""
+"""NFSv4.0 messages as bytes (RFC 5531, RFC 7531): built by hand for tests and measurements; `wire` has the types."""
 from nfs4tools.wire import Opnum, Status, opaque, record, u32
 
 # The numbers by the names of RFC 7531, and words as they are sent.

@@ -16,15 +16,15 @@ from nfs4tools.messages import split
 
 PROGRAM = program_path("nfs4state")
 LISTENING = re.compile(rb"listening on 127\.0\.0\.1:([0-9]+)\n")
-# The line behind it, which says what is served.
-SERVING = re.compile(rb"serving [0-9]+ files, lease [0-9]+ s, epoch [0-9]+\n")
-# The files that a server has without a document, by a policy with which it calls no client back: so that its journal has
-# an entry for each call, and for what its sweeps end, and no other.
+# The next line: what is served, and the wall time of moment 0. Release 0.2 and a clock that can't be read tell no time.
+SERVING = re.compile(rb"serving [0-9]+ files, lease [0-9]+ s, epoch [0-9]+(, moment 0 at [-0-9T:.]+Z)?\n")
+# The files that a server has without a document, by a policy with which it calls no client back: so that its journal
+# has an entry for each call, and for what its sweeps end, and no other.
 NO_CALLBACKS = os.path.join(TOP, "samples/no_callbacks.toml")
 # The file by which a server of this program waits for the sockets of its callbacks.
 EPOLL = "anon_inode:[eventpoll]"
 # The seconds that a server has to begin or to end, and those in which a reply has to come, on however busy a machine.
-PATIENCE, REPLY_PATIENCE = 60, 20
+PATIENCE, REPLY_PATIENCE = 180, 20
 
 
 def tree_for_clients(folder: str) -> str:
@@ -89,7 +89,8 @@ class Served(Process):
             self.errors = b""
 
     def next_line(self) -> bytes:
-        """The next line on standard error other than that of what is served; or what comes before its end, or in time."""
+        """The next line on standard error other than that of what is served; or what comes before its end, or in
+        time."""
         line = self.read_line()
         return self.read_line() if SERVING.fullmatch(line) else line
 

@@ -4,7 +4,7 @@ from collections.abc import Sequence
 
 from nfs4tools import wire
 from nfs4tools.model.state import State
-from nfs4tools.model.states import Refusal, handle_of
+from nfs4tools.model.state_parts import Refusal, handle_of
 from nfs4tools.model.tree import FILES, NAME_LIMIT, TEXT_LIMIT
 from nfs4tools.wire import Status, u32, u64
 

@@ -1,7 +1,7 @@
 """The rules of delegations (RFC 7530, section 10.4), which `Server` has with its others: what one is in the way
 of, when it is given, called back, given back and taken. Sections are those of RFC 7530."""
 from nfs4tools.model.state import State
-from nfs4tools.model.states import Delegation, Recall, Refusal, UNKNOWN, UP, expect_seqid
+from nfs4tools.model.state_parts import Delegation, Recall, Refusal, UNKNOWN, UP, expect_seqid
 from nfs4tools.wire import (
     CLAIM_NULL,
     OPEN_DELEGATE_NONE,

@@ -1,7 +1,7 @@
 """The bytes of files, and who may read and write them (RFC 7530, sections 9.1.4.3 and 9.1.6)."""
 from nfs4tools.model.attributes import Attributes
 from nfs4tools.model.delegations import Delegating
-from nfs4tools.model.states import Delegation, LockState, OpenState, Refusal, expect_seqid, is_special
+from nfs4tools.model.state_parts import Delegation, LockState, OpenState, Refusal, expect_seqid, is_special
 from nfs4tools.model.tree import TEXT_LIMIT
 from nfs4tools.wire import BOTH, OPEN_DELEGATE_WRITE, READ, Stateid, Status
 

@@ -21,7 +21,7 @@ from nfs4tools.callbacks.messages import recall_call
 from nfs4tools.journal.entries import MOMENT_LIMIT
 from nfs4tools.journal.journal import LEASE_LIMIT, Recorder, journal_bytes
 from nfs4tools.model.recall_queue import Queuing
-from nfs4tools.model.states import Unchanged
+from nfs4tools.model.state_parts import Unchanged
 from nfs4tools.model.tree import Refused, Tree
 from nfs4tools.wire import u32
 

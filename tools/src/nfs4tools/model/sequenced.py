@@ -2,8 +2,8 @@
 from typing import Any
 
 from nfs4tools.model.state import State
-from nfs4tools.model.states import (
-    Kept,
+from nfs4tools.model.state_parts import (
+    LastRequest,
     LockState,
     OpenState,
     Owner,
@@ -80,9 +80,9 @@ class Sequencing(State):
             self.open_owners, self.opens = before
         return result
 
-    def kept(self, seqid: int, request: Request, result: Result) -> Kept:
+    def kept(self, seqid: int, request: Request, result: Result) -> LastRequest:
         """What is kept of the request that is answered."""
-        return Kept(seqid, request, result, self.entries, self.moment)
+        return LastRequest(seqid, request, result, self.entries, self.moment)
 
     def owner_of(self, request: Request) -> Owner | None:
         """The owner of a sequenced operation, or None for one that is unknown."""

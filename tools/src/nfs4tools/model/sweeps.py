@@ -4,7 +4,7 @@ entry of the journal, or Unchanged. Sections are those of RFC 7530."""
 from dataclasses import dataclass
 
 from nfs4tools.model.delegations import Delegating
-from nfs4tools.model.states import DOWN, NOT_DUE, Owner, UP, Unchanged
+from nfs4tools.model.state_parts import DOWN, NOT_DUE, Owner, UP, Unchanged
 
 
 @dataclass(frozen=True)

@@ -7,7 +7,7 @@ from nfs4tools import wire
 from nfs4tools.journal.entries import Answer, Entry
 from nfs4tools.journal.journal import Recorder
 from nfs4tools.journal.words import STATUS_NAMES, answer_words, line_of, principal_words, words_read
-from nfs4tools.model.states import Filehandles, Result
+from nfs4tools.model.state_parts import Filehandles, Result
 from nfs4tools.wire import CompoundCall, Opnum
 
 OPERATION_NAMES = {**{int(it): it.name for it in Opnum}, **{it: name for name, it in wire.OTHER_OPERATIONS.items()}}

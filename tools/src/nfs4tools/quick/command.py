@@ -22,8 +22,8 @@ from dataclasses import dataclass
 
 from nfs4tools.built import TOP
 from nfs4tools.quick import journals, rows, samples
-from nfs4tools.quick.hands import Hands, Late
-from nfs4tools.quick.judged import SERVE, WORDS, Judged, Kind, Outcome, server_of
+from nfs4tools.quick.workers import Workers, Late
+from nfs4tools.quick.judged_server import SERVE, WORDS, JudgedServer, Kind, Outcome, server_of
 from nfs4tools.rows.reading import files_of
 
 DATA, SAMPLES = os.path.join(TOP, "crates/rows/data"), os.path.join(TOP, "samples")
@@ -36,17 +36,17 @@ class Plan:
     """What is tested: the server that is judged, with the rows and the samples that it gets; and, if there is one, a
     program that gets the rows of this tree besides."""
 
-    judged: Judged
+    judged: JudgedServer
     rows: str
     samples: str
-    also: Judged | None = None
+    also: JudgedServer | None = None
 
 
 class Parts:
     """The parts, one after the other. The last ones look at the journals that the others left in a folder, the room."""
 
-    def __init__(self, plan: Plan, hands: Hands, room: str) -> None:
-        self.plan, self.hands, self.room = plan, hands, room
+    def __init__(self, plan: Plan, workers: Workers, room: str) -> None:
+        self.plan, self.workers, self.room = plan, workers, room
         self.left: list[tuple[str, str]] = []
 
     def each(self) -> Iterator[tuple[str, Callable[[], Outcome]]]:
@@ -62,7 +62,7 @@ class Parts:
         yield "changed journals", lambda: self.audited(journals.refused, sampled)
 
     def by_model(self) -> Outcome:
-        return self.hands.each(rows.by_model, files_of(DATA))
+        return self.workers.each(rows.by_model, files_of(DATA))
 
     def over_tcp(self) -> Outcome:
         return self.sent(self.plan.judged, self.plan.rows)
@@ -71,17 +71,17 @@ class Parts:
         assert self.plan.also is not None
         return self.sent(self.plan.also, DATA)
 
-    def sent(self, judged: Judged, folder: str) -> Outcome:
+    def sent(self, judged: JudgedServer, folder: str) -> Outcome:
         read, outcome = rows.read_all(folder)
         found, note = rows.sendable(judged, read)
         room = tempfile.mkdtemp(dir=self.room)
-        outcome.add(self.hands.each(rows.send, rows.batches(judged, found, room)))
+        outcome.add(self.workers.each(rows.send, rows.batches(judged, found, room)))
         outcome.notes.append(note)
         return self.kept(outcome)
 
     def of_samples(self) -> Outcome:
         tasks, outcome = samples.runs(self.plan.judged, self.plan.samples, self.room)
-        outcome.add(self.hands.each(samples.run_sample, tasks))
+        outcome.add(self.workers.each(samples.run_sample, tasks))
         return self.kept(outcome)
 
     def kept(self, outcome: Outcome) -> Outcome:
@@ -91,7 +91,7 @@ class Parts:
     def audited(self, work: Callable[[journals.Audit], Outcome], found: list[tuple[str, str]]) -> Outcome:
         starts = range(0, len(found), rows.TOGETHER)
         tasks = [journals.Audit(self.plan.judged, found[at : at + rows.TOGETHER]) for at in starts]
-        return self.hands.each(work, tasks)
+        return self.workers.each(work, tasks)
 
 
 def run_parts(plan: Plan, seconds: float) -> Outcome:
@@ -101,7 +101,7 @@ def run_parts(plan: Plan, seconds: float) -> Outcome:
         # If processes are ended, what they leave goes with the room.
         tempfile.tempdir = room
         try:
-            for part, work in Parts(plan, Hands(seconds), room).each():
+            for part, work in Parts(plan, Workers(seconds), room).each():
                 begun = time.monotonic()
                 outcome = work()
                 tell(part, outcome, time.monotonic() - begun)
@@ -152,7 +152,7 @@ def read_options() -> tuple[argparse.Namespace, Plan]:
     return given, Plan(judged, given.rows, given.samples, also)
 
 
-def fault_of(judged: Judged) -> str | None:
+def fault_of(judged: JudgedServer) -> str | None:
     """Why this can't be started as a server, if it can't."""
     if not judged.command or shutil.which(judged.command[0]) is None:
         return f"there is no program {' '.join(judged.command[:1])}"

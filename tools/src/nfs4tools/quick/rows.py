@@ -8,9 +8,11 @@ from collections.abc import Iterator
 from dataclasses import dataclass
 
 from nfs4tools.processes import REPLY_PATIENCE, Served
-from nfs4tools.quick.judged import Judged, Outcome
+from nfs4tools.quick.judged_server import JudgedServer, Outcome
 from nfs4tools.rows.by_model import check_file
-from nfs4tools.rows.reading import UNREAD, File, Row, files_of, refusal
+from nfs4tools.rows.errors import UNREAD, refusal
+from nfs4tools.rows.reading import File, files_of
+from nfs4tools.rows.row import Row
 from nfs4tools.rows.reports import Outcome as Sent, lines_of, title
 from nfs4tools.send.names import NoSite, learn
 from nfs4tools.send.servers import ALONE, ORDERING, Listener, failure_alone, named_sender, outcomes_of
@@ -41,19 +43,19 @@ def read_all(folder: str) -> tuple[list[Row], Outcome]:
 class Batch:
     """Rows that are sent by one task, and how the paths of the journals begin that they leave."""
 
-    judged: Judged
+    judged: JudgedServer
     rows: list[Row]
     journals: str
 
 
-def batches(judged: Judged, rows: list[Row], journals: str) -> Iterator[Batch]:
+def batches(judged: JudgedServer, rows: list[Row], journals: str) -> Iterator[Batch]:
     """The tasks of sending these rows."""
     size = len(rows) if judged.is_model else TOGETHER
     for first in range(0, len(rows), size):
         yield Batch(judged, rows[first : first + size], os.path.join(journals, str(first)))
 
 
-def sendable(judged: Judged, rows: list[Row]) -> tuple[list[Row], str]:
+def sendable(judged: JudgedServer, rows: list[Row]) -> tuple[list[Row], str]:
     """The rows that can be sent, and a note on the others."""
     found = [row for row in rows if not (row.is_alone if judged.is_model else row.is_ordering)]
     return found, f"{len(rows) - len(found)} {ALONE if judged.is_model else ORDERING}"

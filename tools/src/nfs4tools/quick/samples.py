@@ -10,8 +10,10 @@ from dataclasses import dataclass
 from nfs4tools.journal.journal import Recorder
 from nfs4tools.model.tree import DEFAULT, Tree
 from nfs4tools.processes import PATIENCE, Process, Served, TOP, is_silent
-from nfs4tools.quick.judged import Judged, Outcome
-from nfs4tools.rows.reading import File, Row, words_beside
+from nfs4tools.quick.judged_server import JudgedServer, Outcome
+from nfs4tools.rows.differences import words_beside
+from nfs4tools.rows.reading import File
+from nfs4tools.rows.row import Row
 from nfs4tools.rows.reports import Outcome as Sent, lines_of
 from nfs4tools.send import exchange
 from nfs4tools.send.exchange import Plain
@@ -59,7 +61,7 @@ SAMPLES = [
 class Run:
     """A sample that is run by one task, from this folder; and where its journal goes."""
 
-    judged: Judged
+    judged: JudgedServer
     sample: Sample
     folder: str
     journal: str
@@ -68,7 +70,7 @@ class Run:
         return os.path.join(self.folder, name)
 
 
-def runs(judged: Judged, folder: str, journals: str) -> tuple[list[Run], Outcome]:
+def runs(judged: JudgedServer, folder: str, journals: str) -> tuple[list[Run], Outcome]:
     """The tasks; and whether each sample of the folder is run. A sample that the folder hasn't got is left out."""
     known = {name for sample in SAMPLES for name in sample.files}
     found = {name for name in os.listdir(folder) if re.search(r"\.(?:rows|records)$", name)}

@@ -9,9 +9,13 @@ from typing import Any
 from nfs4tools import wire
 from nfs4tools.callbacks.messages import recall_call
 from nfs4tools.model.server import Server
-from nfs4tools.model.states import DOWN, NOT_LIVE, UNKNOWN, Unchanged
+from nfs4tools.model.state_parts import DOWN, NOT_LIVE, UNKNOWN, Unchanged
 from nfs4tools.model.tree import DEFAULT, Refused, Tree
-from nfs4tools.rows import reading as rows
+from nfs4tools.rows.differences import words_beside
+from nfs4tools.rows.errors import UNREAD, refusal
+from nfs4tools.rows.orders import Forget, Mark, ORDERS, Pending, Probe, Revoke, Sweep, TakeRecall, order_line
+from nfs4tools.rows.reading import File, files_of
+from nfs4tools.rows.row import Connection, Row
 
 
 class Unreached(Server):
@@ -26,7 +30,7 @@ class Unreached(Server):
         return found
 
 
-def run(row: rows.Row, kind: type[Any] = Server) -> list[tuple[bytes, str | None, list[Any]]]:
+def run(row: Row, kind: type[Any] = Server) -> list[tuple[bytes, str | None, list[Any]]]:
     """For each connection what it gets: bytes, the fault that ends it, and what came of the orders meanwhile."""
     try:
         tree = Tree(DEFAULT if row.document is None else row.document)
@@ -36,7 +40,7 @@ def run(row: rows.Row, kind: type[Any] = Server) -> list[tuple[bytes, str | None
     return [converse(server, connection) for connection in row.connections]
 
 
-def converse(server: Server, connection: rows.Connection) -> tuple[bytes, str | None, list[Any]]:
+def converse(server: Server, connection: Connection) -> tuple[bytes, str | None, list[Any]]:
     """Sends a connection's bytes to the server, and does in between what the row says."""
     records, fault = wire.split_records(connection.sent)
     replies, done, ordered = [], 0, []
@@ -45,7 +49,7 @@ def converse(server: Server, connection: rows.Connection) -> tuple[bytes, str | 
         count = len(wire.split_records(connection.sent[:place])[0])
         replies += [server.reply(record) for record in records[done:count]]
         done = count
-        if isinstance(stop, rows.ORDERS):
+        if isinstance(stop, ORDERS):
             ordered.append(outcome_of(server, stop))
         else:
             server.moment = stop
@@ -55,24 +59,24 @@ def converse(server: Server, connection: rows.Connection) -> tuple[bytes, str | 
 def outcome_of(server: Server, order: Any) -> Any:
     """The order, with what came of it in the place of what is wanted."""
     match order:
-        case rows.Sweep(moment):
+        case Sweep(moment):
             swept = server.sweep(moment)
-            return rows.Sweep(moment, swept.expired, swept.kept, swept.revoked, swept.forgotten)
-        case rows.Mark(client, is_up):
-            return rows.Mark(client, is_up, is_marked(server, client, is_up))
-        case rows.Revoke(moment):
+            return Sweep(moment, swept.expired, swept.kept, swept.revoked, swept.forgotten)
+        case Mark(client, is_up):
+            return Mark(client, is_up, is_marked(server, client, is_up))
+        case Revoke(moment):
             found: Any = server.due(moment)
-            return rows.Revoke(moment, None if server.revoke(moment) is None else found.number)
-        case rows.Forget(moment):
+            return Revoke(moment, None if server.revoke(moment) is None else found.number)
+        case Forget(moment):
             found = [(owner.name.client, owner.name.name) for owner in server.idle(moment)[:1]]
-            return rows.Forget(moment, None if server.forget(moment) is None else found[0])
-        case rows.Take():
+            return Forget(moment, None if server.forget(moment) is None else found[0])
+        case TakeRecall():
             recall = server.take_recall()
-            return rows.Take() if recall is None else rows.Take(recall_call(order.xid, recall))
-        case rows.Pending():
-            return rows.Pending(len(server.pending()))
-        case rows.Probe(after):
-            return rows.Probe(after, server.probe(after))
+            return TakeRecall() if recall is None else TakeRecall(recall_call(order.xid, recall))
+        case Pending():
+            return Pending(len(server.pending()))
+        case Probe(after):
+            return Probe(after, server.probe(after))
 
 
 def is_marked(server: Server, client: int, is_up: bool) -> bool:
@@ -86,24 +90,24 @@ def is_marked(server: Server, client: int, is_up: bool) -> bool:
     return True
 
 
-def wanted_of(connection: rows.Connection) -> tuple[bytes, str | None, list[Any]]:
-    ordered = [stop for _, stop in connection.stops if isinstance(stop, rows.ORDERS)]
+def wanted_of(connection: Connection) -> tuple[bytes, str | None, list[Any]]:
+    ordered = [stop for _, stop in connection.stops if isinstance(stop, ORDERS)]
     return connection.wanted, connection.fault, ordered
 
 
-def differences(connection: rows.Connection, got: Any) -> Iterator[str]:
+def differences(connection: Connection, got: Any) -> Iterator[str]:
     """Lines that say how what a connection gets differs from what the row wants."""
     replies, fault, ordered = got
     if fault != connection.fault:
         yield f"    ends: wanted {connection.fault}, the model {fault}"
     for wanted, came in zip(wanted_of(connection)[2], ordered):
         if came != wanted:
-            yield f"    wanted {rows.order_line(wanted)}, the model {rows.order_line(came)}"
+            yield f"    wanted {order_line(wanted)}, the model {order_line(came)}"
     if connection.wanted != replies:
-        yield from rows.words_beside(connection.wanted, replies, "model")
+        yield from words_beside(connection.wanted, replies, "model")
 
 
-def faults_of(row: rows.Row) -> list[str]:
+def faults_of(row: Row) -> list[str]:
     """Lines that say what is wrong with the row by the model; none if the model agrees."""
     got, place = run(row), f"{row.file}:{row.line}"
     for number, connection in enumerate(row.connections):
@@ -137,9 +141,9 @@ class Counts:
 def check_file(file: str) -> tuple[Counts, list[list[str]]]:
     """What comes of the rows of a file; and of each that differs the lines that say what is wrong."""
     try:
-        found = rows.File(file).rows
-    except rows.UNREAD as error:
-        return Counts(unread=1), [[rows.refusal(file, error)]]
+        found = File(file).rows
+    except UNREAD as error:
+        return Counts(unread=1), [[refusal(file, error)]]
     faults = [lines for lines in map(faults_of, found) if lines]
     return Counts(len(found) - len(faults), len(faults)), faults
 
@@ -148,7 +152,7 @@ def check(paths: list[str]) -> int:
     """Checks the rows of files and folders, and says what comes of them: the status."""
     counts = Counts()
     try:
-        files = [file for path in paths for file in rows.files_of(path)]
+        files = [file for path in paths for file in files_of(path)]
     except OSError as error:
         sys.exit(f"check_rows: {error}")
     for file in files:

@@ -3,8 +3,9 @@ import os
 from collections.abc import Callable
 from concurrent.futures import ThreadPoolExecutor
 
-from nfs4tools.rows import reading as rows
-from nfs4tools.rows.reading import Row
+from nfs4tools.rows.errors import UNREAD, refusal
+from nfs4tools.rows.reading import File
+from nfs4tools.rows.row import Part, Row
 
 # The rows of a file, and what is to be said where it can't be read.
 RowFile = tuple[list[Row], str | None]
@@ -12,9 +13,9 @@ RowFile = tuple[list[Row], str | None]
 
 def read(path: str) -> RowFile:
     try:
-        return rows.File(path).rows, None
-    except rows.UNREAD as error:
-        return [], rows.refusal(path, error)
+        return File(path).rows, None
+    except UNREAD as error:
+        return [], refusal(path, error)
 
 
 def show(found: list[Row]) -> None:
@@ -22,7 +23,7 @@ def show(found: list[Row]) -> None:
     for row in found:
         print(f"row {row.name}")
         for part in row.steps:
-            if isinstance(part, rows.Part):
+            if isinstance(part, Part):
                 print(f"send {part.sent.hex()}\nwant {part.wanted.hex()}")
 
 
@@ -36,11 +37,11 @@ def run_all(files: list[RowFile], way: Callable[[Row], list[str]]) -> int:
     """Runs the rows of files, of which some may not have been read, and reports: the status."""
     count = failed = 0
     with ThreadPoolExecutor(os.cpu_count()) as pool:
-        running = [(pool.map(way, found), found, refusal) for found, refusal in files]
+        running = [(pool.map(way, found), found, why_unread) for found, why_unread in files]
         try:
-            for came, found, refusal in running:
-                if refusal is not None:
-                    print(refusal)
+            for came, found, why_unread in running:
+                if why_unread is not None:
+                    print(why_unread)
                 for row, lines in zip(found, came):
                     if lines:
                         report(row, lines)
@@ -48,15 +49,15 @@ def run_all(files: list[RowFile], way: Callable[[Row], list[str]]) -> int:
         except BaseException:
             pool.shutdown(cancel_futures=True)
             raise
-    unread = sum(refusal is not None for _, refusal in files)
+    unread = sum(why_unread is not None for _, why_unread in files)
     print(f"{count} rows in {len(files)} files: {failed} failed, {unread} files not read")
     return 0 if count and not failed and not unread else 1
 
 
 def show_all(files: list[RowFile]) -> int:
     """Shows the bytes of the rows of files: the status."""
-    for found, refusal in files:
-        if refusal is not None:
-            print(refusal)
+    for found, why_unread in files:
+        if why_unread is not None:
+            print(why_unread)
         show(found)
-    return 1 if any(refusal is not None for _, refusal in files) else 0
+    return 1 if any(why_unread is not None for _, why_unread in files) else 0

@@ -5,7 +5,8 @@ from collections.abc import Iterator
 from typing import NamedTuple
 from xml.sax.saxutils import quoteattr
 
-from nfs4tools.rows import reading as rows
+from nfs4tools.rows.differences import words_beside
+from nfs4tools.rows.row import Row
 
 
 class Failure(NamedTuple):
@@ -20,7 +21,7 @@ class Outcome(NamedTuple):
     """A row that was sent, with what is wrong, or None, and the seconds that it took; or one that was left out, with
     why. What is known of a row's difference is a text, or None."""
 
-    row: rows.Row
+    row: Row
     failure: Failure | None
     seconds: float
     left_out: str | None
@@ -31,7 +32,7 @@ class Unread(Exception):
     """A file of known differences that can't be read; the argument says why."""
 
 
-def title(row: rows.Row) -> str:
+def title(row: Row) -> str:
     """A row by its file's name and its own, which no other row has."""
     return f"{row.file.rpartition('/')[2]}: {row.name}"
 
@@ -81,7 +82,7 @@ def lines_of(outcome: Outcome) -> Iterator[str]:
         yield from (f"    {rule}" for rule in row.rule)
         yield f"    {outcome.failure.what}"
         if outcome.failure.wanted != outcome.failure.got:
-            yield from rows.words_beside(outcome.failure.wanted, outcome.failure.got, "got")
+            yield from words_beside(outcome.failure.wanted, outcome.failure.got, "got")
 
 
 def summary(outcomes: list[Outcome]) -> str:

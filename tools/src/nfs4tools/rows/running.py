@@ -21,21 +21,9 @@ from nfs4tools.rows.driver import (
     SHARED,
     Swept,
 )
-from nfs4tools.rows.reading import (
-    Forget,
-    Mark,
-    Order,
-    Part,
-    Pending,
-    Probe,
-    Revoke,
-    Row,
-    Step,
-    Sweep,
-    Take,
-    order_line,
-    words_beside,
-)
+from nfs4tools.rows.differences import words_beside
+from nfs4tools.rows.orders import Forget, Mark, Order, Pending, Probe, Revoke, Sweep, TakeRecall, order_line
+from nfs4tools.rows.row import Part, Row, Step
 from nfs4tools.wire import OpenOwner
 
 
@@ -139,7 +127,7 @@ def take(driver: Driver, step: Step, piece: int, has_room: bool) -> Came:
             return driver.revoke(moment)
         case Forget(moment):
             return driver.forget(moment)
-        case Take():
+        case TakeRecall():
             return driver.take_recall(step.xid)
         case Pending():
             return driver.pending()
@@ -183,7 +171,7 @@ def wanted_of(step: Order) -> Came:
             return Swept(expired, kept, changed=0, refused=0, revoked=revoked, forgotten=forgotten, stopped=0)
         case Mark(_, _, is_live):
             return Marked(0 if is_live else NOT_LIVE)
-        case Take(record):
+        case TakeRecall(record):
             return record
         case Pending(count):
             return count
@@ -259,7 +247,7 @@ def lines_of(row: Row, wrong: Wrong | None, piece: int = WHOLE) -> list[str]:
 
 def lines_of_order(order: Order, got: Any) -> Iterator[str]:
     yield f"    wanted {order_line(order)}"
-    if isinstance(order, Take):
+    if isinstance(order, TakeRecall):
         yield from words_beside(order.record, got, "got")
     else:
         names = got._asdict() if hasattr(got, "_asdict") else {"client" if isinstance(order, Probe) else "pending": got}

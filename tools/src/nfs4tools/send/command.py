@@ -38,7 +38,7 @@ the first difference in words. Without --names the words of the reply are printe
 import signal
 import sys
 
-from nfs4tools.rows.reading import UNREAD
+from nfs4tools.rows.errors import UNREAD
 from nfs4tools.rows.reports import Unread
 from nfs4tools.send.exchange import NoReply
 from nfs4tools.send.names import NoSite

@@ -9,7 +9,7 @@ from typing import Any, NamedTuple
 from nfs4tools import wire
 from nfs4tools.messages import GETFH, NFS4_OK, PUTFH, PUTROOTFH, SETCLIENTID_CONFIRM, setclientid, split, xid
 from nfs4tools.processes import Peer, REPLY_PATIENCE
-from nfs4tools.rows.reading import Connection, Row
+from nfs4tools.rows.row import Connection, Row
 from nfs4tools.rows.reports import Failure
 from nfs4tools.send.names import Bound, Names, Operation, Site
 from nfs4tools.send.replies import Reply, Value, difference, difference_of_results, first_difference, values_of

@@ -11,7 +11,7 @@ from typing import Any, NamedTuple
 
 from nfs4tools.messages import GETFH, PUTFH, PUTROOTFH, compound, lookup, setclientid
 from nfs4tools.processes import Peer
-from nfs4tools.rows.reading import Row
+from nfs4tools.rows.row import Row
 from nfs4tools.send.replies import (
     CLIENTID,
     CONFIRM,

@@ -11,7 +11,7 @@ from typing import Any, Literal, NamedTuple
 from nfs4tools import wire
 from nfs4tools.journal.words import SHOWN, STATUS_NAMES, is_shown_as_text, number_word
 from nfs4tools.model.attributes import NAMES
-from nfs4tools.rows import reading as rows
+from nfs4tools.rows.words import MESSAGE_WORDS, NAMES as ROW_NAMES
 from nfs4tools.wire import Opnum, Reader, Status, Unreadable, split_records
 
 
@@ -56,7 +56,7 @@ class Reply(NamedTuple):
 Layout = list[tuple[str, Kind]]
 
 OPERATION_NAMES = {
-    number: name for name, number in rows.NAMES.items() if name in Opnum.__members__ or name in wire.OTHER_OPERATIONS
+    number: name for name, number in ROW_NAMES.items() if name in Opnum.__members__ or name in wire.OTHER_OPERATIONS
 }
 
 
@@ -98,7 +98,7 @@ def number_kind(names: dict[int, str]) -> Kind:
 NUMBER = number_kind({})
 STATUS = number_kind(STATUS_NAMES)
 REPLY_STATE, DENIAL = number_kind({0: "accepted", 1: "denied"}), number_kind({0: "RPC_MISMATCH", 1: "AUTH_ERROR"})
-ACCEPT_STATE = number_kind(dict(enumerate(rows.MESSAGE_WORDS[4:10])))
+ACCEPT_STATE = number_kind(dict(enumerate(MESSAGE_WORDS[4:10])))
 AUTH_STATE = number_kind({1: "AUTH_BADCRED", 2: "AUTH_REJECTEDCRED"})
 LONG = Kind("number", Reader.u64, str, False)
 TEXT = Kind("text", Reader.opaque, show_bytes, False)

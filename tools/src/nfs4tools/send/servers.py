@@ -11,8 +11,8 @@ from collections.abc import Callable
 from concurrent.futures import ThreadPoolExecutor
 
 from nfs4tools.processes import REPLY_PATIENCE, Served
-from nfs4tools.rows import reading as rows
-from nfs4tools.rows.reading import Row
+from nfs4tools.rows.reading import File, files_of
+from nfs4tools.rows.row import Row
 from nfs4tools.rows.reports import (
     Failure,
     Outcome,
@@ -185,7 +185,7 @@ def read_options(description: str) -> tuple[argparse.Namespace, str, int, list[s
 
 def rows_of(given: argparse.Namespace, files: list[str]) -> list[Row]:
     """The rows that are to be sent."""
-    read = [row for path in files for file in rows.files_of(path) for row in rows.File(file).rows]
+    read = [row for path in files for file in files_of(path) for row in File(file).rows]
     for name in given.only or ():
         if all(row.name != name for row in read):
             sys.exit(f"send_rows: there is no row '{name}'")

@@ -1,6 +1,6 @@
 """ACCESS (section 16.1)."""
 from nfs4tools.model.state import State
-from nfs4tools.model.states import Filehandles, expect_filehandle
+from nfs4tools.model.state_parts import Filehandles, expect_filehandle
 from nfs4tools.wire import Access, u32
 
 # What can be asked at all: READ, LOOKUP, MODIFY, EXTEND, DELETE and EXECUTE, by a bit each.

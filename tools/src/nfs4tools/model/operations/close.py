@@ -1,6 +1,6 @@
 """CLOSE (section 16.2)."""
 from nfs4tools.model.state import State
-from nfs4tools.model.states import LockState, OpenState, Refusal
+from nfs4tools.model.state_parts import LockState, OpenState, Refusal
 from nfs4tools.wire import Close, Status
 
 

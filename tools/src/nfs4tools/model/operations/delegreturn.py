@@ -1,6 +1,6 @@
 """DELEGRETURN (section 16.6)."""
 from nfs4tools.model.delegations import Delegating
-from nfs4tools.model.states import Delegation, expect_filehandle, expect_seqid
+from nfs4tools.model.state_parts import Delegation, expect_filehandle, expect_seqid
 from nfs4tools.wire import Delegreturn
 
 

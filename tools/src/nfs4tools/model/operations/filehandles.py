@@ -1,6 +1,6 @@
 """PUTROOTFH, PUTFH, LOOKUP, GETFH, SAVEFH and RESTOREFH (sections 16.22, 16.20, 16.13, 16.8, 16.30 and 16.29)."""
 from nfs4tools.model.state import State
-from nfs4tools.model.states import Filehandles, Refusal, expect_filehandle, handle_of
+from nfs4tools.model.state_parts import Filehandles, Refusal, expect_filehandle, handle_of
 from nfs4tools.wire import Lookup, Nothing, Putfh, Status, opaque
 
 

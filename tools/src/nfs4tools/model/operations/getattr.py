@@ -1,6 +1,6 @@
 """GETATTR (section 16.7)."""
 from nfs4tools.model.attributes import Attributes
-from nfs4tools.model.states import expect_filehandle
+from nfs4tools.model.state_parts import expect_filehandle
 from nfs4tools.wire import Getattr
 
 

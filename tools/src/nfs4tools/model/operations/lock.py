@@ -2,7 +2,15 @@
 from nfs4tools.model.operations.lockt import expect_no_conflict
 from nfs4tools.model.ranges import READ_MODE, Ranges
 from nfs4tools.model.state import State
-from nfs4tools.model.states import LockState, OpenState, Refusal, expect_range, expect_runs, mode_of, next_sequence_id
+from nfs4tools.model.state_parts import (
+    LockState,
+    OpenState,
+    Refusal,
+    expect_range,
+    expect_runs,
+    mode_of,
+    next_sequence_id,
+)
 from nfs4tools.wire import Lock, LockOwner, NewLocker, READ, Status, WRITE
 
 
@@ -33,7 +41,7 @@ def expect_new_locker(server: State, locker: NewLocker, file: int) -> None:
     known its sequence id is the next."""
     if locker.owner[:2] != locker.open_stateid[1:3]:
         raise Refusal(Status.INVAL)
-    if any((it.owner, it.file) == (locker.owner, file) for it in server.lock_states):
+    if any(it.owner == locker.owner for it in server.lock_states_of(file)):
         raise Refusal(Status.BAD_SEQID)
     known = server.lock_owners.get(locker.owner)
     if known is not None and locker.lock_seqid != next_sequence_id(known.kept.seqid):

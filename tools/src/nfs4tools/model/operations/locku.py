@@ -1,6 +1,6 @@
 """LOCKU (section 16.12)."""
 from nfs4tools.model.state import State
-from nfs4tools.model.states import expect_range, expect_runs
+from nfs4tools.model.state_parts import expect_range, expect_runs
 from nfs4tools.wire import Locku
 
 

@@ -1,6 +1,6 @@
 """OPEN (sections 9.9 to 9.11, and 16.16)."""
 from nfs4tools.model.delegations import Delegating
-from nfs4tools.model.states import OpenState, Refusal, conflict, expect_share, next_seqid
+from nfs4tools.model.state_parts import OpenState, Refusal, conflict, expect_share, next_seqid
 from nfs4tools.wire import (
     CLAIM_DELEGATE_CUR,
     CLAIM_DELEGATE_PREV,
@@ -10,7 +10,6 @@ from nfs4tools.wire import (
     OPEN4_CREATE,
     OPEN_DELEGATE_NONE,
     Open,
-    OpenOwner,
     Status,
     bitmap,
     u32,
@@ -32,14 +31,16 @@ def rule(server: Delegating, arguments: Open, directory: int) -> bytes:
     if arguments.claim.kind == CLAIM_DELEGATE_CUR:
         server.expect_claimed(arguments.claim.delegation, owner.client, file)
     opens = server.opens_of(file)
-    if any(it.owner != owner and conflict(it.share(), share) for it in opens):
+    if any(conflict(it.share(), share) and it.owner != owner for it in opens):
         raise Refusal(Status.SHARE_DENIED)
     server.expect_none_in_the_way(server.delegations_of_others(owner.client, file), share)
     is_confirmed = owner in server.open_owners
     kind = server.kind_given(arguments, file) if is_confirmed else OPEN_DELEGATE_NONE
-    is_new = not any(it.owner == owner for it in opens)
-    server.expect_room(is_new + (kind != OPEN_DELEGATE_NONE), not is_confirmed)
-    found = join(server, owner, file, share)
+    own = next((it for it in opens if it.owner == owner), None)
+    server.expect_room((own is None) + (kind != OPEN_DELEGATE_NONE), not is_confirmed)
+    found = OpenState(owner, file, server.next_number(), [share]) if own is None else joined(own, share)
+    if own is None:
+        server.opens.append(found)
     flags = LOCKTYPE_POSIX if is_confirmed else CONFIRM | LOCKTYPE_POSIX
     change, attributes = u32(1) + u64(0) + u64(0), bitmap([])
     return server.spelled(found) + change + u32(flags) + attributes + server.delegate(owner.client, file, kind)
@@ -56,13 +57,9 @@ def opened_file(server: Delegating, arguments: Open, directory: int) -> int:
     return file
 
 
-def join(server: Delegating, owner: OpenOwner, file: int, share: tuple[int, int]) -> OpenState:
-    """Adds the pair to the owner's open on the file, or makes one (section 9.11)."""
-    found = next((it for it in server.opens_of(file) if it.owner == owner), None)
-    if found is not None:
-        if share not in found.pairs:
-            found.pairs.append(share)
-        found.seqid = next_seqid(found.seqid)
-        return found
-    server.opens.append(OpenState(owner, file, server.next_number(), [share]))
-    return server.opens[-1]
+def joined(own: OpenState, share: tuple[int, int]) -> OpenState:
+    """Adds the pair to the owner's open on the file (section 9.11)."""
+    if share not in own.pairs:
+        own.pairs.append(share)
+    own.seqid = next_seqid(own.seqid)
+    return own

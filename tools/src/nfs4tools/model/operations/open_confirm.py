@@ -1,6 +1,6 @@
 """OPEN_CONFIRM (section 16.18)."""
 from nfs4tools.model.state import State
-from nfs4tools.model.states import Refusal
+from nfs4tools.model.state_parts import Refusal
 from nfs4tools.wire import OpenConfirm, Status
 
 

@@ -1,6 +1,6 @@
 """OPEN_DOWNGRADE (section 16.19)."""
 from nfs4tools.model.state import State
-from nfs4tools.model.states import Refusal, contains, expect_share, is_lawful_downgrade
+from nfs4tools.model.state_parts import Refusal, contains, expect_share, is_lawful_downgrade
 from nfs4tools.wire import OpenDowngrade, Status
 
 

@@ -1,6 +1,6 @@
 """READ (section 16.23)."""
 from nfs4tools.model.files import Files
-from nfs4tools.model.states import expect_filehandle
+from nfs4tools.model.state_parts import expect_filehandle
 from nfs4tools.wire import READ, Read, opaque, u32
 
 # The most bytes that are given.

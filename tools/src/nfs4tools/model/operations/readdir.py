@@ -2,7 +2,7 @@
 from collections.abc import Sequence
 
 from nfs4tools.model.attributes import Attributes, FIRST_COOKIE
-from nfs4tools.model.states import Refusal, expect_filehandle
+from nfs4tools.model.state_parts import Refusal, expect_filehandle
 from nfs4tools.wire import Readdir, Status, u32
 
 # The most bytes of an answer behind its status, and how many of them are no entries: the verifier, the end of the list,

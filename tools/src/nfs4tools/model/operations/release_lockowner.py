@@ -1,6 +1,6 @@
 """RELEASE_LOCKOWNER (section 16.37)."""
 from nfs4tools.model.state import State
-from nfs4tools.model.states import Refusal
+from nfs4tools.model.state_parts import Refusal
 from nfs4tools.wire import ReleaseLockowner, Status
 
 

@@ -2,7 +2,7 @@
 server says."""
 from nfs4tools.model.attributes import mask_of
 from nfs4tools.model.files import Files
-from nfs4tools.model.states import Refusal, expect_filehandle
+from nfs4tools.model.state_parts import Refusal, expect_filehandle
 from nfs4tools.wire import Setattr, WRITE, bitmap
 
 

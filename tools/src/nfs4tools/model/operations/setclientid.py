@@ -1,6 +1,6 @@
 """SETCLIENTID (section 16.33)."""
 from nfs4tools.model.state import State
-from nfs4tools.model.states import ClientRecord, Refusal
+from nfs4tools.model.state_parts import ClientRecord, Refusal
 from nfs4tools.wire import Principal, Setclientid, Status, opaque, u32, u64
 
 ADDRESS_LIMIT = 128

@@ -1,6 +1,6 @@
 """SETCLIENTID_CONFIRM (section 16.34)."""
 from nfs4tools.model.state import State
-from nfs4tools.model.states import ClientRecord, Refusal
+from nfs4tools.model.state_parts import ClientRecord, Refusal
 from nfs4tools.wire import Principal, SetclientidConfirm, Status
 
 

@@ -1,7 +1,7 @@
 """WRITE (section 16.36). Whatever is asked, the bytes are as safe as they will be."""
 from nfs4tools.model.files import Files
 from nfs4tools.model.state import State
-from nfs4tools.model.states import Refusal, expect_filehandle
+from nfs4tools.model.state_parts import Refusal, expect_filehandle
 from nfs4tools.model.tree import TEXT_LIMIT
 from nfs4tools.wire import FILE_SYNC4, Status, WRITE, Write, u32
 

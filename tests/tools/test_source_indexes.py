@@ -1,0 +1,34 @@
+"""What is told of the sources without running them: the index of the rows, the limits of growth, and the index of
+the crates' clauses."""
+import os
+import re
+import subprocess
+import sys
+
+import pytest
+
+from nfs4tools.processes import TOP
+
+pytestmark = pytest.mark.quick
+
+
+# What is printed, beside other words: there was something to be looked at.
+PRINTED = {
+    "dev/rows_index --check": r"",
+    "floors": r"functions of .*: [1-9](?s:.*)\ncalls from .*: [1-9](?s:.*)\nshared lines of the kind .*: [1-9]",
+    "check_clauses": r"[1-9]\d* entries with [1-9]\d* clauses",
+}
+
+
+@pytest.mark.parametrize("words", PRINTED)
+def test_sources(words, tell):
+    command, *options = words.split()
+    ran = subprocess.run(
+        [sys.executable, os.path.join(TOP, "tools", command), *options],
+        stdout=subprocess.PIPE,
+        stderr=subprocess.STDOUT,
+        text=True,
+    )
+    assert ran.returncode == 0 and re.search(PRINTED[words], ran.stdout), ran.stdout
+    for line in ran.stdout.splitlines():
+        tell(line)
