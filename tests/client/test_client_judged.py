@@ -8,13 +8,13 @@ import pytest
 
 from nfs4tools import (
     BOTH,
-    Between,
     Client,
     NoReply,
     READ,
     READ_LT,
+    Relay,
+    RelayError,
     Server,
-    ServerError,
     Status,
     StatusError,
     WRITE,
@@ -99,7 +99,7 @@ def test_tries(command, tmp_path, operation, fault):
     path = tmp_path / "run.journal"
     with (
         Server("--tree", NO_CALLBACKS, journal=path, command=command) as server,
-        Between(server.address, f"{fault} {operation} 1") as proxy,
+        Relay(server.address, f"{fault} {operation} 1") as proxy,
         Client(*proxy.address, "c1") as client,
     ):
         client.tries = 2
@@ -118,7 +118,7 @@ def test_again(command):
     """What an operation gave is known also if its reply came late."""
     with (
         Server("--tree", NO_CALLBACKS, command=command) as server,
-        Between(server.address, "lose-reply LOCK 1") as proxy,
+        Relay(server.address, "lose-reply LOCK 1") as proxy,
         Client(*proxy.address, "c1") as client,
     ):
         client.begin()
@@ -131,10 +131,10 @@ def test_again(command):
 
 def test_wrong_client(command):
     """The proxy says WRONG of a client that sends its next request before it has the reply to the last one."""
-    with pytest.raises(ServerError, match="WRONG"):
+    with pytest.raises(RelayError, match="WRONG"):
         with (
             Server("--tree", NO_CALLBACKS, command=command) as server,
-            Between(server.address, "lose-reply OPEN 1") as proxy,
+            Relay(server.address, "lose-reply OPEN 1") as proxy,
             Client(*proxy.address, "c1") as client,
         ):
             client.begin()
@@ -144,10 +144,10 @@ def test_wrong_client(command):
 
 
 def test_rule_that_is_never_met(command):
-    with pytest.raises(ServerError, match="status 1"):
+    with pytest.raises(RelayError, match="never met"):
         with (
             Server("--tree", NO_CALLBACKS, command=command) as server,
-            Between(server.address, "twice LOCKU 1") as proxy,
+            Relay(server.address, "twice LOCKU 1") as proxy,
             Client(*proxy.address, "c1") as client,
         ):
             client.null()

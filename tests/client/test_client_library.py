@@ -267,7 +267,9 @@ def uncounted(client, file):
 def test_uncounted(client):
     file = client.open("a")
     seqid = client.next_seqid(file.owner)
-    for status, requests in uncounted(client, file):
+    cases = list(uncounted(client, file))
+    assert len(cases) == 6
+    for status, requests in cases:
         reply = client.compound(requests)
         assert (reply.status, client.next_seqid(file.owner)) == (status, seqid), reply
         # The owner's next request has the id that this one had.
@@ -294,7 +296,9 @@ def counted(client, file):
 
 def test_counted(client):
     file = client.open("a")
-    for status, requests_of in counted(client, file):
+    cases = list(counted(client, file))
+    assert len(cases) == 6
+    for status, requests_of in cases:
         before = client.next_seqid(file.owner)
         reply = client.compound(requests_of())
         assert (reply.status, client.next_seqid(file.owner)) == (status, before + 1), reply

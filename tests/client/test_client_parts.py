@@ -227,14 +227,14 @@ def test_nobody_listens():
             Client(host, port, "c1").null()
 
 
-# Callbacks, which the model doesn't send.
+# Callbacks.
 
 
 @contextmanager
-def probed(**behaviours):
+def probed(command, **behaviours):
     """A server that tries callbacks, a listener, a client that has it, and another client."""
     with (
-        Server("--tree", PROBED, command=[PROGRAM, "serve"]) as server,
+        Server("--tree", PROBED, command=command) as server,
         CallbackListener(**behaviours) as listener,
         Client(*server.address, "c1", callback=listener, uid=500) as client,
         Client(*server.address, "c2") as other,
@@ -251,10 +251,9 @@ def delayed(other, path="a"):
     assert caught.value.status == Status.DELAY
 
 
-@pytest.mark.needs("nfs4state")
-def test_recall():
+def test_recall(command):
     """A delegation for writing is recalled by the uid of its client, returned, and then the file is free."""
-    with probed(ident=7) as (listener, client, other):
+    with probed(command, ident=7) as (listener, client, other):
         call = listener.wait_for_null().call
         assert (call.program, call.principal, call.recall) == (0x40000000, (0, 0), None)
         file = client.open_lent("a")
@@ -270,13 +269,12 @@ def test_recall():
             listener.wait_for_recall(0.1)
 
 
-@pytest.mark.needs("nfs4state")
 @pytest.mark.parametrize(
     "behaviour", [answer_status(Status.BADHANDLE), refuse_credential, refuse_program, keep_silent, reset_connection]
 )
-def test_recall_that_is_refused(behaviour):
+def test_recall_that_is_refused(command, behaviour):
     """The delegation stays as it is, and is returned by the client's own value."""
-    with probed() as (listener, client, other):
+    with probed(command) as (listener, client, other):
         file = client.open_lent("a", READ)
         assert file.delegation.kind == OPEN_DELEGATE_READ
         listener.on_recall = behaviour
@@ -288,12 +286,11 @@ def test_recall_that_is_refused(behaviour):
         other.open("a", WRITE)
 
 
-@pytest.mark.needs("nfs4state")
 @pytest.mark.parametrize("behaviour", [refuse_credential, refuse_program, reset_connection])
-def test_null_that_is_refused(behaviour, tmp_path):
+def test_null_that_is_refused(command, behaviour, tmp_path):
     """The client gets no delegation, as the path is marked down."""
     path = tmp_path / "run.journal"
-    with Server("--tree", PROBED, journal=path, command=[PROGRAM, "serve"]) as server:
+    with Server("--tree", PROBED, journal=path, command=command) as server:
         with CallbackListener(on_null=behaviour) as listener, Client(*server.address, "c1", listener) as client:
             client.begin()
             listener.wait_for_null()
@@ -305,7 +302,7 @@ def test_null_that_is_refused(behaviour, tmp_path):
 def test_recall_without_callbacks(command, tmp_path):
     """If no recall reaches the client, the delegation is revoked after a lease, and then the file is free."""
     path = tmp_path / "run.journal"
-    with Server("--tree", LENDING, "--lease", "1", journal=path, command=command) as server:
+    with Server("--tree", LENDING, "--lease", "5", journal=path, command=command) as server:
         with Client(*server.address, "c1") as client, Client(*server.address, "c2") as other:
             client.begin()
             other.begin()
@@ -406,12 +403,12 @@ def test_beginning_of_a_journal(run, tmp_path):
 def test_events(command, tmp_path):
     """A lease that ends, and an owner that is forgotten, are events of their clients."""
     path = tmp_path / "run.journal"
-    with Server("--tree", NO_CALLBACKS, "--lease", "1", journal=path, command=command) as server:
+    with Server("--tree", NO_CALLBACKS, "--lease", "4", journal=path, command=command) as server:
         with Client(*server.address, "c1") as client, Client(*server.address, "c2") as other:
             client.begin()
             other.begin()
             client.close(client.open("a"))
-            for _ in range(35):
+            for _ in range(90):
                 client.renew()
                 time.sleep(0.1)
     found = {type(entry.event): entry for entry in read_journal(path).events()}

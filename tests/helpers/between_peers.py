@@ -145,8 +145,6 @@ class Impatient(Resender):
         if is_silent(self.connection().socket, SOON):
             self.leave()
             self.peer = None
-            # Until the end is seen, which comes by another way than what is sent again.
-            time.sleep(2)
             self.send_again()
         return super().receive()
 

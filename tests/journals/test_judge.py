@@ -8,11 +8,11 @@ import sys
 
 import pytest
 
-from helpers.judge_holdings import CASES, LENDING_SHORT, SHORT
-from helpers.judge_servers import ROOMS, guest
+from helpers.judge_cases_held import CASES, LENDING_SHORT, SHORT
+from helpers.judge_servers import ROOMS, Setting, guest
 from nfs4tools.journal.journal import verdict
 from nfs4tools.judge.findings import SORTS
-from nfs4tools.processes import TOP
+from nfs4tools.processes import PROGRAM, TOP
 from nfs4tools.program import bytes_of
 
 pytestmark = pytest.mark.quick
@@ -46,6 +46,14 @@ def findings_of(found, severity, *names):
         for each in client["findings"]
         if each["severity"] == severity
     )
+
+
+@pytest.mark.needs("nfs4state")
+def test_program(path_of):
+    """Where a case is played at the program, that is what runs."""
+    with ROOMS["program"](path_of("run.journal"), Setting()) as server:
+        served = getattr(server, "served")
+        assert os.path.samefile(f"/proc/{served.program.pid}/exe", PROGRAM)
 
 
 def test_each_finding_has_a_case():

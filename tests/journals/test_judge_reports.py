@@ -10,6 +10,7 @@ from xml.etree import ElementTree
 
 import pytest
 
+from helpers.schemas import Schema
 from nfs4tools.journal.journal import Recorder, journal_bytes
 from nfs4tools.judge.command import run
 from nfs4tools.judge.findings import SORTS, Severity
@@ -138,20 +139,8 @@ def judge(file_of, monkeypatch, capsys):
     return run_on
 
 
-def expect_by_schema(fields):
-    """The verdict is one by the schema; without the library for that at least its keys are."""
-    with open(SCHEMA, encoding="utf-8") as source:
-        schema = json.load(source)
-    try:
-        import jsonschema  # type: ignore[import]
-    except ImportError:
-        assert list(fields) == schema["required"]
-        for client in fields["clients"]:
-            assert list(client) == schema["$defs"]["client"]["required"]
-            assert all(list(it) == schema["$defs"]["finding"]["required"] for it in client["findings"])
-    else:
-        jsonschema.Draft202012Validator.check_schema(schema)
-        jsonschema.Draft202012Validator(schema).validate(fields)
+def faults_by_schema(fields):
+    return Schema(SCHEMA).faults(fields)
 
 
 # Statuses.
@@ -262,8 +251,32 @@ def test_schema(make, cut, judge):
     data = make().bytes()
     status, text, _ = judge(data[: len(data) - cut], "--json", "--require", "client-restarted")
     fields = json.loads(text)
-    expect_by_schema(fields)
+    assert faults_by_schema(fields) == []
     assert (fields["verdict"], fields["missing"], status) == ("wrong", ["client-restarted"], 1)
+
+
+def test_wrong_fields(judge):
+    """What the schema doesn't allow is found."""
+    _, text, _ = judge(wrong().bytes(), "--json")
+    for change, fault in (
+        (lambda it: it.update(errors="1"), ".errors: '1' is no integer"),
+        (lambda it: it.update(errors=-1), ".errors: -1 is below 0"),
+        (lambda it: it.update(verdict="Right"), ".verdict: 'Right' is none of ['right', 'wrong']"),
+        (lambda it: it.update(more=1), ".more has no schema"),
+        (lambda it: it.pop("missing"), ".missing is missing"),
+        (lambda it: it["clients"][0].update(situations=[]), ".clients[0].situations: [] is no object"),
+        (
+            lambda it: it["clients"][0]["situations"].update({"lock-split": 0}),
+            ".clients[0].situations.lock-split: 0 is below 1",
+        ),
+        (
+            lambda it: it["clients"][0]["findings"][0].update(severity=None),
+            ".clients[0].findings[0].severity: None is none of ['error', 'warning']",
+        ),
+    ):
+        fields = json.loads(text)
+        change(fields)
+        assert faults_by_schema(fields) == [fault]
 
 
 def test_json(judge, path_of):

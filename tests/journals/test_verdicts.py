@@ -9,7 +9,7 @@ from functools import partial
 
 import pytest
 
-from dev.fuzz import Caller
+from dev.fuzz_calls import Caller
 from helpers.bug_sessions import with_delegations, with_files, with_locks, with_pauses
 from helpers.buggy_clients import BUGS, LENDING, MORE, NOT_TOLD, REFUSING
 from helpers.judge_servers import ROOMS, Setting, guest
@@ -24,8 +24,8 @@ from nfs4tools.program import bytes_of
 pytestmark = pytest.mark.quick
 # Series of a test, and how many tests there are of them: in the gate, and by hand.
 EACH, IN_GATE, BY_HAND = 20, 3, 50
-# How many calls and orders a journal of any calls has.
-STEPS = 80
+# How many calls and orders a journal of any calls has, and how many entries are made of them at least.
+STEPS, LEAST = 80, 20
 # How many series each mistake is put into.
 BENT_IN_GATE, BENT_BY_HAND = 2, 30
 # How often a mistake has to find its place among these.
@@ -124,6 +124,7 @@ def test_any_journal(place, add_up):
     """What clients do that make any calls is judged to the end, and so is a beginning of it."""
     for seed in range(EACH * place, EACH * place + EACH):
         journal = any_calls(seed)
+        assert len(journal.entries) >= LEAST
         add_up(len(found_in(journal)), "findings in journals of any calls")
         found_in(journal._replace(entries=journal.entries[: len(journal.entries) // 2]))
 

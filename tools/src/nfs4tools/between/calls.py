@@ -1,13 +1,13 @@
 """The calls and replies that pass between a client and a server, as far as they can be read, with the places of what
 may have to be rewritten. What can't be read has no operations, or those before the one that can't."""
 from collections.abc import Callable, Iterable, Mapping
-from typing import Any
+from typing import Any, NamedTuple
 
 from nfs4tools import wire
-from nfs4tools.between.rules import CB_NULL, NULL, OPERATIONS
+from nfs4tools.between.vocabulary import ACCEPT_ERRORS, CB_NULL, NULL, OPERATIONS
 from nfs4tools.callbacks.messages import address_of
 from nfs4tools.journal.words import STATUS_NAMES, words_read
-from nfs4tools.model.traces import ACCEPTED_NAMES, DENIED_NAMES, LETTERS
+from nfs4tools.model.traces import DENIED_NAMES, LETTERS
 from nfs4tools.wire import (
     AUTH_NONE,
     AUTH_SHORT,
@@ -27,8 +27,6 @@ from nfs4tools.wire import (
     SUCCESS,
     Stateid,
     Unreadable,
-    accepted,
-    opaque,
     u32,
 )
 
@@ -45,6 +43,7 @@ NAMES = {
     True: {number: name for name, number in wire.CALLBACK_OPERATIONS.items()},
 }
 READS: dict[bool, Mapping[int, Read]] = {False: wire.ALL_ARGUMENTS, True: wire.CALLBACK_ARGUMENTS}
+ACCEPTED_NAMES = {number: name for name, number in ACCEPT_ERRORS.items()}
 # The word for a reply without a status, such as that to NULL.
 ANSWERED = "answered"
 # Operations that only say of which file others are.
@@ -124,7 +123,7 @@ class Call:
     def __init__(self, record: bytes, is_callback: bool) -> None:
         self.record, self.is_callback, self.is_readable = record, is_callback, False
         self.operations: list[Operation] = []
-        self.procedure, self.tag, self.count_at = wire.NFSPROC4_NULL, b"", 0
+        self.program, self.procedure, self.tag, self.count_at = 0, wire.NFSPROC4_NULL, b"", 0
         try:
             self.read(Reader(record))
         except Unreadable:
@@ -144,9 +143,9 @@ class Call:
 
     def read(self, reader: Reader) -> None:
         _, kind, rpc_version = reader.u32(), reader.u32(), reader.u32()
-        program, version, self.procedure = reader.u32(), reader.u32(), reader.u32()
+        self.program, version, self.procedure = reader.u32(), reader.u32(), reader.u32()
         flavor, _, _, _ = reader.u32(), reader.opaque(), reader.u32(), reader.opaque()
-        is_program = self.is_callback or (program, version) == (NFS4_PROGRAM, NFS_V4)
+        is_program = self.is_callback or (self.program, version) == (NFS4_PROGRAM, NFS_V4)
         if (kind, rpc_version) != (CALL, 2) or not is_program or flavor not in (AUTH_NONE, AUTH_SYS, AUTH_SHORT):
             raise Unreadable
         if self.procedure == wire.NFSPROC4_COMPOUND:
@@ -180,18 +179,16 @@ class Call:
             return [CB_NULL if self.is_callback else NULL]
         return [operation.name for operation in self.operations]
 
-    def words(self, name: str | None = None) -> str:
-        """The operation of this name, where it has that; or its request; or the first that isn't on filehandles."""
+    def words(self, index: int | None = None) -> str:
+        """The operation with this index, if there is such an index; or its request; or the first that isn't on
+        filehandles."""
         if not self.is_readable:
             return f"a call of {len(self.record)} bytes that can't be read"
         if not self.operations:
             return "COMPOUND of 0 operations" if self.procedure == wire.NFSPROC4_COMPOUND else self.names[0]
-        named = [operation for operation in self.operations if operation.name == name]
+        named = [] if index is None else [self.operations[index]]
         others = [operation for operation in self.operations if operation.name not in ON_HANDLES]
         return (named or self.requests or others or self.operations)[0].words()
-
-    def index_of(self, name: str) -> int:
-        return [operation.name for operation in self.operations].index(name)
 
     def is_again(self, other: "Call") -> bool:
         """Whether the other one, which comes later, is this one, but maybe for the xid."""
@@ -212,17 +209,28 @@ class Call:
                 data = data[:begin] + new + data[stop:]
         return data
 
-    def callback(self) -> tuple[tuple[str, int] | None, int, int] | None:
-        """Of a call with SETCLIENTID: the address and the port of the callback, or None; and where r_addr begins and
-        ends. None of any other call."""
+    def callback(self) -> "Called | None":
+        """Of a call with SETCLIENTID: where its client is called back. None of any other call."""
         for operation in self.operations:
             if operation.number == Opnum.SETCLIENTID and not self.is_callback:
-                reader = Reader(operation.data)
+                reader, arguments = Reader(operation.data), operation.arguments
                 reader.fixed(12), reader.opaque(), reader.u32(), reader.opaque()
                 begin = operation.begin + reader.at
                 reader.opaque()
-                return address_of(operation.arguments.callback), begin, operation.begin + reader.at
+                target, end = address_of(arguments.callback), operation.begin + reader.at
+                return Called(arguments.id, arguments.callback.program, target, begin, end)
         return None
+
+
+class Called(NamedTuple):
+    """Where a client is called back: its id, the program, the address and port, or None; and where r_addr begins and
+    ends in the record."""
+
+    client: bytes
+    program: int
+    target: tuple[str, int] | None
+    begin: int
+    end: int
 
 
 def seqid_change(operation: Operation, place: int, ahead: int) -> Change:
@@ -283,25 +291,3 @@ class Reply:
 
 def name_of(names: Mapping[int, str], number: int) -> str:
     return names.get(number, str(number))
-
-
-# Answers in the server's place.
-
-
-def result_bytes(operation: Operation, status: int) -> bytes:
-    """A result with this status, which isn't OK."""
-    mask = u32(0) if operation.number == Opnum.SETATTR else b""
-    return u32(operation.number, status) + mask
-
-
-def first_answer(call: Call, status: int) -> bytes:
-    """The reply in which the first operation has this status."""
-    result = result_bytes(call.operations[0], status)
-    return accepted(call.xid, SUCCESS, u32(status) + opaque(call.tag) + u32(1) + result)
-
-
-def next_answer(reply: Reply, operation: Operation, status: int) -> bytes:
-    """The reply to the operations before this one, all of which are OK, with this one's behind it."""
-    record, count = reply.record, len(reply.results)
-    head = record[: reply.status_at] + u32(status) + record[reply.status_at + 4 : reply.count_at]
-    return head + u32(count + 1) + record[reply.count_at + 4 :] + result_bytes(operation, status)

@@ -6,7 +6,7 @@ from nfs4tools.between.calls import Call, Change, NEW_LOCK_SEQID, Operation, Rep
 from nfs4tools.wire import Opnum, Stateid, Status
 
 if TYPE_CHECKING:
-    from nfs4tools.between.faults import Case
+    from nfs4tools.between.outcomes import Case
 
 
 class Kept(NamedTuple):

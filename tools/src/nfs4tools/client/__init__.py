@@ -1,5 +1,8 @@
 """For whoever writes a suite of tests for an NFSv4.0 client, proxy or server: docs/SUITES.md has how it is used. All
 names of the library are here; `nfs4tools` has them, too."""
+from nfs4tools.between.outcomes import Outcome
+from nfs4tools.between.rules import NoRule, OfClient, OfConnection, OfFile, OfOwner, Rule, each, one_in
+from nfs4tools.between.vocabulary import Fault
 from nfs4tools.callbacks.listener import (
     Heard,
     accept,
@@ -15,8 +18,9 @@ from nfs4tools.client.connection import Connection
 from nfs4tools.client.journals import Entry, Journal, JournalError, read_journal
 from nfs4tools.client.listener import CallbackListener, NoCallback, Recall
 from nfs4tools.client.operations import ANONYMOUS, Clientid, Request, TO_THE_END
+from nfs4tools.client.relay import Relay, RelayError
 from nfs4tools.client.replies import Attributes, BadReply, CallRefused, ClientError, NoReply, Reply, Result, StatusError
-from nfs4tools.client.server import Between, Server, ServerError
+from nfs4tools.client.server import Server, ServerError
 from nfs4tools.wire import (
     BOTH,
     Callback,
@@ -44,7 +48,6 @@ __all__ = [
     "Attributes",
     "BOTH",
     "BadReply",
-    "Between",
     "CallRefused",
     "Callback",
     "CallbackListener",
@@ -55,6 +58,7 @@ __all__ = [
     "Delegation",
     "Denied",
     "Entry",
+    "Fault",
     "Heard",
     "Journal",
     "JournalError",
@@ -64,18 +68,27 @@ __all__ = [
     "NewLocker",
     "NoCallback",
     "NoReply",
+    "NoRule",
     "OPEN_DELEGATE_READ",
     "OPEN_DELEGATE_WRITE",
+    "OfClient",
+    "OfConnection",
+    "OfFile",
+    "OfOwner",
     "OpenFile",
     "OpenOwner",
     "Opnum",
+    "Outcome",
     "READ",
     "READW_LT",
     "READ_LT",
     "Recall",
+    "Relay",
+    "RelayError",
     "Reply",
     "Request",
     "Result",
+    "Rule",
     "Server",
     "ServerError",
     "Stateid",
@@ -87,7 +100,9 @@ __all__ = [
     "WRITE_LT",
     "accept",
     "answer_status",
+    "each",
     "keep_silent",
+    "one_in",
     "operations",
     "read_journal",
     "refuse_credential",

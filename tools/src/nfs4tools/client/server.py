@@ -1,5 +1,4 @@
-"""Processes for one test: a server, and a proxy that makes faults. Each listens at a free port, and ends with the test.
-"""
+"""A server as a process for one test. It listens at a free port, and ends with the test."""
 import os
 import subprocess
 import sys
@@ -10,7 +9,6 @@ from nfs4tools.client.replies import ClientError
 from nfs4tools.processes import PATIENCE, PROGRAM, Served
 
 MODEL = [sys.executable, "-c", "from nfs4tools.model.serve import main; main()"]
-BETWEEN = [sys.executable, "-c", "import sys; from nfs4tools.between.command import main; sys.exit(main())"]
 # The folder that has the package.
 FOLDER = os.path.dirname(os.path.dirname(os.path.dirname(os.path.abspath(__file__))))
 L = TypeVar("L", bound="Listening")
@@ -81,12 +79,3 @@ class Server(Listening):
     ) -> None:
         file = ["--journal", os.fspath(journal)] if journal else []
         super().__init__(*(command or command_here()), "--listen", "127.0.0.1:0", "--until-input-ends", *options, *file)
-
-
-class Between(Listening):
-    """`tools/between` before the server at this address, with rules such as "lose-reply LOCK 1". At its end `lines` has
-    what it printed. That is a ServerError if a line has WRONG, or if a rule was never met."""
-
-    def __init__(self, to: tuple[str, int], *rules: str) -> None:
-        options = [word for rule in rules for word in ("--rule", rule)]
-        super().__init__(*BETWEEN, "--listen", "127.0.0.1:0", "--to", f"{to[0]}:{to[1]}", *options)

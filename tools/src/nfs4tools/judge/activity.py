@@ -1,12 +1,12 @@
 """What each client did, in numbers."""
 from dataclasses import dataclass
 
-from nfs4tools.explain import Told
+from nfs4tools.explain import ExplainedEntry
 from nfs4tools.journal.entries import Call
 from nfs4tools.journal.history import History
 from nfs4tools.judge.clients import client_of
 from nfs4tools.judge.watching import Holdings, Watcher, counted
-from nfs4tools.model.states import Delegation
+from nfs4tools.model.state_parts import Delegation
 from nfs4tools.wire import Lock, Open
 
 
@@ -41,7 +41,7 @@ class Activities(Watcher):
         self.holdings = holdings
         self.of: dict[bytes | None, Activity] = {}
 
-    def after(self, told: Told) -> None:
+    def after(self, told: ExplainedEntry) -> None:
         entry = told.entry
         if not isinstance(entry, Call):
             return

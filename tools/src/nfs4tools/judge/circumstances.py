@@ -4,7 +4,7 @@ from collections.abc import Callable, Hashable, Iterator
 from dataclasses import dataclass, field
 
 from nfs4tools.callbacks.messages import address_of
-from nfs4tools.explain import Kind, Reason, Told
+from nfs4tools.explain import Kind, Reason, ExplainedEntry
 from nfs4tools.explain.kinds import EpochFacts, ShareConflicts
 from nfs4tools.journal.entries import Call
 from nfs4tools.journal.history import History
@@ -12,7 +12,7 @@ from nfs4tools.journal.words import name_words, owner_words
 from nfs4tools.judge.clients import client_of
 from nfs4tools.judge.findings import Finding, found
 from nfs4tools.judge.watching import Watcher
-from nfs4tools.model.states import LAST
+from nfs4tools.model.state_parts import LAST
 from nfs4tools.wire import Callback, Open, Setclientid, Stateid, Status
 
 # A callback by which a client says that it wants none.
@@ -37,7 +37,7 @@ class Circumstances(Watcher):
         super().__init__(server)
         self.found: dict[Hashable, Repeated] = {}
 
-    def after(self, told: Told) -> None:
+    def after(self, told: ExplainedEntry) -> None:
         entry = told.entry
         if not isinstance(entry, Call):
             return

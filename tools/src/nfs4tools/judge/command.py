@@ -15,24 +15,31 @@ order of their first entries. Findings on calls that name no client come below `
 The entries after `with` conflicted with the call, or made what was left. A warning may be a fault of the client, or a
 fault whose cause the journal doesn't show. If a file isn't a whole journal, a line says how it ends.
 
+With --trace it also judges a trace, as `tools/between --trace` and the model's --trace write it. A trace has RENEW, which
+no journal has. Its findings name lines of the trace in place of entries. The trace may come without a journal, and from
+any server:
+
+    client "NAME": N operations in the trace, N of them RENEW
+      error FINDING (RFC 7530, SECTION), line N of the trace, with line N: what happened
+        N: the call, with its time in seconds of the trace, its connection and xid
+
 The last line is `verdict: right`, with the number of warnings, or `verdict: N errors, N warnings`. The status is:
 
 - 0 without errors
 - 1 with errors
-- 2 for a file that is no journal, for an entry that can't follow the entries before it, and for a wrong option"""
+- 2 for a file that is no journal or no trace, for an entry that can't follow the entries before it, and for a wrong
+  option"""
 import argparse
 import sys
 
-from nfs4tools.journal.entries import Entry
-from nfs4tools.journal.journal import Growing, Journal
 from nfs4tools.journal.named_words import named_line_of
-from nfs4tools.journal.partial import read_file
 from nfs4tools.journal.words import line_of
-from nfs4tools.judge.findings import SORTS, Severity
+from nfs4tools.judge.files import Judged, NoVerdict, judge_files
+from nfs4tools.judge.findings import SORTS, Severity, Sort, TRACE_SORTS
 from nfs4tools.judge.reports import json_of, junit_of, lines_of, tried_lines
 from nfs4tools.judge.situations import listing, situation_name
 from nfs4tools.judge.terms import Terms, allowance
-from nfs4tools.judge.verdicts import Verdict, judge_file
+from nfs4tools.judge.verdicts import Verdict
 
 # The ways to write a report, by the ending of its file's name.
 REPORTS = {".json": json_of, ".xml": junit_of}
@@ -73,6 +80,7 @@ def options() -> argparse.ArgumentParser:
         action="store_true",
         help="show entries by the words of rows, in the order of RFC 7531, in place of names",
     )
+    parser.add_argument("--trace", metavar="FILE", help="also judge this trace, or without JOURNAL the trace alone")
     parser.add_argument("journal", nargs="?", metavar="JOURNAL", help="a journal, or a beginning of one")
     return parser
 
@@ -80,9 +88,14 @@ def options() -> argparse.ArgumentParser:
 def finding_names() -> str:
     """All findings, as the help lists them."""
     lines = []
-    for severity in Severity:
-        lines += [f"{severity.value}s:", *(f"    {it.name}" for it in SORTS.values() if it.severity == severity)]
+    for where, sorts in ("", SORTS), (" of a trace", TRACE_SORTS):
+        for severity in Severity:
+            lines += [f"{severity.value}s{where}:", *(f"    {it.name}" for it in named(sorts, severity))]
     return "\n".join(lines)
+
+
+def named(sorts: dict[str, Sort], severity: Severity) -> list[Sort]:
+    return [it for it in sorts.values() if it.severity == severity]
 
 
 def report(path: str) -> str:
@@ -99,14 +112,16 @@ def run() -> int:
     if given.situations:
         print("\n".join(listing()))
         return 0
-    if given.journal is None:
-        parser.error("JOURNAL is missing")
-    read = read_journal(given.journal)
-    if isinstance(read, str):
-        return end(read)
-    verdict, journal = judge_file(*read)
-    terms = Terms(tuple(given.allow), given.warnings, tuple(given.require))
-    print_verdict(verdict, terms, journal, given)
+    if given.journal is None and given.trace is None:
+        parser.error("JOURNAL is missing, and so is --trace FILE")
+    if given.journal is None and (given.tried or given.require):
+        parser.error("--tried and --require need JOURNAL: no trace shows situations")
+    try:
+        judged = judge_files(given.journal, given.trace, line_of if given.words else named_line_of)
+    except NoVerdict as fault:
+        return end(fault.args[0])
+    verdict, terms = judged.verdict, Terms(tuple(given.allow), given.warnings, tuple(given.require))
+    print_verdict(judged, terms, given)
     if given.report is not None:
         try:
             write_report(given.report, verdict, terms)
@@ -122,24 +137,13 @@ def end(fault: str) -> int:
     return 2
 
 
-def read_journal(path: str) -> tuple[Growing, list[Entry]] | str:
-    """The journal's file, or a beginning with its head; or what is wrong with it."""
-    try:
-        growing, entries = read_file(path)
-    except SystemExit as ended:
-        return f"{ended.code}: {path}"
-    if growing.head is None:
-        return f"fault: not a journal: {growing.ending()}: {path}"
-    return growing, entries
-
-
-def print_verdict(verdict: Verdict, terms: Terms, journal: Journal, given: argparse.Namespace) -> None:
+def print_verdict(judged: Judged, terms: Terms, given: argparse.Namespace) -> None:
     if given.json:
-        print(json_of(verdict, terms), end="")
+        print(json_of(judged.verdict, terms), end="")
         return
     if given.tried:
-        print("\n".join(tried_lines(verdict)))
-    for line in lines_of(verdict, terms, journal, line_of if given.words else named_line_of):
+        print("\n".join(tried_lines(judged.verdict)))
+    for line in lines_of(judged.verdict, terms, judged.show_entry, judged.show_line):
         print(line)
 
 

@@ -2,7 +2,7 @@
 from collections.abc import Hashable, Iterator
 from dataclasses import dataclass, field
 
-from nfs4tools.explain import Reason, Told
+from nfs4tools.explain import Reason, ExplainedEntry
 from nfs4tools.explain.kinds import KeptFacts
 from nfs4tools.journal.entries import Call
 from nfs4tools.journal.history import History
@@ -32,7 +32,7 @@ class Delays(Watcher):
         self.waiting: dict[Hashable, Series] = {}
         self.hammered: list[Series] = []
 
-    def after(self, told: Told) -> None:
+    def after(self, told: ExplainedEntry) -> None:
         entry = told.entry
         if not isinstance(entry, Call):
             return

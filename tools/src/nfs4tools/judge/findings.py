@@ -4,6 +4,10 @@ from dataclasses import dataclass
 from enum import Enum
 
 
+# Names, sections and advice of sorts of one severity.
+Rows = tuple[tuple[str, str, str], ...]
+
+
 class Severity(Enum):
     """An error is a client's fault; a warning may be one, or the journal doesn't say whose fault it is."""
 
@@ -24,7 +28,8 @@ class Sort:
 @dataclass(frozen=True)
 class Finding:
     """One finding. `client` is the id of its SETCLIENTID, or None where the calls name no client; `entries` are those
-    of the fault, and `others` those that conflicted, or made what was left; the text is a sentence on what happened."""
+    of the fault, and `others` those that conflicted, or made what was left; the text is a sentence on what happened.
+    What a trace shows has lines of the trace in place of entries."""
 
     sort: Sort
     client: bytes | None
@@ -32,6 +37,8 @@ class Finding:
     others: tuple[int, ...]
     text: str
     severity: Severity
+    lines: tuple[int, ...] = ()
+    other_lines: tuple[int, ...] = ()
 
 
 def found(
@@ -45,6 +52,14 @@ def found(
     """A finding of the sort of this name, of the sort's severity unless another is given."""
     sort = SORTS[name]
     return Finding(sort, client, entries, others, text, severity or sort.severity)
+
+
+def found_in_trace(
+    name: str, client: bytes | None, lines: tuple[int, ...], text: str, others: tuple[int, ...] = ()
+) -> Finding:
+    """A finding of the sort of this name, by lines of a trace."""
+    sort = TRACE_SORTS[name]
+    return Finding(sort, client, (), (), text, sort.severity, lines, others)
 
 
 # Name, section, advice.
@@ -236,8 +251,37 @@ WARNINGS = (
     ),
 )
 
-SORTS: dict[str, Sort] = {
-    name: Sort(name, severity, section, advice)
-    for severity, rows in ((Severity.ERROR, ERRORS), (Severity.WARNING, WARNINGS))
-    for name, section, advice in rows
-}
+# What only a trace shows.
+TRACE_ERRORS = (
+    (
+        "renews-another-clientid",
+        "16.28",
+        "A right client sends RENEW with the clientid that its last confirmed SETCLIENTID was given, and with no other.",
+    ),
+    (
+        "renews-before-confirm",
+        "16.28",
+        "A right client sends RENEW only after SETCLIENTID_CONFIRM: an unconfirmed clientid has no lease.",
+    ),
+)
+TRACE_WARNINGS = (
+    (
+        "renewed-late",
+        "9.5",
+        "A client that renews its lease when two thirds of it are over has time left to send a lost RENEW again.",
+    ),
+)
+
+
+def sorts_of(errors: Rows, warnings: Rows) -> dict[str, Sort]:
+    return {
+        name: Sort(name, severity, section, advice)
+        for severity, rows in ((Severity.ERROR, errors), (Severity.WARNING, warnings))
+        for name, section, advice in rows
+    }
+
+
+# By their names: what a journal shows, what a trace shows, and both.
+SORTS = sorts_of(ERRORS, WARNINGS)
+TRACE_SORTS = sorts_of(TRACE_ERRORS, TRACE_WARNINGS)
+ALL_SORTS = SORTS | TRACE_SORTS

@@ -4,7 +4,7 @@ from collections import Counter
 from collections.abc import Hashable, Iterator
 from dataclasses import dataclass, field
 
-from nfs4tools.explain import Kind, Reason, Told
+from nfs4tools.explain import Kind, Reason, ExplainedEntry
 from nfs4tools.explain.sentences import run_words
 from nfs4tools.journal.entries import Call, Entry, Expire
 from nfs4tools.journal.history import History
@@ -15,7 +15,7 @@ from nfs4tools.judge.refusals_faults import TRANSFERS, transfer_of
 from nfs4tools.judge.watching import Holdings, Watcher, is_new
 from nfs4tools.model.delegations import bars
 from nfs4tools.model.ranges import Run, meets, range_of
-from nfs4tools.model.states import Delegation, KeptState, LockState, OpenState, conflict, mode_of
+from nfs4tools.model.state_parts import Delegation, KeptState, LockState, OpenState, conflict, mode_of
 from nfs4tools.wire import Lock, Open, Setclientid, SetclientidConfirm, Status
 
 # A client has so many moments for a SETCLIENTID after it was told that its clientid is dead.
@@ -79,7 +79,7 @@ class Lapses(Watcher):
         for state in map(self.server.given.__getitem__, states):
             self.lost.setdefault(state.file, []).append(lost_of(lapse, state))
 
-    def after(self, told: Told) -> None:
+    def after(self, told: ExplainedEntry) -> None:
         entry = told.entry
         if not self.lost or not (isinstance(entry, Call) and is_new(entry, told.reason)):
             return
@@ -175,7 +175,7 @@ class DeadClientids(Watcher):
         # what they ask, with the clientid and the entry.
         self.under_way: dict[tuple[bytes | None, Hashable], list[tuple[tuple[int, int], int]]] = {}
 
-    def after(self, told: Told) -> None:
+    def after(self, told: ExplainedEntry) -> None:
         entry = told.entry
         if not isinstance(entry, Call):
             return

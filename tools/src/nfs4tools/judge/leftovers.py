@@ -2,7 +2,7 @@
 owners, and what it never confirmed. And the locks that a CLOSE drops."""
 from collections.abc import Callable, Iterable, Iterator
 
-from nfs4tools.explain import Reason, Told
+from nfs4tools.explain import Reason, ExplainedEntry
 from nfs4tools.explain.sentences import listed
 from nfs4tools.journal.entries import Call, Entry
 from nfs4tools.journal.history import History
@@ -10,7 +10,7 @@ from nfs4tools.journal.words import client_words, name_words, owner_words
 from nfs4tools.judge.clients import client_of, id_of
 from nfs4tools.judge.findings import Finding, found
 from nfs4tools.judge.watching import Holdings, Watcher, counted, is_new
-from nfs4tools.model.states import Delegation, KeptState, LockState, OpenState
+from nfs4tools.model.state_parts import Delegation, KeptState, LockState, OpenState
 from nfs4tools.wire import Close, Lock, LockOwner, NewLocker, Open, OpenOwner, SetclientidConfirm
 
 AT_END = "at the end of the journal"
@@ -49,7 +49,7 @@ class Leftovers(Watcher):
         elif isinstance(entry.arguments, Close):
             self.found += self.dropped_by(number, entry)
 
-    def after(self, told: Told) -> None:
+    def after(self, told: ExplainedEntry) -> None:
         if not (isinstance(told.entry, Call) and is_new(told.entry, told.reason)):
             return
         arguments = told.entry.arguments

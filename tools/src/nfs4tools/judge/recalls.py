@@ -4,13 +4,13 @@ from collections.abc import Iterator
 from dataclasses import dataclass, field, replace
 from itertools import islice
 
-from nfs4tools.explain import Kind, Reason, Told
+from nfs4tools.explain import Kind, Reason, ExplainedEntry
 from nfs4tools.journal.entries import Call, Entry, Path, Revoke
 from nfs4tools.journal.history import History
 from nfs4tools.judge.clients import client_of
 from nfs4tools.judge.findings import Finding, Severity, found
 from nfs4tools.judge.watching import Holdings, Watcher
-from nfs4tools.model.states import UNKNOWN, UP
+from nfs4tools.model.state_parts import UNKNOWN, UP
 from nfs4tools.wire import SetclientidConfirm
 
 # So many moments lie between DELAYs at least if a delegation isn't given back in time.
@@ -48,7 +48,7 @@ class Recalls(Watcher):
         if isinstance(entry, Path) and self.server.is_live(entry.client):
             self.path = self.server.live_record(entry.client).path
 
-    def after(self, told: Told) -> None:
+    def after(self, told: ExplainedEntry) -> None:
         entry = told.entry
         for state in islice(reversed(self.server.recalled), len(self.server.recalled) - len(self.recalled)):
             client = self.server.live_record(self.server.given[state].client)

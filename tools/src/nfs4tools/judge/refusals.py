@@ -5,7 +5,7 @@ from collections import defaultdict
 from collections.abc import Hashable, Iterator
 from dataclasses import dataclass
 
-from nfs4tools.explain import Reason, Told, is_refusal
+from nfs4tools.explain import Reason, ExplainedEntry, is_refusal
 from nfs4tools.journal.entries import Call, Entry
 from nfs4tools.journal.history import History
 from nfs4tools.judge.clients import client_of
@@ -54,7 +54,7 @@ class Refusals(Watcher):
         reasons = [refused.reason] if also is None else [refused.reason, also]
         return [it for reason in reasons for finder in self.finders for it in finder.faults(refused, reason)]
 
-    def after(self, told: Told) -> None:
+    def after(self, told: ExplainedEntry) -> None:
         if isinstance(told.entry, Call):
             self.memory.note_after(told)
 

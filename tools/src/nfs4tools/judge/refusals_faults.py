@@ -5,7 +5,7 @@ from collections.abc import Callable, Hashable, Iterator
 from dataclasses import dataclass, replace
 from typing import Any
 
-from nfs4tools.explain import Kind, Reason, Told, is_refusal, sentence
+from nfs4tools.explain import Kind, Reason, ExplainedEntry, is_refusal, sentence
 from nfs4tools.explain.kinds import SequenceFacts, StateidFacts
 from nfs4tools.journal.entries import Call
 from nfs4tools.journal.history import History, Uncounted
@@ -14,7 +14,7 @@ from nfs4tools.judge.clients import client_of, stateids_of
 from nfs4tools.judge.findings import SORTS, Severity
 from nfs4tools.model.sequenced import NOT_COUNTED
 from nfs4tools.model.server import OPERATIONS, Subject
-from nfs4tools.model.states import LAST, OpenState
+from nfs4tools.model.state_parts import LAST, OpenState
 from nfs4tools.wire import Opnum, Reader, STATEID, SetclientidConfirm
 
 # How many sequence ids there are.
@@ -107,7 +107,7 @@ def is_sequenced(call: Call) -> bool:
     return OPERATIONS[call.opnum].subject == Subject.REQUEST
 
 
-def counts(told: Told, call: Call) -> bool:
+def counts(told: ExplainedEntry, call: Call) -> bool:
     """Whether the answer to an owner's request counts; a kept answer doesn't once more."""
     is_again = told.reason is not None and told.reason.again is not None
     return call.answer.status not in NOT_COUNTED and not is_again
@@ -148,7 +148,7 @@ class Memory:
             assert isinstance(found, OpenState)
             self.narrowed[found.number] = call.moment, found.share()[0]
 
-    def note_after(self, told: Told) -> None:
+    def note_after(self, told: ExplainedEntry) -> None:
         call = told.entry
         assert isinstance(call, Call)
         if is_refusal(call):
@@ -172,7 +172,7 @@ class Memory:
             if it.client == client or client is None and it.call.principal == call.principal
         )
 
-    def note_refusal(self, told: Told, call: Call) -> None:
+    def note_refusal(self, told: ExplainedEntry, call: Call) -> None:
         """Keeps those of owners that aren't known."""
         assert told.reason is not None
         clients = {stateid.client for stateid in stateids_of(call.arguments)} if is_sequenced(call) else set[int]()

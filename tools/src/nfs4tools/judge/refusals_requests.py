@@ -8,7 +8,7 @@ from nfs4tools.explain.kinds import AccessFacts, ConfirmFacts
 from nfs4tools.judge.circumstances import is_made_up
 from nfs4tools.judge.refusals_faults import Fault, Finder, Refused, UNDER_WAY
 from nfs4tools.model.attributes import SIZE, numbers_of
-from nfs4tools.model.states import Delegation
+from nfs4tools.model.state_parts import Delegation
 from nfs4tools.wire import Opnum, Setattr, SetclientidConfirm
 
 # The faults that a reason tells by the operation.

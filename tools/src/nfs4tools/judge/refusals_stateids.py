@@ -17,7 +17,7 @@ from nfs4tools.judge.refusals_faults import (
     fault,
     request_of,
 )
-from nfs4tools.model.states import OpenState, is_special, next_seqid
+from nfs4tools.model.state_parts import OpenState, is_special, next_seqid
 from nfs4tools.wire import Opnum, Stateid
 
 # The faults that a reason tells, whatever else is known.

@@ -9,7 +9,7 @@ from nfs4tools.explain.sentences import listed
 from nfs4tools.journal.history import Uncounted, key_of
 from nfs4tools.journal.words import STATUS_NAMES, owner_words
 from nfs4tools.judge.refusals_faults import Fault, Finder, IDS, Refused, answer_words, fault, request_of
-from nfs4tools.model.states import LockState, next_sequence_id
+from nfs4tools.model.state_parts import LockState, next_sequence_id
 from nfs4tools.wire import Status
 
 # From this time on the kept answer of a refusal is given once more than two lost replies account for.

@@ -8,7 +8,7 @@ from nfs4tools.journal.history import History
 from nfs4tools.judge.circumstances import is_made_up
 from nfs4tools.judge.clients import client_of
 from nfs4tools.judge.situations_watched import Watcher
-from nfs4tools.model.states import ClientRecord
+from nfs4tools.model.state_parts import ClientRecord
 from nfs4tools.wire import Opnum, Status
 
 OF_ANOTHER_RUN = {Kind.CLIENTID_OTHER_EPOCH, Kind.STATEID_OTHER_EPOCH}

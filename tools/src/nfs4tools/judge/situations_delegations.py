@@ -4,7 +4,7 @@ from collections.abc import Hashable, Iterator
 from nfs4tools.journal.entries import Call, Entry, Path, Revoke, delegation_given
 from nfs4tools.journal.history import History
 from nfs4tools.judge.situations_watched import Watcher
-from nfs4tools.model.states import Delegation, LockState, is_special
+from nfs4tools.model.state_parts import Delegation, LockState, is_special
 from nfs4tools.wire import CLAIM_DELEGATE_CUR, OPEN_DELEGATE_WRITE, Opnum, Status
 
 

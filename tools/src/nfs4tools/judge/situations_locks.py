@@ -4,9 +4,9 @@ from collections.abc import Hashable, Iterator
 
 from nfs4tools.journal.entries import Call
 from nfs4tools.journal.history import History
-from nfs4tools.judge.situations_watched import Crowds, Watcher, state_given
+from nfs4tools.judge.situations_watched import StateGroups, Watcher, state_given
 from nfs4tools.model.ranges import ALL_ONES, READ_MODE, Ranges, WRITE_MODE, range_of
-from nfs4tools.model.states import LockState, mode_of
+from nfs4tools.model.state_parts import LockState, mode_of
 from nfs4tools.wire import Lock, LockOwner, NewLocker, Opnum, READW_LT, Status, WRITEW_LT
 
 # The last byte that a signed offset of 64 bits reaches.
@@ -38,7 +38,7 @@ class LockWatcher(Watcher):
         self.states: dict[int, list[LockState]] = {}
         # The locks that were denied, and not given since.
         self.denied: set[Hashable] = set()
-        self.locks = Crowds(server)
+        self.locks = StateGroups(server)
 
     def note_lock(self, call: Call) -> None:
         locker = call.arguments.locker

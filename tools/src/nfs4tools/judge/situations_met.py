@@ -1,7 +1,7 @@
 """How often each client met each situation, by a replay of a journal."""
 from collections import Counter
 
-from nfs4tools.explain import Reason, Told
+from nfs4tools.explain import Reason, ExplainedEntry
 from nfs4tools.journal.entries import Call, Entry
 from nfs4tools.journal.history import History
 from nfs4tools.judge.clients import client_of
@@ -31,12 +31,12 @@ class SituationsMet:
             for note in self.notes[entry.opnum]:
                 note(entry)
 
-    def after(self, told: Told) -> None:
+    def after(self, told: ExplainedEntry) -> None:
         names = self.names(told)
         if names:
             self.counts.setdefault(client_of(told.entry, self.server), Counter()).update(names)
 
-    def names(self, told: Told) -> list[str]:
+    def names(self, told: ExplainedEntry) -> list[str]:
         """The situations that an entry meets."""
         entry, reason = told.entry, told.reason
         if not isinstance(entry, Call):

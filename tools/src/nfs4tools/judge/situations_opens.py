@@ -3,8 +3,8 @@ from collections.abc import Iterator
 
 from nfs4tools.journal.entries import Call, Entry, Forget
 from nfs4tools.journal.history import History
-from nfs4tools.judge.situations_watched import Crowds, Watcher, state_given
-from nfs4tools.model.states import OpenState, union
+from nfs4tools.judge.situations_watched import StateGroups, Watcher, state_given
+from nfs4tools.model.state_parts import OpenState, union
 from nfs4tools.wire import OpenOwner, Opnum, Status
 
 
@@ -24,7 +24,7 @@ class OpenWatcher(Watcher):
         self.is_unconfirmed = False
         self.share: tuple[int, int] | None = None
         self.forgotten: set[OpenOwner] = set()
-        self.opens = Crowds(server)
+        self.opens = StateGroups(server)
 
     def note_open(self, call: Call) -> None:
         owner = self.server.open_owners.get(call.arguments.owner)

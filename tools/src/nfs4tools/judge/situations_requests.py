@@ -5,7 +5,7 @@ from collections.abc import Iterator
 from nfs4tools.journal.entries import Call
 from nfs4tools.journal.history import History
 from nfs4tools.judge.situations_watched import Watcher
-from nfs4tools.model.states import LAST, Delegation, Owner, OwnerName, Request, is_first_lock, stateid_of
+from nfs4tools.model.state_parts import LAST, Delegation, Owner, OwnerName, Request, is_first_lock, stateid_of
 from nfs4tools.wire import LockOwner, Opnum, Status
 
 # The sequenced operations, as names of situations have them.

@@ -5,7 +5,7 @@ from collections.abc import Callable, Hashable, Iterator
 
 from nfs4tools.journal.entries import Call, Entry
 from nfs4tools.journal.history import History
-from nfs4tools.model.states import KeptState
+from nfs4tools.model.state_parts import KeptState
 from nfs4tools.wire import Opnum, Stateid
 
 # What is noted before a call; and names of situations that a call meets, by the number of its entry.
@@ -33,7 +33,7 @@ class Watcher:
         return self.server.given.get(stateid.number)
 
 
-class Crowds:
+class StateGroups:
     """States by what they share, in the order in which they came."""
 
     def __init__(self, server: History) -> None:

@@ -6,7 +6,7 @@ from collections.abc import Iterable, Iterator
 from dataclasses import dataclass
 
 from nfs4tools.journal.words import name_words
-from nfs4tools.judge.findings import Finding, SORTS, Severity
+from nfs4tools.judge.findings import ALL_SORTS, Finding, Severity
 from nfs4tools.judge.situations import missing
 from nfs4tools.judge.verdicts import ClientVerdict, Verdict
 
@@ -79,8 +79,8 @@ def title_of(client: ClientVerdict) -> str:
 def allowance(text: str) -> Allowance:
     """FINDING or FINDING=CLIENT, as argparse's `type` of an option."""
     name, has_client, client = text.partition("=")
-    if name in SORTS:
+    if name in ALL_SORTS:
         return Allowance(name, client if has_client else None)
-    near = " or ".join(difflib.get_close_matches(name, SORTS, 2))
+    near = " or ".join(difflib.get_close_matches(name, ALL_SORTS, 2))
     advice = f"{near} is meant, maybe; " if near else ""
     raise argparse.ArgumentTypeError(f"there is no finding {name!r}: {advice}--help lists all")

@@ -4,12 +4,12 @@ from collections import defaultdict
 from collections.abc import Iterable, Iterator
 from itertools import islice
 
-from nfs4tools.explain import Reason, Told
+from nfs4tools.explain import Reason, ExplainedEntry
 from nfs4tools.explain.sentences import Sentences, listed
 from nfs4tools.journal.entries import Call, Entry
 from nfs4tools.journal.history import History
 from nfs4tools.judge.findings import Finding
-from nfs4tools.model.states import LockState
+from nfs4tools.model.state_parts import LockState
 from nfs4tools.wire import Status
 
 
@@ -22,7 +22,7 @@ class Watcher:
     def before(self, number: int, entry: Entry, reason: Reason | None) -> None:
         """The server has the state that the entry meets."""
 
-    def after(self, told: Told) -> None:
+    def after(self, told: ExplainedEntry) -> None:
         """The server has the state that the entry leads to."""
 
     def findings(self) -> Iterator[Finding]:
@@ -45,7 +45,7 @@ class Holdings(Watcher):
         self.last, self.ended = 0, 0
         self.added: range = range(0)
 
-    def after(self, told: Told) -> None:
+    def after(self, told: ExplainedEntry) -> None:
         server = self.server
         self.added = range(self.last + 1, server.last_state + 1)
         if self.added:

@@ -1,0 +1,1 @@
+"""What passes between clients and a server: written, read, and as a capture."""
