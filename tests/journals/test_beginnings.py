@@ -257,18 +257,18 @@ def test_shown(put, tmp_path):
     expect_tool("show_journal", ["--lawful", path], [f"lawful: {count - 1} entries", inside])
     expect_tool("show_journal", ["--save", saved, path], [f"saved: {count - 1} entries", inside])
     expect_bytes(saved, journal_bytes(journal._replace(entries=journal.entries[:-1])))
-    expect_tool("show_journal", [put("head.part", whole[:20])], [HEAD_ENDS])
+    expect_tool("show_journal", [put("head.part", whole[:20])], [HEAD_ENDS], 2)
     expect_tool(
         "show_journal",
         [put("other", whole + b"\0")],
         lines,
-        1,
+        2,
         f"fault: not a journal: entry {count}: bytes after the last one\n",
     )
     expect_tool("show_journal", [str(tmp_path / "missing")], [], 1, "fault: file not read\n")
     early = f"fault: not a journal: {HEAD_ENDS}\n"
-    expect_tool("show_journal", ["--lawful", str(tmp_path / "head.part")], [], 1, early)
-    expect_tool("show_journal", ["--save", saved, str(tmp_path / "head.part")], [], 1, early)
+    expect_tool("show_journal", ["--lawful", str(tmp_path / "head.part")], [], 2, early)
+    expect_tool("show_journal", ["--save", saved, str(tmp_path / "head.part")], [], 2, early)
 
 
 def test_earlier(put, tmp_path):
@@ -277,9 +277,9 @@ def test_earlier(put, tmp_path):
     path, count = put("earlier.part", beginning_of(journal) + FORGOTTEN[:20]), len(journal.entries)
     saved = str(tmp_path / "saved")
     unknown = f"fault: not a journal: entry {count}: no kind of entry\n"
-    expect_tool("show_journal", [path], shown(journal), 1, unknown)
-    expect_tool("show_journal", ["--lawful", path], [f"lawful: {count} entries"], 1, unknown)
-    expect_tool("show_journal", ["--save", saved, path], [f"saved: {count} entries"], 1, unknown)
+    expect_tool("show_journal", [path], shown(journal), 2, unknown)
+    expect_tool("show_journal", ["--lawful", path], [f"lawful: {count} entries"], 2, unknown)
+    expect_tool("show_journal", ["--save", saved, path], [f"saved: {count} entries"], 2, unknown)
     expect_bytes(saved, journal_bytes(journal))
     expect_tool("show_journal", [put("earlier", journal_bytes(journal))], shown(journal))
     refused = small()._replace(entries=[small().entries[1]])
@@ -315,7 +315,7 @@ def test_for_clients(put, tmp_path):
     expect_tool("show_journal", ["--save", saved, cut], ["saved: 3 entries", inside])
     expect_bytes(saved, journal_bytes(journal._replace(entries=journal.entries[:3])), HEAD_OF_CLIENTS)
     plain = put("plain.part", HEAD + beginning_of(journal)[8:])
-    expect_tool("show_journal", [plain], [], 1, "fault: not a journal: entry 0: an operation that makes no entry\n")
+    expect_tool("show_journal", [plain], [], 2, "fault: not a journal: entry 0: an operation that makes no entry\n")
 
 
 def test_data(put):

@@ -1,10 +1,12 @@
 use crate::told::tell;
+use jiff::Timestamp;
 use nfs_options::ServeOptions;
 use nfs_program::Fault;
 use nfs_tree::{NodeKind, Tree};
 use std::io;
 use std::io::Eprint;
 use std::net::{SocketAddr, TcpListener};
+use std::time::Clock;
 
 /// A listener, and the address that it got.
 #[derive(Drop)]
@@ -27,16 +29,27 @@ impl Listening {
         }
     }
 
-    /// Tells the address by a line on `errors`, by which a script can know when to connect, and where if the port was
-    /// left to the system; and by another one what is served. An error in writing them is ignored, as others are.
-    pub(crate) fn tell<E: Eprint>(&self, errors: &E, tree: &Tree, options: &ServeOptions<'_>) {
+    /// Tells the address by a line on `errors`, so that a script knows when to connect, and to which port if the system
+    /// chose it. A second line tells what is served, and the wall time of moment 0. An error in writing is ignored.
+    pub(crate) fn tell<E: Eprint>(
+        &self,
+        errors: &E,
+        clock: &impl Clock,
+        tree: &Tree,
+        options: &ServeOptions<'_>,
+    ) {
         let nodes = tree.nodes().iter();
         let files = nodes
             .filter(|node| matches!(node.kind, NodeKind::File(_)))
             .count();
         let (lease, epoch) = (options.lease, options.epoch);
         let _ = eprintln!(errors; "listening on {}", self.address);
-        let _ = eprintln!(errors; "serving {files} files, lease {lease} s, epoch {epoch}");
+        let _ = match Timestamp::now(clock) {
+            Ok(now) => eprintln!(errors;
+                "serving {files} files, lease {lease} s, epoch {epoch}, moment 0 at {now:.3}"
+            ),
+            Err(_) => eprintln!(errors; "serving {files} files, lease {lease} s, epoch {epoch}"),
+        };
     }
 }
 

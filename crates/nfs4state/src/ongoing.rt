@@ -97,7 +97,7 @@ impl<
             return self.report_no_memory();
         };
         let beginning = beginning_of(self.rt, &names, core.journal());
-        listening.tell(&self.teller(LineKind::Run), tree, self.options);
+        listening.tell(&self.teller(LineKind::Run), self.rt, tree, self.options);
         let reporter = Reporter::new(self.threads, self.lines, beginning, self.options.memory);
         let Ok(door) = self.open_door(listening.listener) else {
             drop(core);

@@ -102,7 +102,7 @@ fn serve_connections<
     requires nobody { (number : ℕ) → IsFalse (is_live number core.stored.clients) }
     requires nodes { core.journal.nodes ≡ tree.now.nodes }
 {
-    listening.tell(rt, tree, options);
+    listening.tell(rt, rt, tree, options);
     let alloc = rt.alloc();
     let mut journal = journal_file(rt, options.journal, rt);
     let Ok(mut buffer) = file_buffer(alloc, &journal) else {

@@ -4,7 +4,7 @@ A reason is data (`kinds.py`). `causes.py` and the files `of_*.py` find it by th
 makes a sentence of it, and `replays.py` goes through a journal with it."""
 from nfs4tools.explain.causes import Causes
 from nfs4tools.explain.kinds import Again, Kind, Reason
-from nfs4tools.explain.replays import Observer, Replay, Told, is_refusal
+from nfs4tools.explain.replays import Observer, Replay, ExplainedEntry, is_refusal
 from nfs4tools.explain.sentences import again_words, repeated_words, sentence
 
 __all__ = [
@@ -14,7 +14,7 @@ __all__ = [
     "Observer",
     "Reason",
     "Replay",
-    "Told",
+    "ExplainedEntry",
     "again_words",
     "is_refusal",
     "repeated_words",

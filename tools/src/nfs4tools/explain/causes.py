@@ -5,8 +5,10 @@ from nfs4tools.explain.common import Reasons
 from nfs4tools.explain.kinds import Reason
 from nfs4tools.explain.of_transfers import OfTransfers
 from nfs4tools.journal.entries import Call
+from nfs4tools.model.sequenced import NOT_COUNTED
 from nfs4tools.model.server import OPERATIONS, Subject
-from nfs4tools.model.states import Request
+from nfs4tools.model.state_parts import Refusal, Request, replay, sequence_id_of
+from nfs4tools.wire import Status
 
 
 class Causes(OfTransfers):
@@ -14,7 +16,26 @@ class Causes(OfTransfers):
 
     def reason_of(self, call: Call) -> Reason | None:
         """The reason of the answer that the next entry has; or None if the call is OK, and no kept request again."""
-        reason = next(self.of_call(call), None)
+        return self.note(next(self.of_call(call), None))
+
+    def reason_of_lawful(self, call: Call, is_wanted: bool = True) -> Reason | None:
+        """The same, if the answer is known to be the one that the rules give: one of OK has a reason only if it is a
+        stored reply. A reason that isn't wanted is left out, unless the reason of a later stored reply may name it."""
+        status, is_request = call.answer.status, OPERATIONS[call.opnum].subject == Subject.REQUEST
+        if status != Status.OK:
+            return self.reason_of(call) if is_wanted or is_request and status not in NOT_COUNTED else None
+        if not is_request:
+            return None
+        request = Request(call.opnum, call.arguments, call.filehandle)
+        try:
+            owner = self.server.owner_of(request)
+        except Refusal:
+            return None
+        is_again = owner is not None and replay(owner.kept, sequence_id_of(request), request) is not None
+        return self.note(self.kept_answer(owner)) if owner is not None and is_again else None
+
+    def note(self, reason: Reason | None) -> Reason | None:
+        """Keeps the reason of the next entry, as later ones may be stored replies."""
         if reason is not None:
             self.given[self.server.entries] = reason
             if reason.again is not None:

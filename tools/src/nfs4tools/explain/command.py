@@ -22,6 +22,32 @@ import argparse
 import sys
 
 from nfs4tools.explain.lines import explain
+from nfs4tools.runs.options import add_selection, count, selection_of
+from nfs4tools.runs.selection import Selection
+
+
+def fault_of(given: argparse.Namespace) -> str | None:
+    """What is wrong with options that don't go together, if anything."""
+    if given.no_reasons and not given.summary:
+        each = ", and not --each" if given.each else ""
+        return f"--no-reasons is for the summary: give --summary --no-reasons{each}"
+    for name in others_of(given):
+        if given.each or given.words or given.whole:
+            option = "--each" if given.each else "--words" if given.words else "--whole"
+            return f"{option} is for the list of refusals, which {name} doesn't show: leave out one of them"
+    if given.json and (given.summary or given.diff is not None or given.at is not None):
+        return "--json is for refusals, and for --again and --delegations"
+    selection = selection_of(given)
+    named = Selection(selection.clients, selection.paths, selection.owners)
+    if given.at is not None and selection != named:
+        return "--at goes with --client, --owner and --file alone"
+    return None
+
+
+def others_of(given: argparse.Namespace) -> list[str]:
+    """The option that shows something else than a list, if it is given."""
+    asked = {"--summary": given.summary, "--at": given.at is not None, "--diff": given.diff is not None}
+    return [name for name, is_given in asked.items() if is_given]
 
 
 def main() -> None:
@@ -29,11 +55,27 @@ def main() -> None:
     kinds = parser.add_mutually_exclusive_group()
     kinds.add_argument("--delegations", action="store_true", help="say what becomes of delegations, too")
     kinds.add_argument("--again", action="store_true", help="show the entries that have a kept answer, alone")
+    kinds.add_argument("--summary", action="store_true", help="show how often each client got each status instead")
+    kinds.add_argument(
+        "--at", type=count, metavar="N", help="show the state after entry N instead, also of one client, owner or file"
+    )
+    kinds.add_argument("--diff", metavar="OTHER", help="show where FILE and this journal part, client by client")
+    parser.add_argument(
+        "--no-reasons", action="store_true", help="with --summary: leave out the first refusal of each kind"
+    )
+    add_selection(parser)
     parser.add_argument("--each", action="store_true", help="show each refusal, also if an earlier one is equal")
-    parser.add_argument("--words", action="store_true", help="show operations and answers as the words of rows")
+    forms = parser.add_mutually_exclusive_group()
+    forms.add_argument(
+        "--json", action="store_true", help="print each entry with its reason as a line of JSON (docs/run.schema.json)"
+    )
+    forms.add_argument("--words", action="store_true", help="show operations and answers as the words of rows")
     parser.add_argument("--whole", action="store_true", help="show all bytes that READ and WRITE bring")
     parser.add_argument("path", metavar="FILE", help="a journal, or a beginning of one")
+    given = parser.parse_args()
+    if fault := fault_of(given):
+        parser.error(fault)
     try:
-        explain(parser.parse_args())
+        explain(given)
     except BrokenPipeError:
         sys.stderr.close()

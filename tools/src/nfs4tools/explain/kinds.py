@@ -5,7 +5,7 @@ from enum import Enum, auto
 
 from nfs4tools.journal.history import Uncounted
 from nfs4tools.model.ranges import Run
-from nfs4tools.model.states import OwnerName
+from nfs4tools.model.state_parts import OwnerName
 from nfs4tools.wire import Principal, Stateid, Status
 
 

@@ -16,7 +16,7 @@ from nfs4tools.explain.kinds import (
 )
 from nfs4tools.journal.entries import Call, Expire
 from nfs4tools.journal.history import Introduction
-from nfs4tools.model.states import ClientRecord
+from nfs4tools.model.state_parts import ClientRecord
 from nfs4tools.wire import Principal, Setclientid, SetclientidConfirm, Stateid, Status
 
 

@@ -15,7 +15,7 @@ from nfs4tools.explain.kinds import (
 from nfs4tools.explain.of_opens import OfOpens
 from nfs4tools.explain.of_owners import differences
 from nfs4tools.model.ranges import READ_MODE, denial, range_of
-from nfs4tools.model.states import LockState, OpenState, Request, mode_of, next_sequence_id, stateid_of_locker
+from nfs4tools.model.state_parts import LockState, OpenState, Request, mode_of, next_sequence_id, stateid_of_locker
 from nfs4tools.wire import (
     Lock,
     LockOwner,
@@ -59,7 +59,7 @@ class OfLocks(OfOpens):
             facts = OtherClient(opened, opened.number, None, owner.epoch, owner.client)
             yield reason(Kind.LOCK_OWNER_OF_OTHER_CLIENT, Status.INVAL, "LOCK", facts, (), [opened.number])
         wrong_id = self.lock_seqid_other(Request(Opnum.LOCK, arguments, file), locker)
-        state = next((it for it in server.lock_states if (it.owner, it.file) == (owner, file)), None)
+        state = next((it for it in server.lock_states_of(file) if it.owner == owner), None)
         if state is not None:
             known = KnownLocker(owner, state.number, server.begun[state.number])
             found = reason(Kind.NEW_LOCK_OWNER_KNOWN, Status.BAD_SEQID, "LOCK", known, [known.entry], [state.number])
@@ -96,7 +96,7 @@ class OfLocks(OfOpens):
         """The lock of another owner that conflicts, as it is reported."""
         asked, mode = range_of(arguments.offset, arguments.length), mode_of(arguments.locktype)
         assert asked is not None
-        others = [it for it in self.server.lock_states if it.file == file and it.owner != owner]
+        others = [it for it in self.server.lock_states_of(file) if it.owner != owner]
         found = denial([(it.owner, it.ranges) for it in others], *asked, mode)
         if found is not None:
             held = self.held_lock(next(it for it in others if it.owner == found.owner), found.run)

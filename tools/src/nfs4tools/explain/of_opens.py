@@ -27,7 +27,7 @@ from nfs4tools.explain.of_stateids import bad_stateid
 from nfs4tools.model.delegations import bars
 from nfs4tools.model.operations.close import holding
 from nfs4tools.model.ranges import Run
-from nfs4tools.model.states import Delegation, LockState, OpenState, conflict, is_lawful_downgrade
+from nfs4tools.model.state_parts import Delegation, LockState, OpenState, conflict, is_lawful_downgrade
 from nfs4tools.model.tree import NAME_LIMIT
 from nfs4tools.wire import (
     BOTH,

@@ -6,7 +6,7 @@ from typing import Any
 from nfs4tools.explain.common import IDLE, OWNERS, Reasons, SECTIONS_OF_HEADINGS, reason
 from nfs4tools.explain.kinds import Again, DelegationConflicts, EndedState, KeptFacts, Kind, Reason, SequenceFacts
 from nfs4tools.explain.of_stateids import OfStateids
-from nfs4tools.model.states import (
+from nfs4tools.model.state_parts import (
     Delegation,
     LockState,
     OpenState,

@@ -16,7 +16,7 @@ from nfs4tools.explain.kinds import (
 )
 from nfs4tools.explain.of_client_ids import OfClientIds
 from nfs4tools.journal.entries import Call, Revoke
-from nfs4tools.model.states import Delegation, KeptState, LockState, OpenState, is_special
+from nfs4tools.model.state_parts import Delegation, KeptState, LockState, OpenState, is_special
 from nfs4tools.wire import Opnum, Stateid, Status
 
 S = TypeVar("S", OpenState, LockState, Delegation)

@@ -15,7 +15,7 @@ from nfs4tools.explain.kinds import (
 from nfs4tools.explain.of_locks import OfLocks
 from nfs4tools.model.attributes import FIRST_COOKIE, FIXED, SET_ONLY, SIZE, WRITABLE, numbers_of
 from nfs4tools.model.operations.readdir import LISTING_ENDS, LISTING_LIMIT, NO_VERIFIER, room_of_entries
-from nfs4tools.model.states import Delegation, KeptState, LockState, OpenState, Refusal, is_special
+from nfs4tools.model.state_parts import Delegation, KeptState, LockState, OpenState, Refusal, is_special
 from nfs4tools.model.tree import TEXT_LIMIT
 from nfs4tools.wire import (
     BOTH,

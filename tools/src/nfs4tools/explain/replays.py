@@ -12,7 +12,7 @@ from nfs4tools.model.state import JOURNAL_LIMIT
 from nfs4tools.wire import Status
 
 
-class Told(NamedTuple):
+class ExplainedEntry(NamedTuple):
     """An entry with its number; if it is a call the reason of its answer, or None, where that is OK and no kept
     answer; and texts of what it does about delegations."""
 
@@ -28,34 +28,39 @@ class Observer(Protocol):
     def before(self, number: int, entry: Entry, reason: Reason | None) -> None:
         ...
 
-    def after(self, told: Told) -> None:
+    def after(self, told: ExplainedEntry) -> None:
         ...
 
 
 class Replay:
-    """A server that follows a journal, and the reasons of its answers."""
+    """A server that follows a journal, and the reasons of its answers. If it `is_quick`, it doesn't look for reasons of
+    answers of OK, other than that they are stored replies; and it tells no events."""
 
-    def __init__(self, journal: Journal, limit: int = JOURNAL_LIMIT) -> None:
+    def __init__(self, journal: Journal, limit: int = JOURNAL_LIMIT, is_quick: bool = False) -> None:
         self.server = History(journal.tree, journal.lease, journal.epoch, limit)
         self.causes, self.events = Causes(self.server), Events(self.server)
-        self.journal = journal
+        self.journal, self.is_quick = journal, is_quick
 
-    def run(self, observers: Sequence[Observer] = ()) -> Iterator[Told]:
+    def run(self, observers: Sequence[Observer] = ()) -> Iterator[ExplainedEntry]:
         """What there is to say of each entry; or WrongAnswer at the first that can't follow."""
         for entry in self.journal.entries:
             yield self.step(entry, observers)
 
-    def step(self, entry: Entry, observers: Sequence[Observer] = ()) -> Told:
-        """The next entry, whether or not the journal has it already."""
+    def step(self, entry: Entry, observers: Sequence[Observer] = (), is_wanted: bool = True) -> ExplainedEntry:
+        """The next entry, whether or not the journal has it already. If it isn't wanted it may have no reason."""
         number = self.server.entries
-        reason = self.causes.reason_of(entry) if isinstance(entry, Call) else None
+        reason = self.reason_of(entry, is_wanted) if isinstance(entry, Call) else None
         tell_before(observers, number, entry, reason)
-        self.events.begin(entry)
+        if not self.is_quick:
+            self.events.begin(entry)
         if number == self.server.journal_limit or not STEPS[type(entry)](self.server, entry):
             raise WrongAnswer(number)
-        told = Told(number, entry, reason, list(self.events.texts(number, entry)))
+        told = ExplainedEntry(number, entry, reason, [] if self.is_quick else list(self.events.texts(number, entry)))
         tell_after(observers, told)
         return told
+
+    def reason_of(self, call: Call, is_wanted: bool) -> Reason | None:
+        return self.causes.reason_of_lawful(call, is_wanted) if self.is_quick else self.causes.reason_of(call)
 
 
 def tell_before(observers: Sequence[Observer], number: int, entry: Entry, reason: Reason | None) -> None:
@@ -63,7 +68,7 @@ def tell_before(observers: Sequence[Observer], number: int, entry: Entry, reason
         observer.before(number, entry, reason)
 
 
-def tell_after(observers: Sequence[Observer], told: Told) -> None:
+def tell_after(observers: Sequence[Observer], told: ExplainedEntry) -> None:
     for observer in observers:
         observer.after(told)
 

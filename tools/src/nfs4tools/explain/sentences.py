@@ -56,7 +56,7 @@ from nfs4tools.journal.words import (
 )
 from nfs4tools.model.attributes import NAMES
 from nfs4tools.model.ranges import LAST_BYTE, READ_MODE, Run
-from nfs4tools.model.states import Delegation, KeptState, LockState, OpenState
+from nfs4tools.model.state_parts import Delegation, KeptState, LockState, OpenState
 from nfs4tools.model.tree import NAME_LIMIT, TEXT_LIMIT
 from nfs4tools.wire import BOTH, GUARDED4, OPEN_DELEGATE_WRITE, Opnum, READ, WRITE
 
@@ -72,6 +72,15 @@ def sentence(reason: Reason, server: History) -> str:
     if reason.also is not None and reason.also.kind in BEFORE:
         text = f"{sentence(reason.also, server)}; {text}"
     return f"of the delegation's stateid: {text}" if reason.is_of_claim else text
+
+
+def uncounted_of(facts: SequenceFacts) -> list[Uncounted]:
+    """The refusals that had the owner's next sequence id, and didn't count."""
+    last = facts.last_uncounted
+    found = [it for it in facts.uncounted if it.sequence_id == facts.expected]
+    if last is not None and last.owner is None and last.sequence_id == facts.expected:
+        found.append(last)
+    return found
 
 
 def again_words(call: Call, again: Again) -> str:
@@ -264,10 +273,7 @@ class Sentences:
 
     def uncounted(self, facts: SequenceFacts) -> str:
         """Those that had the next sequence id, and didn't count."""
-        last = facts.last_uncounted
-        found = [it for it in facts.uncounted if it.sequence_id == facts.expected]
-        if last is not None and last.owner is None and last.sequence_id == facts.expected:
-            found.append(last)
+        found = uncounted_of(facts)
         return f"; {listed([self.uncounted_words(it) for it in found])}" if found else ""
 
     def uncounted_words(self, it: Uncounted) -> str:

@@ -3,7 +3,8 @@ arguments; what this server's answers may be is here.
 
 There is one spelling: what is read here is written again by the same bytes, so padding has to be zero.
 """
-from collections.abc import Callable
+import struct
+from collections.abc import Callable, Sequence
 from typing import Annotated, Any, NamedTuple
 
 from nfs4tools import wire
@@ -34,6 +35,8 @@ MOMENT_LIMIT = 2**40 - 2
 STATUSES = wire.GIVEN_STATUSES
 WITHOUT_RULE = dict.fromkeys(CHANGING_DIRECTORIES, {Status.NOTSUPP, Status.ROFS})
 
+# Operations by their numbers.
+OPNUMS = {int(opnum): opnum for opnum in Opnum}
 # How the bytes of the arguments are written, of each operation that makes an entry.
 ARGUMENT_BYTES = {opnum: FORMS[opnum].write for opnum in STATEFUL_BY_PROFILE[CLIENTS]}
 
@@ -56,17 +59,41 @@ class StrictReader(wire.Reader):
         value, self.at = self.data[self.at : end], end
         return value
 
+    def u32(self) -> int:
+        begin, end = self.at, self.at + 4
+        if end > len(self.data):
+            raise EndsEarly("it ends too early")
+        self.at = end
+        return int.from_bytes(self.data[begin:end], "big")
+
+    def u32s(self, count: int) -> Sequence[int]:
+        begin, end = self.at, self.at + 4 * count
+        if end > len(self.data):
+            raise EndsEarly("it ends too early")
+        self.at = end
+        return struct.unpack_from(f">{count}I", self.data, begin)
+
+    def u64(self) -> int:
+        begin, end = self.at, self.at + 8
+        if end > len(self.data):
+            raise EndsEarly("it ends too early")
+        self.at = end
+        return int.from_bytes(self.data[begin:end], "big")
+
     def opaque(self, limit: int = 2**32 - 1) -> bytes:
-        if int.from_bytes(self.data[self.at : self.at + 4], "big") > limit:
+        length = self.u32()
+        if length > limit:
             raise NotJournal(f"more than {limit} bytes")
-        value = super().opaque(limit)
-        padding = -len(value) % 4
-        if any(self.data[self.at - padding : self.at]):
+        begin, end = self.at, self.at + length
+        self.at = end + -length % 4
+        if self.at > len(self.data):
+            raise EndsEarly("it ends too early")
+        if any(self.data[end : self.at]):
             raise NotJournal("padding that isn't zero")
-        return value
+        return self.data[begin:end]
 
     def bitmap(self) -> tuple[int, ...]:
-        return tuple(self.u32() for _ in range(self.u32()))
+        return tuple(self.u32s(self.u32()))
 
     def one_of(self, count: int, first: int = 0) -> int:
         number = self.u32()
@@ -176,9 +203,14 @@ def read_open_answer(reader: StrictReader) -> tuple[int, Stateid | None]:
     return read_delegation(reader)
 
 
+# An OPEN that is OK; and how many bytes its answer has if it brings no attributes and no delegation.
+OPENED = Opnum.OPEN, Status.OK
+WITHOUT_DELEGATION = 48
+
+
 def delegation_given(entry: Entry) -> tuple[int, Stateid] | None:
     """The kind and the stateid of the delegation that an entry gives, or None."""
-    if not isinstance(entry, Call) or (entry.answer.number, entry.answer.status) != (Opnum.OPEN, Status.OK):
+    if not isinstance(entry, Call) or entry.answer[:2] != OPENED or len(entry.answer.rest) <= WITHOUT_DELEGATION:
         return None
     kind, stateid = read_open_answer(StrictReader(entry.answer.rest))
     return None if stateid is None else (kind, stateid)
@@ -195,7 +227,7 @@ RESTS: dict[tuple[int, int], Callable[[Any], Any]] = {
 
 
 def read_answer(reader: StrictReader) -> Answer:
-    number, status = reader.u32(), reader.u32()
+    number, status = reader.u32s(2)
     if not 3 <= number <= 39 and number != Opnum.ILLEGAL:
         raise NotJournal("an answer to no operation")
     if status not in STATUSES:
@@ -203,9 +235,26 @@ def read_answer(reader: StrictReader) -> Answer:
     has_rule = number in wire.ARGUMENTS or number == Opnum.ILLEGAL
     if not has_rule and status not in WITHOUT_RULE.get(number, {Status.NOTSUPP}):
         raise NotJournal("an operation without a rule has another answer than NOTSUPP")
-    begin = reader.at
-    RESTS.get((number, status), lambda r: None)(reader)
+    begin, read = reader.at, RESTS.get((number, status))
+    if read is not None and not ((number, status) == OPENED and passes_plain_open(reader)):
+        read(reader)
     return Answer(number, status, reader.data[begin : reader.at])
+
+
+# The answer to an OPEN that brings no attributes and no delegation: the stateid, whether the change is atomic, the
+# directory before and after it, rflags, and two zeros.
+PLAIN_OPEN = struct.Struct(">16xI16x4xII")
+
+
+def passes_plain_open(reader: StrictReader) -> bool:
+    """Passes over such an answer at once, since most are so."""
+    if reader.at + PLAIN_OPEN.size > len(reader.data):
+        return False
+    is_atomic, attributes, delegation = PLAIN_OPEN.unpack_from(reader.data, reader.at)
+    if is_atomic > 1 or attributes or delegation != OPEN_DELEGATE_NONE:
+        return False
+    reader.at += PLAIN_OPEN.size
+    return True
 
 
 def answer_bytes(answer: Answer) -> bytes:
@@ -235,13 +284,32 @@ def read_operation(reader: StrictReader, profile: str) -> tuple[Opnum, Any]:
     number = reader.u32()
     if number not in STATEFUL_BY_PROFILE[profile]:
         raise NotJournal("an operation that makes no entry")
-    return Opnum(number), wire.ARGUMENTS[number](reader)
+    return OPNUMS[number], wire.ARGUMENTS[number](reader)
+
+
+# What a Call begins with: the moment, the flavor, the uid, whether there is a filehandle, and its node.
+CALL_HEAD = struct.Struct(">QIIII")
 
 
 def read_call(reader: StrictReader, tree: Tree) -> Call:
-    moment, principal = read_moment(reader), read_principal(reader)
-    filehandle, operation = read_filehandle(reader, len(tree.nodes)), read_operation(reader, tree.policy.profile)
-    return Call(moment, principal, filehandle, *operation, read_answer(reader))
+    head = read_whole_head(reader, len(tree.nodes)) or (
+        read_moment(reader),
+        read_principal(reader),
+        read_filehandle(reader, len(tree.nodes)),
+    )
+    return Call(*head, *read_operation(reader, tree.policy.profile), read_answer(reader))
+
+
+def read_whole_head(reader: StrictReader, nodes: int) -> tuple[int, Principal, int | None] | None:
+    """What a Call begins with, if it is whole and nothing is wrong with it: it is read at once, since most are so."""
+    if reader.at + CALL_HEAD.size > len(reader.data):
+        return None
+    moment, flavor, uid, is_present, node = CALL_HEAD.unpack_from(reader.data, reader.at)
+    is_right = moment < MOMENT_LIMIT and flavor < 2 and is_present < 2 and node < nodes
+    if not is_right or flavor == wire.AUTH_NONE and uid != 0 or node != 0 and not is_present:
+        return None
+    reader.at += CALL_HEAD.size
+    return moment, (flavor, uid), node if is_present else None
 
 
 def request_bytes(call: Call) -> bytes:

@@ -5,7 +5,7 @@ from collections.abc import Iterator
 from nfs4tools.journal.entries import Entry, Path, Revoke, delegation_given
 from nfs4tools.journal.history import History
 from nfs4tools.journal.words import client_words, place_words, purpose_of
-from nfs4tools.model.states import Delegation
+from nfs4tools.model.state_parts import Delegation
 
 
 class Events:

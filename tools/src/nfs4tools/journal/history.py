@@ -8,7 +8,7 @@ from nfs4tools.journal.entries import Call
 from nfs4tools.journal.journal import Recorder
 from nfs4tools.model.sequenced import NOT_COUNTED
 from nfs4tools.model.server import OPERATIONS, Subject
-from nfs4tools.model.states import (
+from nfs4tools.model.state_parts import (
     ClientRecord,
     Delegation,
     KeptState,
@@ -88,6 +88,9 @@ class History(Recorder):
     present: set[int] = field(default_factory=set)
     opens_by_file: dict[int, dict[int, OpenState]] = field(default_factory=dict)
     listed_opens: list[OpenState] = field(default_factory=list)
+    # The lock states likewise.
+    locks_by_file: dict[int, dict[int, LockState]] = field(default_factory=dict)
+    listed_locks: list[LockState] = field(default_factory=list)
     states_of: dict[OwnerKey, set[int]] = field(default_factory=dict)
     locks_of: dict[int, set[int]] = field(default_factory=dict)
 
@@ -101,8 +104,8 @@ class History(Recorder):
             self.note_ends(self.states_of.get(key_of(arguments.owner), set()) - left, entry)
         elif opnum in ENDED_BY and result.status == Status.OK:
             self.note_ends(ENDED_BY[opnum](self, arguments), entry)
-        is_sequenced = OPERATIONS[opnum].subject == Subject.REQUEST
-        if is_sequenced and result.status in NOT_COUNTED and result.status != Status.RESOURCE:
+        is_uncounted = result.status in NOT_COUNTED and result.status != Status.RESOURCE
+        if is_uncounted and OPERATIONS[opnum].subject == Subject.REQUEST:
             self.note_uncounted(entry, Request(opnum, arguments, filehandle), result.status)
         return result
 
@@ -136,14 +139,22 @@ class History(Recorder):
         self.ended.update((number, entry) for number in ended)
         self.present -= ended
         for number in ended:
-            self.opens_by_file.get(self.given[number].file, {}).pop(number, None)
-        self.listed_opens = self.opens
+            file = self.given[number].file
+            self.opens_by_file.get(file, {}).pop(number, None)
+            self.locks_by_file.get(file, {}).pop(number, None)
+        self.listed_opens, self.listed_locks = self.opens, self.lock_states
 
     def opens_of(self, file: int) -> list[OpenState]:
         """As the model does it, but without going through all opens if none has gone in this entry."""
         if self.opens is self.listed_opens:
             return list(self.opens_by_file.get(file, {}).values())
         return super().opens_of(file)
+
+    def lock_states_of(self, file: int) -> list[LockState]:
+        """Likewise."""
+        if self.lock_states is self.listed_locks:
+            return list(self.locks_by_file.get(file, {}).values())
+        return super().lock_states_of(file)
 
     def looked_up(self, stateid: Stateid) -> KeptState | None:
         """As the model does it, but without going through all states for one that is there."""
@@ -213,12 +224,13 @@ class History(Recorder):
         self.moved[found.number] = self.entries
         if isinstance(found, OpenState):
             before = self.pairs.get(found.number, {})
-            self.pairs[found.number] = {pair: before.get(pair, self.entries) for pair in found.pairs}
+            if list(before) != found.pairs:
+                self.pairs[found.number] = {pair: before.get(pair, self.entries) for pair in found.pairs}
         return super().spelled(found)
 
     def note_begin(self, found: KeptState) -> None:
         if not self.given:
-            self.listed_opens = self.opens
+            self.listed_opens, self.listed_locks = self.opens, self.lock_states
         self.given[found.number] = found
         self.begun[found.number] = self.entries
         self.present.add(found.number)
@@ -227,6 +239,7 @@ class History(Recorder):
         if isinstance(found, OpenState):
             self.opens_by_file.setdefault(found.file, {})[found.number] = found
         if isinstance(found, LockState):
+            self.locks_by_file.setdefault(found.file, {})[found.number] = found
             self.locks_of.setdefault(found.open.number, set()).add(found.number)
 
     def entry_words(self, number: int) -> str:

@@ -5,6 +5,7 @@ A journal has what a server began with, and an entry for each operation on its s
 docs/JOURNAL.md has the layout of the file. A journal is lawful if the model's rules allow each entry after the
 entries before it. `Recorder` is a model that keeps its journal. `Growing` reads a file that is no whole journal yet."""
 import argparse
+import json
 import sys
 from collections.abc import Callable, Iterator
 from dataclasses import dataclass, field
@@ -26,7 +27,7 @@ from nfs4tools.journal.entries import (
 )
 from nfs4tools.model.server import Server
 from nfs4tools.model.state import JOURNAL_LIMIT
-from nfs4tools.model.states import Owner, Result, Unchanged
+from nfs4tools.model.state_parts import Owner, Result, Unchanged
 from nfs4tools.model.tree import (
     CALLBACKS,
     CLIENTS,
@@ -212,6 +213,10 @@ class Growing:
         """Whether it is a journal, of which nothing is missing."""
         return self.head is not None and self.count == self.entries and self.rest == b""
 
+    def is_beginning(self) -> bool:
+        """Whether it is a beginning of a journal: its number of entries is still to come."""
+        return self.head is not None and self.count == 0
+
     def ending(self) -> str:
         """How the file ends that is no whole journal."""
         if self.head is None:
@@ -245,11 +250,13 @@ def states(journal: Journal, limit: int = JOURNAL_LIMIT, kind: type[Any] = Recor
 
 
 def follow_call(server: Recorder, call: Call) -> bool:
-    """Whether the server gives this answer; it has the entry then."""
+    """Whether the server gives this answer; it has the entry then, and keeps it only once."""
     server.moment = call.moment
     result = server.apply(call.opnum, call.arguments, call.filehandle, call.principal)
-    is_entry = result.status != Status.RESOURCE
-    return is_entry and call.answer == Answer(call.opnum, result.status, result.rest)
+    if result.status == Status.RESOURCE or server.recorded[-1] != call:
+        return False
+    server.recorded[-1] = call
+    return True
 
 
 def follow_expire(server: Recorder, expire: Expire) -> bool:
@@ -295,12 +302,15 @@ STEPS: dict[Any, Callable[[Any, Any], bool]] = {
 }
 
 
+NO_JOURNAL = "fault: not a journal"
+
+
 def verdict(data: bytes, limit: int = JOURNAL_LIMIT) -> tuple[bool, str]:
     """Whether the file is a lawful journal, and a line that says so."""
     try:
         return verdict_on(read_journal(data), limit)
     except NotJournal:
-        return False, "fault: not a journal"
+        return False, NO_JOURNAL
 
 
 def verdict_on(journal: Journal, limit: int = JOURNAL_LIMIT) -> tuple[bool, str]:
@@ -317,14 +327,40 @@ def fault_of(ended: WrongAnswer) -> str:
     return f"fault: wrong answer at entry {ended.args[0]}"
 
 
+def json_of(data: bytes, limit: int = JOURNAL_LIMIT) -> dict[str, Any]:
+    """The verdict as JSON has it (docs/run.schema.json): how many entries the file has as far as they can be read, which
+    entry can't follow those before it, how the file ends that is no whole journal, and the line of a fault."""
+    growing, entries, ending, wrong = Growing(), list[Entry](), None, None
+    try:
+        entries = growing.take(data)
+        ending = None if growing.is_whole() else growing.fault or growing.ending()
+        if growing.head is not None:
+            audit(growing.head._replace(entries=entries), limit)
+    except NotJournal as failed:
+        ending = str(failed)
+    except WrongAnswer as failed:
+        wrong = failed.args[0]
+    is_lawful, line = verdict(data, limit)
+    fault = None if is_lawful else line
+    return {"lawful": is_lawful, "entries": len(entries), "wrong": wrong, "ending": ending, "fault": fault}
+
+
 def main() -> int:
     parser = argparse.ArgumentParser(description=__doc__, formatter_class=argparse.RawDescriptionHelpFormatter)
-    parser.add_argument("journal", metavar="FILE")
+    parser.add_argument("--json", action="store_true", help="print a line of JSON instead (docs/run.schema.json)")
+    parser.add_argument("journal", metavar="FILE", help="a journal, or a beginning of one, which is no journal")
+    given = parser.parse_args()
     try:
-        with open(parser.parse_args().journal, "rb") as source:
+        with open(given.journal, "rb") as source:
             data = source.read()
-    except OSError:
-        sys.exit("fault: file not read")
+    except OSError as error:
+        sys.exit(f"{given.journal}: {error.strerror} (os error {error.errno})\nfault: file not read")
+    if given.json:
+        found = json_of(data)
+        print(json.dumps(found))
+        return 0 if found["lawful"] else 1
     is_lawful, line = verdict(data)
+    if line == NO_JOURNAL:
+        print(f"{given.journal}: {json_of(data)['ending']}", file=sys.stderr)
     print(line, file=sys.stdout if is_lawful else sys.stderr)
     return 0 if is_lawful else 1

@@ -9,11 +9,11 @@ from typing import Any
 
 from nfs4tools import wire
 from nfs4tools.journal.entries import Answer, Call, Entry
-from nfs4tools.journal.words import SHOWN, STATUS_NAMES, call_line, event_line, name_words, number_word
+from nfs4tools.journal.words import Clock, SHOWN, STATUS_NAMES, call_line, event_line, name_words, number_word
 from nfs4tools.model.attributes import NAMES, numbers_of
-from nfs4tools.model.states import LAST, OwnerName
+from nfs4tools.model.state_parts import LAST, OwnerName
 from nfs4tools.model.tree import Tree
-from nfs4tools.rows.reading import EPOCH
+from nfs4tools.rows.row import EPOCH
 from nfs4tools.send.replies import ATTRIBUTES
 from nfs4tools.wire import (
     AccessEntry,
@@ -200,8 +200,9 @@ def value_word(number: int, reader: wire.Reader) -> str:
     return f"{name}={kind.show(kind.read(reader))}"
 
 
-def attributes_word(fattr: tuple[Sequence[int], bytes]) -> str:
-    """The attributes with their values. From the first value on that can't be told the names, and the bytes."""
+def values_of(fattr: tuple[Sequence[int], bytes]) -> tuple[list[str], list[str], bytes]:
+    """The values of attributes as NAME=VALUE; and from the first value on that can't be told the names, and the
+    bytes."""
     numbers, reader, words = sorted(numbers_of(fattr[0])), wire.Reader(fattr[1]), list[str]()
     while numbers:
         begin = reader.at
@@ -211,8 +212,12 @@ def attributes_word(fattr: tuple[Sequence[int], bytes]) -> str:
             reader.at = begin
             break
         numbers.pop(0)
-    rest = fattr[1][reader.at :]
-    return f"[{','.join(words + list(map(attribute_name, numbers)) + [hex_word(rest)] * bool(rest))}]"
+    return words, list(map(attribute_name, numbers)), fattr[1][reader.at :]
+
+
+def attributes_word(fattr: tuple[Sequence[int], bytes]) -> str:
+    words, names, rest = values_of(fattr)
+    return f"[{','.join(words + names + [hex_word(rest)] * bool(rest))}]"
 
 
 # By the names of the fields. All other fields are numbers, which are decimal, or names.
@@ -353,13 +358,16 @@ def named_operation(call: Call, is_whole: bool = False) -> str:
     return " ".join([call.opnum.name] + words_of(fields_of(call.arguments), is_whole))
 
 
+def fields_of_answer(answer: Answer) -> Fields:
+    """What follows the status."""
+    result = wire.read_result(wire.Reader(wire.u32(answer.number, answer.status) + answer.rest))
+    if result.value is not None:
+        yield from fields_of_result(answer.number, answer.status, result.value)
+
+
 def named_answer(answer: Answer, is_whole: bool = False) -> str:
     """The status, and what follows it."""
-    result = wire.read_result(wire.Reader(wire.u32(answer.number, answer.status) + answer.rest))
-    words = []
-    if result.value is not None:
-        words = words_of(fields_of_result(answer.number, answer.status, result.value), is_whole)
-    return " ".join([STATUS_NAMES[answer.status]] + words)
+    return " ".join([STATUS_NAMES[answer.status]] + words_of(fields_of_answer(answer), is_whole))
 
 
 def operation_name(number: int) -> str:
@@ -372,6 +380,8 @@ def named_call(call: Call, is_whole: bool = False) -> str:
     return f"{named_operation(call, is_whole)} -> {name}{named_answer(call.answer, is_whole)}"
 
 
-def named_line_of(entry: Entry, tree: Tree, is_whole: bool = False) -> str:
+def named_line_of(entry: Entry, tree: Tree, is_whole: bool = False, clock: Clock = str) -> str:
     """An entry as a line."""
-    return call_line(entry, tree, named_call(entry, is_whole)) if isinstance(entry, Call) else event_line(entry)
+    if isinstance(entry, Call):
+        return call_line(entry, tree, named_call(entry, is_whole), clock)
+    return event_line(entry, clock)

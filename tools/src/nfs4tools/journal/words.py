@@ -17,9 +17,9 @@ from nfs4tools.journal.entries import (
     Revoke,
     delegation_given,
 )
-from nfs4tools.model.states import OwnerName, SLOTS, slot_of
+from nfs4tools.model.state_parts import OwnerName, SLOTS, slot_of
 from nfs4tools.model.tree import Tree
-from nfs4tools.rows import reading as rows
+from nfs4tools.rows import words as rows
 from nfs4tools.wire import OPEN_DELEGATE_WRITE, OpenOwner, Opnum, Principal, Status, opaque
 
 STATUS_NAMES = {number: name for name, number in rows.NAMES.items() if name.startswith(("NFS4_OK", "NFS4ERR_"))}
@@ -29,6 +29,8 @@ DECIMAL_LIMIT = 65535
 # So many bytes of a file are shown.
 SHOWN = 64
 V = TypeVar("V")
+# How a moment is shown.
+Clock = Callable[[int], str]
 
 
 class WordReader(wire.Reader):
@@ -102,7 +104,8 @@ def is_shown_as_text(value: bytes) -> bool:
 def name_words(value: bytes) -> str:
     """A name, or other bytes, as a text, with an escape for each byte that can't stand in it."""
     text = value.decode(errors="surrogateescape")
-    return '"' + "".join(map(letter_words, text)) + '"'
+    is_plain = text.isprintable() and '"' not in text and "\\" not in text
+    return f'"{text if is_plain else "".join(map(letter_words, text))}"'
 
 
 def letter_words(letter: str) -> str:
@@ -150,27 +153,28 @@ def place_words(node: int | None, tree: Tree) -> str:
     return f"{kind} {name_words(b'/' + b'/'.join(names))}"
 
 
-def line_of(entry: Entry, tree: Tree, is_whole: bool = False) -> str:
+def line_of(entry: Entry, tree: Tree, is_whole: bool = False, clock: Clock = str) -> str:
     """An entry as a line."""
     if isinstance(entry, Call):
-        return call_line(entry, tree, f"{operation_words(entry, is_whole)} -> {answer_words(entry.answer, is_whole)}")
-    return event_line(entry)
+        words = f"{operation_words(entry, is_whole)} -> {answer_words(entry.answer, is_whole)}"
+        return call_line(entry, tree, words, clock)
+    return event_line(entry, clock)
 
 
-def call_line(call: Call, tree: Tree, words: str) -> str:
+def call_line(call: Call, tree: Tree, words: str, clock: Clock) -> str:
     """A call as a line that has these words of its operation and answer."""
-    head = f"moment {call.moment}, {principal_words(call.principal)}, {place_words(call.filehandle, tree)}"
+    head = f"moment {clock(call.moment)}, {principal_words(call.principal)}, {place_words(call.filehandle, tree)}"
     return f"{head}: {words}{remark_on(call)}"
 
 
-def event_line(entry: Expire | Revoke | Path | Forget) -> str:
+def event_line(entry: Expire | Revoke | Path | Forget, clock: Clock) -> str:
     """An entry that no call brought, as a line."""
     if isinstance(entry, Expire):
-        return f"{client_words(entry.client)} expires, seen at {entry.seen}, now {entry.now}"
+        return f"{client_words(entry.client)} expires, seen at {clock(entry.seen)}, now {clock(entry.now)}"
     if isinstance(entry, Revoke):
-        return f"the delegation of state {entry.state} is revoked, now {entry.now}"
+        return f"the delegation of state {entry.state} is revoked, now {clock(entry.now)}"
     if isinstance(entry, Forget):
-        return f"{owner_words(entry.owner)} is forgotten, now {entry.now}"
+        return f"{owner_words(entry.owner)} is forgotten, now {clock(entry.now)}"
     return f"the callback path of {client_words(entry.client)} is marked {'up' if entry.is_up else 'down'}"
 
 

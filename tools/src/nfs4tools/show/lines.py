@@ -6,12 +6,19 @@ import sys
 import time
 from typing import BinaryIO
 
-from nfs4tools.explain import Replay, Told
-from nfs4tools.journal.entries import Call, Entry, NotJournal
+from nfs4tools.explain import Replay, ExplainedEntry
+from nfs4tools.journal.entries import Call, NotJournal
+from nfs4tools.journal.entries import Entry as Recorded
 from nfs4tools.journal.journal import Growing, Journal, WrongAnswer, head_bytes, journal_bytes, verdict_on
 from nfs4tools.journal.named_words import named_line_of
-from nfs4tools.journal.partial import read_file, tell_end
+from nfs4tools.journal.partial import end_without_journal, read_file, tell_end
 from nfs4tools.journal.words import line_of
+from nfs4tools.runs.data import entry_data
+from nfs4tools.runs.data import line_of as json_line
+from nfs4tools.runs.files import expect
+from nfs4tools.runs.options import selection_of
+from nfs4tools.runs.run import Entry, Naming
+from nfs4tools.runs.selection import Chooser, Names
 from nfs4tools.wire import Status
 
 # What the name of a beginning has behind that of the journal which takes its place.
@@ -25,11 +32,11 @@ class Remarks:
     which the delegation may be gone."""
 
     def __init__(self, head: Journal) -> None:
-        self.replay: Replay | None = Replay(head)
-        self.entries: list[Entry] = []
-        self.told: Told | None = None
+        self.replay: Replay | None = Replay(head, is_quick=True)
+        self.entries: list[Recorded] = []
+        self.told: ExplainedEntry | None = None
 
-    def on(self, number: int, entry: Entry) -> str:
+    def on(self, number: int, entry: Recorded) -> str:
         """That of an entry, or nothing: of no other one, and of none behind an entry that can't follow."""
         if not isinstance(entry, Call) or entry.answer.status != Status.DELAY:
             return ""
@@ -43,41 +50,89 @@ class Remarks:
         """Replays up to this entry."""
         try:
             while self.replay is not None and self.replay.server.entries <= number:
-                self.told = self.replay.step(self.entries[self.replay.server.entries])
+                at = self.replay.server.entries
+                self.told = self.replay.step(self.entries[at], is_wanted=at == number)
         except WrongAnswer:
             self.replay = None
 
 
 class Lines:
-    """Shows entries as they come."""
+    """Shows entries as they come, as far as they are wanted."""
 
     def __init__(self, given: argparse.Namespace) -> None:
-        self.is_whole: bool = given.whole
-        self.line_of = line_of if given.words else named_line_of
+        self.given = given
+        self.selection = selection_of(given)
+        self.chooser, self.names = Chooser(self.selection), Names()
+        self.naming: Naming | None = None
         self.remarks: Remarks | None = None
+        self.shown, self.last = 0, -1
 
-    def show(self, growing: Growing, entries: list[Entry]) -> None:
-        """Shows the entries that were read last; there are none before the head is read."""
+    def show(self, growing: Growing, recorded: list[Recorded]) -> None:
+        """Shows of the entries that were read last those that are wanted; there are none before the head is read."""
         if growing.head is not None:
+            self.naming = self.naming or Naming(growing.head)
             self.remarks = self.remarks or Remarks(growing.head)
-            self.remarks.entries += entries
-            for number, entry in enumerate(entries, growing.entries - len(entries)):
-                line = self.line_of(entry, growing.head.tree, self.is_whole)
-                print(f"{number}: {line}{self.remarks.on(number, entry)}")
+            self.remarks.entries += recorded
+            for entry in self.naming.entries(recorded, Entry):
+                self.names.add(entry)
+                for it in self.chooser.shown(entry):
+                    self.print(it)
         sys.stdout.flush()
+
+    def print(self, entry: Entry) -> None:
+        """Shows an entry, behind a line that parts it from those before it, if there are others between."""
+        if self.selection.context and self.shown and not self.given.json and entry.number > self.last + 1:
+            print("--")
+        self.shown, self.last = self.shown + 1, entry.number
+        print(self.line_of(entry))
+
+    def line_of(self, entry: Entry) -> str:
+        given = self.given
+        if given.json:
+            data = entry_data(entry, given.whole)
+            if given.wall is not None and entry.moment is not None:
+                data["wall"] = given.wall(entry.moment)
+            return json_line(data)
+        words_of = line_of if given.words else named_line_of
+        assert self.remarks is not None
+        line = words_of(entry.recorded, entry.tree, given.whole, given.wall or str)
+        return f"{entry.number}: {line}{self.remarks.on(entry.number, entry.recorded)}"
+
+    def is_over(self) -> bool:
+        """Whether no other entry can be wanted."""
+        last = self.selection.last()
+        return last is not None and self.naming is not None and self.naming.count > last
+
+    def end(self) -> None:
+        """Ends the program where a name that is wanted has matched nothing, and says where nothing is wanted."""
+        sys.stdout.flush()
+        expect(self.names, self.selection)
+        if self.shown == 0 and not self.selection.is_all():
+            print("no entry is one of these", file=sys.stderr)
 
 
 def show(given: argparse.Namespace) -> None:
-    growing, entries = read_file(given.path)
-    Lines(given).show(growing, entries)
-    tell_end(growing)
+    lines, growing = Lines(given), Growing()
+    try:
+        with open(given.path, "rb") as source:
+            while not lines.is_over() and growing.fault is None and (data := source.read(PIECE)):
+                lines.show(growing, growing.take(data))
+    except OSError as failed:
+        if isinstance(failed, BrokenPipeError):
+            raise
+        sys.exit("fault: file not read")
+    except NotJournal as wrong:
+        end_without_journal(str(wrong))
+    lines.end()
+    if not lines.is_over():
+        tell_end(growing, given.json)
 
 
 def read_entries(path: str) -> tuple[Growing, Journal]:
     """The file as far as it can be read, and the journal of its whole entries."""
     growing, entries = read_file(path)
     if growing.head is None:
-        sys.exit(f"fault: not a journal: {growing.ending()}")
+        end_without_journal(growing.ending())
     return growing, growing.head._replace(entries=entries)
 
 
@@ -113,11 +168,11 @@ class Followed:
         self.path: str = given.path
         self.source, self.lines = source, Lines(given)
         self.growing = Growing()
-        self.last: Entry | None = None
+        self.last: Recorded | None = None
 
     def run(self) -> None:
         """To the end of the journal; or until the file isn't there any more, or its name is another file's."""
-        while not self.is_over():
+        while not (self.is_over() or self.lines.is_over()):
             is_left = self.is_left()
             data = self.source.read(PIECE)
             if data:
@@ -154,7 +209,7 @@ class Followed:
             self.growing = whole
             self.lines.show(whole, rest)
 
-    def is_beginning_of(self, whole: Growing, entries: list[Entry]) -> bool:
+    def is_beginning_of(self, whole: Growing, entries: list[Recorded]) -> bool:
         """Whether these entries begin with those that were shown."""
         shown = self.growing.entries
         if whole.head is None or len(entries) < shown:
@@ -184,7 +239,8 @@ def follow(given: argparse.Namespace) -> None:
         try:
             followed.run()
         except NotJournal as wrong:
-            sys.exit(f"fault: not a journal: {wrong}")
+            end_without_journal(str(wrong))
         except KeyboardInterrupt:
             pass
-        tell_end(followed.growing)
+        followed.lines.end()
+        tell_end(followed.growing, given.json)
