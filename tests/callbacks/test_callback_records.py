@@ -2,8 +2,15 @@
 out from RFC 5531 and RFC 7531."""
 import pytest
 
-from nfs4tools.callbacks.messages import CallbackReply, address_of, null_call, read_reply, recall_call
-from nfs4tools.model.states import Recall
+from nfs4tools.callbacks.messages import (
+    CallbackReply,
+    address_of,
+    fault_of_reply,
+    null_call,
+    read_reply,
+    recall_call,
+)
+from nfs4tools.model.state_parts import Recall
 from nfs4tools.wire import Callback, Stateid, opaque, u32
 
 pytestmark = pytest.mark.quick
@@ -70,6 +77,14 @@ REPLIES = [
     ("SUCCESS alone", HEAD + u32(0), UNREADABLE),
     ("a result that is cut", (HEAD + u32(0) + RECALLED)[:-1], UNREADABLE),
 ]
+# Why the call wasn't done, by the names of these replies, if it can be read and its name doesn't say why.
+FAULTS = {
+    "BADHANDLE": "status 10001 of CB_COMPOUND",
+    "BAD_STATEID": "status 10025 of CB_COMPOUND",
+    "RESOURCE without results": "status 10018 of CB_COMPOUND",
+    "AUTH_BADCRED": "AUTH_ERROR",
+    "another xid": "reply of another xid",
+}
 ADDRESSES = [
     (b"tcp", b"127.0.0.1.8.1", ("127.0.0.1", 2049)),
     (b"tcp", b"255.255.255.255.255.255", ("255.255.255.255", 65535)),
@@ -103,6 +118,12 @@ def test_records():
 def test_replies():
     for name, reply, wanted in REPLIES:
         assert read_reply(reply, XID, True) == wanted, name
+
+
+def test_faults():
+    for name, reply, kind in REPLIES:
+        unread = {ACCEPTED: None, REFUSED: name, UNREADABLE: "reply that can't be read"}[kind]
+        assert fault_of_reply(reply, XID, True) == FAULTS.get(name, unread), name
 
 
 def test_replies_to_null():

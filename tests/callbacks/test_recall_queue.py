@@ -10,11 +10,11 @@ OPEN comes on its own at once with the others, and where no lock is held while t
 more, of which more recalls wait, some are taken after each OPEN, and in between the lock is held for each purpose that
 there is. All replies and outcomes are the model's, and so is the journal.
 
-Each growth of memory is refused in turn, from the first of these OPENs on, each of which comes on a connection of its
-own, up to the first recall that is taken. The OPEN is answered NFS4ERR_RESOURCE then, or its call SYSTEM_ERR, or its
-connection ends for want of memory; the queue has the recalls that it had before, and as many wait; and sent again it
-gets its reply. At the end the same recalls are taken in the same order, and the journal is the same. Or the program of
-rows says that it has no memory for itself."""
+Each allocation of memory is refused in turn, from the first of these OPENs on, each of which comes on a connection of
+its own, up to the first recall that is taken. The OPEN is answered NFS4ERR_RESOURCE then, or its call SYSTEM_ERR, or
+its connection ends for want of memory; the queue has the recalls that it had before, and as many wait; and sent again
+it gets its reply. At the end the same recalls are taken in the same order, and the journal is the same. Or the program
+of rows says that it has no memory for itself."""
 import copy
 import os
 from itertools import count
@@ -62,7 +62,7 @@ FILES, MORE_FILES = 25, 29
 SHORT_ADDRESS, LONG_ADDRESS = b"127.0.0.1.3.232", b"127.100.100.100.3.232"
 # A read of the server gives a whole order.
 WHOLE = 1 << 20
-# How many tests share the growths between them: each refuses one of so many.
+# How many tests share the allocations between them: each refuses one of so many.
 PARTS = 8
 
 
@@ -413,38 +413,38 @@ class Run:
         expect("a recall behind the last one", self.driver.take_recall(0), b"")
 
 
-def is_refused(lending, wanted, environment, growth):
-    """Whether this growth was refused; and whether the program had memory for itself."""
-    mark, has_memory = f'{environment["REFUSED_MARK"]}.{growth}', True
-    with Driver(environment={**environment, "REFUSED_MARK": mark, "REFUSED_GROWTH": str(growth)}) as driver:
+def is_refused(lending, wanted, environment, allocation):
+    """Whether this allocation was refused; and whether the program had memory for itself."""
+    mark, has_memory = f'{environment["REFUSED_MARK"]}.{allocation}', True
+    with Driver(environment={**environment, "REFUSED_MARK": mark, "REFUSED_ALLOCATION": str(allocation)}) as driver:
         try:
             Run(driver, lending, wanted).go()
         except NoMemory:
             has_memory = False
         except (Wrong, Failed) as wrong:
-            raise Wrong(f"where growth {growth} is refused: {wrong}") from None
+            raise Wrong(f"where allocation {allocation} is refused: {wrong}") from None
     was_refused = os.path.exists(mark)
-    expect("whether there was memory, or a growth was refused", has_memory or was_refused, True)
+    expect("whether there was memory, or an allocation was refused", has_memory or was_refused, True)
     return was_refused, has_memory
 
 
 @pytest.mark.parametrize("part", range(PARTS))
 def test_refused(part, driver, lending, path_of, preloaded, tell):
-    """Each growth of a part of them is refused in turn."""
+    """Each allocation of a part of them is refused in turn."""
     wanted = Wanted(lending)
     undisturbed = Run(driver, lending, wanted)
     undisturbed.go()
     environment = preloaded(
-        "refuse_growth.c",
+        "refuse_allocation.c",
         REFUSED_AFTER=str(undisturbed.first),
         REFUSED_UNTIL=str(undisturbed.last),
         REFUSED_MARK=path_of("mark"),
     )
     answered = []
-    for growth in count(1 + part, PARTS):
-        was_refused, has_memory = is_refused(lending, wanted, environment, growth)
+    for allocation in count(1 + part, PARTS):
+        was_refused, has_memory = is_refused(lending, wanted, environment, allocation)
         if not was_refused:
             break
         answered.append(has_memory)
     assert any(answered)
-    tell(f"{sum(answered)} growths are refused to calls, {len(answered) - sum(answered)} to the program for itself")
+    tell(f"{sum(answered)} allocations are refused to calls, {len(answered) - sum(answered)} to the program for itself")

@@ -11,7 +11,7 @@ from nfs4tools import wire
 from nfs4tools.model.attributes import FIRST_COOKIE
 from nfs4tools.model.operations.readdir import LISTING_LIMIT, NO_VERIFIER
 from nfs4tools.model.server import Server
-from nfs4tools.model.states import Result
+from nfs4tools.model.state_parts import Result
 from nfs4tools.model.tree import DIRECTORIES, FILES, Tree
 from nfs4tools.wire import Getattr, Opnum, Readdir, Status, bitmap, opaque
 

@@ -46,7 +46,7 @@ from nfs4tools.messages import (
     words,
 )
 from nfs4tools.model.server import CLIENTS_LIMIT
-from nfs4tools.model.serving import Desk
+from nfs4tools.model.tcp import SharedServer
 from nfs4tools.model.state import JOURNAL_LIMIT
 from nfs4tools.processes import NO_CALLBACKS, PATIENCE, PROGRAM, Served, TOP, is_silent, with_interrupts
 from nfs4tools.wire import opaque, record, split_records
@@ -109,11 +109,14 @@ REFUSED = [
     "--until-killed --until-killed",
     "--each --journal x",
 ]
+MISSING = "No such file or directory (os error 2)"
 FAULTS = [
-    ("--tree tools/missing", "file not read"),
-    ("--listen 127.0.0.1", "socket"),
-    ("--listen 127.0.0.1:0 --tree README.md", "tree refused (1)"),
-]
+    ("--tree tools/missing", f"tools/missing: {MISSING}", "file not read"),
+    ("--listen 127.0.0.1", "127.0.0.1: invalid socket address", "socket"),
+    ("--listen 127.0.0.1:65536", "127.0.0.1:65536: invalid port value", "socket"),
+    ("--listen 192.0.2.1:0", "192.0.2.1:0: Cannot assign requested address (os error 99)", "socket"),
+    ("--listen 127.0.0.1:0 --tree README.md", "README.md:3: Expected '=' after a key in a key/value pair", "tree refused (1)"),
+]  # fmt: skip
 
 
 @pytest.mark.parametrize("given", REFUSED)
@@ -121,9 +124,9 @@ def test_arguments(given):
     expect("the status", run(*SERVE, *given.split())[0], 2)
 
 
-@pytest.mark.parametrize("given, fault", FAULTS)
-def test_faults_at_first(given, fault):
-    expect("the end", run(*SERVE, *given.split()), (1, f"fault: {fault}\n"))
+@pytest.mark.parametrize("given, reason, fault", FAULTS)
+def test_faults_at_first(given, reason, fault):
+    expect("the end", run(*SERVE, *given.split()), (1, f"{reason}\nfault: {fault}\n"))
 
 
 # A run that goes on.
@@ -181,9 +184,9 @@ def test_in_turn():
 
 def test_most():
     """The connection above the most that there may be waits until one of them has ended; so does one for which the
-    process may have no more files open, of which there are four before the first connection."""
+    process may have no more files open, of which there are five before the first connection."""
     wait_above("no more connections: 2 of 2", "--connections", "2")
-    wait_above("a connection isn't accepted; it is tried again", preexec_fn=lambda: setrlimit(RLIMIT_NOFILE, (6, 6)))
+    wait_above("a connection isn't accepted; it is tried again", preexec_fn=lambda: setrlimit(RLIMIT_NOFILE, (7, 7)))
 
 
 def wait_above(line, *options, **how):
@@ -213,10 +216,10 @@ def test_limits():
     """Of client slots, and of entries of the journal: each is told with the call that takes the last one, and once,
     though all clients end and others come."""
     server, lines = Recorder(), io.StringIO()
-    desk = Desk(server, is_limit_told=True)
+    shared = SharedServer(server, is_limit_told=True)
 
     def ask(operation):
-        desk.answer(1, split_records(compound(1, words(PUTROOTFH), operation))[0][0])
+        shared.answer(1, split_records(compound(1, words(PUTROOTFH), operation))[0][0])
 
     with redirect_stderr(lines):
         for number in [*range(1, CLIENTS_LIMIT + 1), *range(257, 257 + CLIENTS_LIMIT)]:
@@ -241,7 +244,7 @@ def test_limits():
 def test_clock():
     """The moments of calls and of sweeps are by one clock, which begins with the run: a lease of 90 seconds that is
     renewed after 60 stands after 120, and has ended after 211."""
-    desk = Desk(Recorder(lease=90))
+    shared = SharedServer(Recorder(lease=90))
     for number, (seconds, operation, status) in enumerate(
         [
             (0, setclientid(bytes(8), b"one"), NFS4_OK),
@@ -251,13 +254,13 @@ def test_clock():
             (211, words(RENEW, 1, 1), NFS4ERR_STALE_CLIENTID),
         ]
     ):
-        desk.begun = time.monotonic() - seconds - 0.1
-        desk.sweep()
-        found = desk.answer(1, split_records(compound(number, operation))[0][0])
-        if (late := time.monotonic() - desk.begun - seconds) > 1:
+        shared.begun = time.monotonic() - seconds - 0.1
+        shared.sweep()
+        found = shared.answer(1, split_records(compound(number, operation))[0][0])
+        if (late := time.monotonic() - shared.begun - seconds) > 1:
             raise Late(f"a moment of {seconds} seconds lasts for {late:.1f}")
         expect(f"the status at {seconds}", int.from_bytes(found[24:28], "big"), status)
-    expect("the ends of leases", desk.server.recorded[2:], [Expire(1, 60, 211)])
+    expect("the ends of leases", shared.server.recorded[2:], [Expire(1, 60, 211)])
 
 
 # Ends.
@@ -367,7 +370,10 @@ def test_background():
 
 def test_file(path_of):
     """A journal that can't be written is a fault of the run, however it ends."""
-    missing, fault = path_of("missing/run.journal"), b"fault: file not written\n"
+    missing = path_of("missing/run.journal")
+    why, fault = b"No such file or directory (os error 2)", b"fault: file not written\n"
+    part = b"%s.part: %s; the run goes on without it\n" % (missing.encode(), why)
+    fault = part + b"%s: %s\n" % (missing.encode(), why) + fault
     with serve_on("--journal", missing) as served, peer_of(served) as peer:
         Client(peer, 1).introduce()
         expect("the end of the input", served.end(), (1, b"", fault))

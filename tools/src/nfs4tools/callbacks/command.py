@@ -18,7 +18,7 @@ import threading
 
 from nfs4tools.callbacks.lines import Answering, read_address, say
 from nfs4tools.callbacks.listener import Listener, universal_address
-from nfs4tools.model.serving import address_text
+from nfs4tools.model.tcp import address_text
 
 
 def read_options() -> argparse.Namespace:

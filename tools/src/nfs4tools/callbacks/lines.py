@@ -8,7 +8,7 @@ from nfs4tools.client import operations
 from nfs4tools.client.connection import Connection
 from nfs4tools.client.replies import ClientError, status_name
 from nfs4tools.journal.words import number_word, opaque_words, principal_words
-from nfs4tools.model.serving import address_text
+from nfs4tools.model.tcp import address_text
 from nfs4tools.wire import AUTH_SYS, Stateid
 
 # Whose turn it is to print.

@@ -93,6 +93,34 @@ def read_results(reader: Reader) -> int:
     return status
 
 
+# Why a callback wasn't done.
+ACCEPT_FAULTS = {
+    wire.PROG_UNAVAIL: "PROG_UNAVAIL",
+    wire.PROG_MISMATCH: "PROG_MISMATCH",
+    wire.PROC_UNAVAIL: "PROC_UNAVAIL",
+    wire.GARBAGE_ARGS: "GARBAGE_ARGS",
+    wire.SYSTEM_ERR: "SYSTEM_ERR",
+}
+REJECT_FAULTS = {wire.RPC_MISMATCH: "RPC_MISMATCH", wire.AUTH_ERROR: "AUTH_ERROR"}
+
+
+def fault_of_reply(data: bytes, xid: int, is_compound: bool) -> str | None:
+    """Why the call with this xid wasn't done, by the record that came in reply; or None, if the call was done."""
+    kind = read_reply(data, xid, is_compound)
+    if kind == CallbackReply.ACCEPTED:
+        return None
+    if kind == CallbackReply.UNREADABLE:
+        is_other = len(data) >= 4 and int.from_bytes(data[:4], "big") != xid
+        return "reply of another xid" if is_other else "reply that can't be read"
+    reader = wire.Reader(data)
+    reader.u32(), reader.u32()
+    if reader.u32() == wire.MSG_DENIED:
+        return REJECT_FAULTS[reader.u32()]
+    reader.u32(), reader.opaque(wire.BODY_LIMIT)
+    state = reader.u32()
+    return f"status {reader.u32()} of CB_COMPOUND" if state == wire.SUCCESS else ACCEPT_FAULTS[state]
+
+
 # Addresses.
 
 

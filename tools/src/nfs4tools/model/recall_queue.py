@@ -5,7 +5,7 @@ from dataclasses import dataclass
 from typing import Any, TypeVar
 
 from nfs4tools.journal.journal import Recorder
-from nfs4tools.model.states import Recall, Result
+from nfs4tools.model.state_parts import Recall, Result
 from nfs4tools.model.sweeps import Swept
 
 # How many recalls the queue has room for.

@@ -12,12 +12,20 @@ A run that goes on says on standard error what ended a connection, unless the cl
 only if the run itself had a fault, for example if the journal can't be written."""
 import os
 import signal
+import time
+from datetime import UTC, datetime
 from typing import Any
 
 from nfs4tools.journal.journal import Recorder, journal_bytes
+from nfs4tools.model.beginning import Beginning
+from nfs4tools.model.callback_source import CallbackSource
+from nfs4tools.model.caller import Caller, LOOK
+from nfs4tools.model.lines import RatedLines, error_words
 from nfs4tools.model.once import options, server_of, within
-from nfs4tools.model.serving import Bell, Desk, Run, address_text, listen, say
+from nfs4tools.model.tcp import StopFlag, SharedServer, Run, address_text, listen, say
 from nfs4tools.model.traces import Tracer
+from nfs4tools.trace.watching import Watcher
+from nfs4tools.trace.writer import TraceWriter
 from nfs4tools.wire import Fault
 
 # The seconds that a call has to come to its end when the run does.
@@ -43,7 +51,12 @@ def read_options() -> Any:
     ends.add_argument("--until-input-ends", action="store_true", help="go on until standard input ends")
     ends.add_argument("--until-killed", action="store_true", help="go on until a signal ends it")
     parser.add_argument(
-        "--trace", action="store_true", help="tell each call, and what sweeps end, each in a line on standard output"
+        "--trace",
+        nargs="?",
+        const=True,
+        metavar="FILE",
+        help="write each call and reply, and what sweeps end, to FILE as JSON Lines (docs/JOURNAL.md); or without FILE "
+        "tell each call in a line on standard output",
     )
     parser.add_argument("--each", action="store_true", help="a new server for each connection; no lease ends")
     given = parser.parse_args()
@@ -54,24 +67,24 @@ def read_options() -> Any:
     return given
 
 
-def ring_at_end(bell: Bell) -> None:
+def stop_at_end(stop_flag: StopFlag) -> None:
     """Rings when standard input has ended."""
     try:
         while os.read(0, 4096):
             pass
     except OSError:
         pass
-    bell.ring()
+    stop_flag.set()
 
 
-def ring_at_signals(bell: Bell) -> list[Any]:
+def stop_at_signals(stop_flag: StopFlag) -> list[Any]:
     """Rings at SIGTERM and SIGINT: a list that gets the signals. A shell that starts a command in the background has
     it ignore SIGINT, and so it does."""
     heard = []
 
     def hear(number: int, _frame: Any) -> None:
         heard.append(number)
-        bell.ring()
+        stop_flag.set()
 
     for number in signal.SIGTERM, signal.SIGINT:
         if signal.getsignal(number) != signal.SIG_IGN:
@@ -84,44 +97,112 @@ def write_journal(path: str, server: Recorder) -> Any:
     try:
         with open(path, "wb") as file:
             file.write(journal_bytes(server.journal()))
-    except OSError:
+    except OSError as failed:
+        say(f"{path}: {error_words(failed)}")
         return "file not written"
     return None
 
 
-def serve(given: Any) -> tuple[list[Any], str | None]:
-    """A run: the signals that it heard, and its fault, or None."""
-    kind = Tracer if given.trace else Recorder
-    first = server_of(given, kind)
+def wall_time_of_start(served: SharedServer) -> str:
+    """The wall time of moment 0, in UTC to the millisecond."""
+    begun = datetime.fromtimestamp(time.time() - (time.monotonic() - served.begun), UTC)
+    return begun.isoformat(timespec="milliseconds").replace("+00:00", "Z")
 
-    def desk_of(server: Recorder) -> Desk:
-        return Desk(server, given.trace, given.goes_on)
 
-    def desk_of_its_own() -> Any:
-        return desk_of(kind(first.tree, first.lease, first.epoch))
+def watcher_of(path: str | None, lease: int) -> Watcher:
+    """What writes a trace to this file; or sees nothing where there is none."""
+    try:
+        return Watcher() if path is None else TraceWriter(path, "tools/model/serve.py", lease)
+    except OSError:
+        raise Fault("file not written") from None
 
-    desk, bell, listener = desk_of(first), Bell(), listen(given.listen)
-    heard = ring_at_signals(bell)
-    run = Run(listener, desk_of_its_own if given.each else lambda: desk, bell, given.connections, given.goes_on)
-    run.sweep_with(desk)
-    if given.until_input_ends and not run.spawn(0, ring_at_end, bell):
-        bell.ring()
-    say(f"listening on {address_text(listener.getsockname())}")
-    files = sum(node.is_file for node in first.tree.nodes)
-    say(f"serving {files} files, lease {first.lease} s, epoch {first.epoch}")
-    fault = run.serve()
-    if given.until_input_ends and not heard and run.come == 0:
-        say("the input ended before a connection came; `--until-killed` doesn't look at it")
-    # Nothing changes any more, whatever a connection does that isn't let go yet. One that has no room for its line of
-    # the trace keeps the turn.
-    desk.turn.acquire(timeout=PATIENCE)
-    of_the_file = None if given.journal is None else write_journal(given.journal, desk.server)
-    return heard, of_the_file if heard else fault or of_the_file
+
+class Service:
+    """A run by these options."""
+
+    def __init__(self, given: Any) -> None:
+        self.given, self.stop_flag = given, StopFlag()
+        self.is_told = given.trace is True
+        self.kind = Tracer if self.is_told else Recorder
+        self.first = server_of(given, self.kind)
+        self.watcher = watcher_of(None if self.is_told else given.trace, self.first.lease)
+        self.served, self.listener = self.shared(self.first), listen(given.listen)
+        self.heard = stop_at_signals(self.stop_flag)
+        self.beginning: Beginning | None = None
+        self.lines = RatedLines("callbacks") if given.goes_on else None
+        self.links = Run(self.listener, self.next_server, self.stop_flag, given.connections, given.goes_on)
+
+    def shared(self, server: Recorder) -> SharedServer:
+        return SharedServer(server, self.is_told, self.given.goes_on, self.watcher)
+
+    def next_server(self) -> SharedServer:
+        """The server of the next connection."""
+        if not self.given.each:
+            return self.served
+        return self.shared(self.kind(self.first.tree, self.first.lease, self.first.epoch))
+
+    def begin_threads(self) -> None:
+        """Those of sweeps and callbacks, whose faults come before those of connections, and that of the input."""
+        self.links.begin_sweeps(self.served, self.look)
+        if not self.given.each:
+            self.links.spawn(0, self.call_back)
+        if self.given.until_input_ends and not self.links.spawn(0, stop_at_end, self.stop_flag):
+            self.stop_flag.set()
+
+    def look(self) -> None:
+        """What is done behind a sweep."""
+        if self.beginning is not None:
+            self.beginning.update()
+
+    def call_back(self) -> None:
+        """Calls clients back until the stop flag is set."""
+        caller = None
+        while not self.stop_flag.is_set():
+            try:
+                caller = caller or Caller(CallbackSource(self.served, self.lines), self.watcher)
+            except OSError:
+                # The system refuses the selector.
+                time.sleep(LOOK)
+                continue
+            caller.look()
+            if self.lines is not None:
+                self.lines.look()
+
+    def say_first(self) -> None:
+        """The two lines with which a run begins."""
+        files, begun = sum(node.is_file for node in self.first.tree.nodes), wall_time_of_start(self.served)
+        say(f"listening on {address_text(self.listener.getsockname())}")
+        say(f"serving {files} files, lease {self.first.lease} s, epoch {self.first.epoch}, moment 0 at {begun}")
+
+    def run(self) -> tuple[list[Any], str | None]:
+        """The signals that it heard, and its fault, or None."""
+        self.say_first()
+        if self.given.goes_on and self.given.journal is not None:
+            self.beginning = Beginning(self.given.journal, self.served)
+        self.begin_threads()
+        fault = self.links.serve()
+        if self.given.until_input_ends and not self.heard and self.links.come == 0:
+            say("the input ended before a connection came; `--until-killed` doesn't look at it")
+        if self.lines is not None:
+            self.lines.end()
+        of_the_file = self.end_journal()
+        return self.heard, of_the_file if self.heard else fault or of_the_file
+
+    def end_journal(self) -> str | None:
+        """Writes the journal: the fault of a file, or None."""
+        # Nothing changes any more, whatever a connection does that isn't let go yet. One that has no room for its line
+        # of the trace keeps the turn.
+        self.served.turn.acquire(timeout=PATIENCE)
+        path = self.given.journal
+        fault = None if path is None else write_journal(path, self.served.server)
+        if self.beginning is not None:
+            self.beginning.end(fault is None)
+        return fault or (self.watcher.fault and "file not written")
 
 
 def main() -> None:
     try:
-        heard, fault = serve(read_options())
+        heard, fault = Service(read_options()).run()
     except Fault as refused:
         heard, fault = [], refused.args[0]
     if fault is not None:

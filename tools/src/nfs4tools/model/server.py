@@ -38,7 +38,7 @@ from nfs4tools.model.operations import (
     write,
 )
 from nfs4tools.model.sequenced import Sequencing
-from nfs4tools.model.states import Filehandles, Request, Result, SLOTS, answer, is_special, stateid_of
+from nfs4tools.model.state_parts import Filehandles, Request, Result, SLOTS, answer, is_special, stateid_of
 from nfs4tools.model.sweeps import Sweeping
 from nfs4tools.model.tree import CLIENTS, PLAIN
 from nfs4tools.wire import CompoundCall, Opnum, Principal, Status, u32

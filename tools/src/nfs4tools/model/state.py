@@ -3,7 +3,7 @@ from collections.abc import Callable
 from dataclasses import dataclass, field
 from typing import Any
 
-from nfs4tools.model.states import (
+from nfs4tools.model.state_parts import (
     ClientRecord,
     Delegation,
     FULL,
@@ -115,8 +115,12 @@ class State:
     def opens_of(self, file: int) -> list[OpenState]:
         return [it for it in self.opens if it.file == file]
 
+    def lock_states_of(self, file: int) -> list[LockState]:
+        return [it for it in self.lock_states if it.file == file]
+
     def is_live(self, number: int) -> bool:
-        return any(it.is_confirmed and it.number == number for it in self.records)
+        """Whether the client is confirmed: it has a lease then."""
+        return number in self.renewals
 
     def was_given(self, number: int) -> bool:
         return slot_of(number) != 0 and number // SLOTS < self.generations[slot_of(number)]
@@ -231,7 +235,7 @@ class State:
 
     def expect_room(self, states: int, is_new_owner: bool) -> None:
         """The limits have places for so many new states, and for their owner."""
-        if len(self.states()) + states > STATES_LIMIT:
+        if len(self.opens) + len(self.lock_states) + len(self.delegations) + states > STATES_LIMIT:
             raise Refusal(Status.RESOURCE)
         if is_new_owner and len(self.open_owners) + len(self.lock_owners) >= OWNERS_LIMIT:
             raise Refusal(Status.RESOURCE)

@@ -1,8 +1,9 @@
 """The model on TCP: connections, each answered by a thread, to the end of a run. `serve.py` has the options.
 
-A run ends when so many connections have come and ended; or it goes on, and ends when its bell is rung. Nothing waits
-for longer than a tick without a look at the bell. When it is rung no connection is taken any more, and those that are
-open get the replies to what has come by then, and are closed."""
+A run ends when so many connections have come and ended; or it goes on, and ends when its stop flag is set. Nothing
+waits for longer than a tick without a look at the stop flag. When it is set no connection is taken any more, and those
+that are open get the replies to what has come by then, and are closed."""
+import os
 import re
 import socket
 import sys
@@ -16,11 +17,12 @@ from nfs4tools import wire
 from nfs4tools.model.server import CLIENTS_LIMIT
 from nfs4tools.model.state import JOURNAL_LIMIT
 from nfs4tools.model.traces import call_line, entry_line
+from nfs4tools.trace.watching import Place, Watcher
 from nfs4tools.wire import Fault, records
 
-# The seconds between two looks at the bell, and between two sweeps.
+# The seconds between two looks at the stop flag, and between two sweeps.
 TICK, SWEEP = 0.25, 1
-# Once the bell is rung: the seconds in which a read has to bring something, and those in which there are any reads.
+# Once the stop flag is set: the seconds in which a read has to bring something, and those in which there are any reads.
 AT_ONCE, LATE = 0.001, 1
 # The most bytes of a read.
 PIECE = 16384
@@ -42,20 +44,30 @@ def say(line: str, stream: TextIO | None = None) -> None:
 
 
 def listen(text: str) -> socket.socket:
-    """A socket that listens on this address: an IP address or a name, and a port; or a Fault."""
-    host, _, port = text.rpartition(":")
-    if host == "" or not re.fullmatch("[0-9]+", port) or int(port) > 65535:
-        raise Fault("socket")
+    """A socket that listens on this address: an IP address or a name, and a port; or a Fault, after its reason."""
+    host, colon, port = text.rpartition(":")
+    if colon == "":
+        raise fault_of_address(text, "invalid socket address")
+    if not re.fullmatch("[0-9]+", port) or int(port) > 65535:
+        raise fault_of_address(text, "invalid port value")
     try:
-        found = socket.getaddrinfo(host.strip("[]"), int(port), type=socket.SOCK_STREAM)
-    except (OSError, UnicodeError):
-        found = []
+        found = socket.getaddrinfo(host.strip("[]") or " ", int(port), type=socket.SOCK_STREAM)
+    except (OSError, UnicodeError) as error:
+        why = error.strerror if isinstance(error, OSError) else "no name"
+        raise fault_of_address(text, f"failed to lookup address information: {why}") from None
+    why = "no address"
     for family, _, _, _, address in found:
         try:
             return socket.create_server(address, family=family, backlog=128)
-        except OSError:
-            continue
-    raise Fault("socket")
+        except OSError as error:
+            why = f"{os.strerror(error.errno or 0)} (os error {error.errno})"
+    raise fault_of_address(text, why)
+
+
+def fault_of_address(text: str, why: str) -> Fault:
+    """The fault of a listener's address, whose reason is told by a line."""
+    say(f"{text}: {why}")
+    return Fault("socket")
 
 
 def address_text(address: tuple[str, int]) -> str:
@@ -63,25 +75,27 @@ def address_text(address: tuple[str, int]) -> str:
     return f"[{host}]:{port}" if ":" in host else f"{host}:{port}"
 
 
-class Bell:
-    """What ends a run from outside. Ringing it takes no lock, so a signal may do that at any time."""
+class StopFlag:
+    """What ends a run from outside. Setting it takes no lock, so a signal may do that at any time."""
 
     def __init__(self) -> None:
-        self.rung_at: float | None = None
+        self.set_at: float | None = None
 
-    def ring(self) -> None:
-        self.rung_at = self.rung_at or time.monotonic()
+    def set(self) -> None:
+        self.set_at = self.set_at or time.monotonic()
 
-    def is_rung(self, seconds: float = 0) -> bool:
-        """Whether it was rung, so many seconds ago or more."""
-        return self.rung_at is not None and time.monotonic() - self.rung_at >= seconds
+    def is_set(self, seconds: float = 0) -> bool:
+        """Whether it was set, so many seconds ago or more."""
+        return self.set_at is not None and time.monotonic() - self.set_at >= seconds
 
 
-class Desk:
+class SharedServer:
     """One server for several connections, which answers one call at a time, and sweeps between two."""
 
-    def __init__(self, server: Any, is_traced: bool = False, is_limit_told: bool = False) -> None:
-        self.server, self.is_traced = server, is_traced
+    def __init__(
+        self, server: Any, is_traced: bool = False, is_limit_told: bool = False, watcher: Watcher = Watcher()
+    ) -> None:
+        self.server, self.is_traced, self.watcher = server, is_traced, watcher
         self.turn, self.begun = threading.Lock(), time.monotonic()
         # What there is no more of when there is so much, each told once.
         limits: list[tuple[str, Callable[[], Any], int]] = [
@@ -96,8 +110,11 @@ class Desk:
     def answer(self, number: int, record: bytes) -> Any:
         """The reply to a record of the connection of this number, or None."""
         with self.turn:
+            self.watcher.see(Place(number, False), False, record)
             self.server.moment = self.moment()
             reply = self.server.reply(record)
+            if reply is not None:
+                self.watcher.see(Place(number, False), True, reply)
             if self.is_traced:
                 say(f"connection {number}, {call_line(self.server, record, reply)}", sys.stdout)
             self.tell_limits()
@@ -107,9 +124,22 @@ class Desk:
         with self.turn:
             before = len(self.server.recorded)
             self.server.sweep(self.moment())
-            for entry in self.server.recorded[before:] if self.is_traced else []:
-                say(entry_line(self.server, entry), sys.stdout)
+            for entry in self.server.recorded[before:]:
+                self.tell_entry(entry_line(self.server, entry))
             self.tell_limits()
+
+    def mark(self, client: int, is_up: bool) -> None:
+        """Marks a client's callback path, within a turn; or Unchanged."""
+        self.server.mark_path(client, is_up)
+        if self.is_traced:
+            say(entry_line(self.server, self.server.recorded[-1]), sys.stdout)
+        self.tell_limits()
+
+    def tell_entry(self, line: str) -> None:
+        """Tells of an entry that no call brought."""
+        self.watcher.sweep(line)
+        if self.is_traced:
+            say(line, sys.stdout)
 
     def tell_limits(self) -> None:
         for limit in list(self.limits):
@@ -122,8 +152,8 @@ class Desk:
 class Connection:
     """A connection that was taken."""
 
-    def __init__(self, stream: socket.socket, answer: Callable[..., Any], bell: Bell) -> None:
-        self.socket, self.answer, self.bell, self.rest = stream, answer, bell, bytearray()
+    def __init__(self, stream: socket.socket, answer: Callable[..., Any], stop_flag: StopFlag) -> None:
+        self.socket, self.answer, self.stop_flag, self.rest = stream, answer, stop_flag, bytearray()
 
     def serve(self) -> None:
         """Answers its records up to its end; or the Fault that ends it."""
@@ -144,10 +174,10 @@ class Connection:
         return taken
 
     def receive(self) -> bytes:
-        """What comes next. There is nothing at the end of the input, which is also where the bell was rung and no
+        """What comes next. There is nothing at the end of the input, which is also where the stop flag was set and no
         more has come by then."""
-        while not self.bell.is_rung(LATE):
-            is_over = self.bell.is_rung()
+        while not self.stop_flag.is_set(LATE):
+            is_over = self.stop_flag.is_set()
             try:
                 self.socket.settimeout(AT_ONCE if is_over else TICK)
                 return self.socket.recv(PIECE)
@@ -161,7 +191,7 @@ class Connection:
     def send(self, data: bytes) -> None:
         rest = memoryview(data)
         while rest:
-            if self.bell.is_rung(LATE):
+            if self.stop_flag.is_set(LATE):
                 raise Fault("output not written")
             try:
                 self.socket.settimeout(TICK)
@@ -177,7 +207,7 @@ class Connection:
         try:
             self.socket.shutdown(socket.SHUT_WR)
             self.socket.settimeout(SILENT)
-            while left > 0 and time.monotonic() < until and not self.bell.is_rung(LATE):
+            while left > 0 and time.monotonic() < until and not self.stop_flag.is_set(LATE):
                 more = self.socket.recv(PIECE)
                 left = left - len(more) if more else 0
         except OSError:
@@ -186,13 +216,19 @@ class Connection:
 
 
 class Run:
-    """Connections, each by a thread: so many in all, or where the run goes on so many at once. `desk_of` gives the
-    desk of the next connection."""
+    """Connections, each by a thread: so many in all, or where the run goes on so many at once. `next_server` gives the
+    server of the next connection."""
 
     def __init__(
-        self, listener: socket.socket, desk_of: Callable[[], Desk], bell: Bell, most: int, goes_on: bool
+        self,
+        listener: socket.socket,
+        next_server: Callable[[], SharedServer],
+        stop_flag: StopFlag,
+        most: int,
+        goes_on: bool,
     ) -> None:
-        self.listener, self.desk_of, self.bell, self.most, self.goes_on = listener, desk_of, bell, most, goes_on
+        self.listener, self.next_server, self.stop_flag = listener, next_server, stop_flag
+        self.most, self.goes_on = most, goes_on
         # How many connections have come, and how many are there. Who changes that says so.
         self.come, self.there, self.changed = 0, 0, threading.Condition()
         # What was told once, and the faults of the run, by the connections that had them, of which the first is 1.
@@ -208,24 +244,25 @@ class Run:
             self.faults[number] = "no memory"
             return False
 
-    def sweep_with(self, desk: Desk) -> None:
-        """Has a thread look for leases that are over, about once a second. Its fault comes before those of
+    def begin_sweeps(self, server: SharedServer, look: Callable[[], Any]) -> None:
+        """Has a thread sweep about once a second, and then look. That there is no thread comes before the faults of
         connections."""
 
         def sweep() -> None:
             while True:
                 time.sleep(SWEEP)
-                desk.sweep()
+                server.sweep()
+                look()
 
         self.spawn(0, sweep)
 
     def serve(self) -> str | None:
         """Takes connections, and waits until they have ended: the fault of the run, or None."""
         self.listener.settimeout(TICK)
-        while not self.bell.is_rung() and (self.goes_on or self.come < self.most):
+        while not self.stop_flag.is_set() and (self.goes_on or self.come < self.most):
             if self.is_so(lambda: self.there < self.most):
                 self.take_one()
-        while not self.is_so(lambda: self.there == 0) and not self.bell.is_rung(3 * LATE):
+        while not self.is_so(lambda: self.there == 0) and not self.stop_flag.is_set(3 * LATE):
             pass
         # Up to here the system takes connections that nobody answers.
         self.listener.close()
@@ -273,15 +310,20 @@ class Run:
             say(line)
 
     def attend(self, number: int, stream: socket.socket, address: tuple[str, int]) -> None:
-        connection = Connection(stream, partial(self.desk_of().answer, number), self.bell)
+        server = self.next_server()
+        connection, who = Connection(stream, partial(server.answer, number), self.stop_flag), "client"
         try:
             stream.setsockopt(socket.IPPROTO_TCP, socket.TCP_NODELAY, 1)
+            server.watcher.begin(Place(number, False), address[:2], stream.getsockname()[:2])
             connection.serve()
+            who = "server" if self.stop_flag.is_set() else who
         except Fault as fault:
+            who = "server"
             if self.goes_on:
                 say(f"connection {number} from {address_text(address)}: {fault}")
             else:
                 self.faults[number] = fault.args[0]
         finally:
+            server.watcher.end(Place(number, False), who)
             connection.let_go()
             self.count(-1)

@@ -47,8 +47,7 @@ class Refusal(Exception):
         self.status, self.rest = status, rest
 
 
-@dataclass(frozen=True)
-class Result:
+class Result(NamedTuple):
     """An answer: its status, and the bytes after it."""
 
     status: Status
@@ -78,8 +77,7 @@ class ClientRecord:
     path: str | None = None
 
 
-@dataclass(frozen=True)
-class Request:
+class Request(NamedTuple):
     """What is compared to tell a retransmission: the operation with its arguments, and the current filehandle."""
 
     opnum: Opnum
@@ -88,7 +86,7 @@ class Request:
 
 
 @dataclass
-class Kept:
+class LastRequest:
     """The last request of an owner that counted, with its answer, its entry in the journal, and when it came (section
     9.1.8)."""
 
@@ -107,7 +105,7 @@ class Owner:
     """An open owner or a lock owner that is known (section 9.1.5); only an open owner is confirmed (section 9.1.11)."""
 
     name: OwnerName
-    kept: Kept
+    kept: LastRequest
     # The entry by which it became known.
     recorded: int
     is_confirmed: bool = False
@@ -124,7 +122,7 @@ class OpenState:
     seqid: int = 1
 
     def share(self) -> tuple[int, int]:
-        return union(self.pairs)
+        return self.pairs[0] if len(self.pairs) == 1 else union(self.pairs)
 
     @property
     def client(self) -> int:
@@ -252,12 +250,12 @@ def sequence_id_of(request: Request) -> int:
     return locker.open_seqid if isinstance(locker, NewLocker) else locker.lock_seqid
 
 
-def replay(kept: Kept, seqid: int, request: Request) -> Result | None:
+def replay(kept: LastRequest, seqid: int, request: Request) -> Result | None:
     """The kept answer to a retransmission of the kept request, or None (section 9.1.8)."""
-    return kept.answer if (kept.seqid, kept.request) == (seqid, request) else None
+    return kept.answer if kept.seqid == seqid and kept.request == request else None
 
 
-def closed_by(kept: Kept, stateid: Stateid) -> bool:
+def closed_by(kept: LastRequest, stateid: Stateid) -> bool:
     """Whether the kept request closed the open that the stateid names."""
     if kept.request.opnum != Opnum.CLOSE or kept.answer.status != Status.OK:
         return False
