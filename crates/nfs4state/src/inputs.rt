@@ -1,14 +1,15 @@
 ghost use Rattle.std.specs.Prelude.{◌≡◌, ◌≤◌, [], IfOk, IfSome};
 ghost use Rattle.nfs_owners.specs.Registry.{no_clients};
 
+use crate::files_read::read_tree_file;
 use crate::new_file::NewFile;
-use crate::told::{Told, tell};
+use crate::told::Told;
+use crate::tree_reason::tell_refused_tree;
 use nfs_core::{Core, LEASE_MAX, LEASE_MIN, Seeds};
 use nfs_program::{Fault, read_tree};
 use nfs_server::Counted;
 use nfs_tree::{DEFAULT_TREE, Tree, TreeError};
 use std::io::Eprint;
-use std::{fs, io};
 
 /// The journal's file, whose failures are told and counted.
 pub(crate) type JournalFile<'r, 'p, E> = Counted<Told<'p, E, NewFile<'r, 'p>>>;
@@ -51,25 +52,13 @@ pub(crate) fn tree(rt: &HostRuntime, path: Option<&str>) -> Result<Tree, Fault> 
     let Some(path) = path else {
         return Tree::from_toml(rt.alloc(), DEFAULT_TREE).map_err(Fault::from);
     };
-    let bytes = file(rt, path)?;
+    let bytes = read_tree_file(rt, path)?;
     match read_tree(rt.alloc(), bytes.as_slice()) {
         Ok(tree) => Ok(tree),
         Err(TreeError::Memory) => Err(Fault::from(TreeError::Memory)),
         Err(refused) => {
-            tell(rt, path, refused);
+            tell_refused_tree(rt.alloc(), rt, path, bytes.as_slice(), refused);
             Err(Fault::from(refused))
-        }
-    }
-}
-
-/// The bytes of a file. Why it can't be read is told by a line.
-pub(crate) fn file(rt: &HostRuntime, path: &str) -> Result<Vec<u8>, Fault> {
-    match fs::read(rt, path) {
-        Ok(bytes) => Ok(bytes),
-        Err(error) if error.kind() == io::ErrorKind::OutOfMemory => Err(Fault::NoMemory),
-        Err(error) => {
-            tell(rt, path, error);
-            Err(Fault::FileNotRead)
         }
     }
 }

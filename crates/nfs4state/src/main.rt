@@ -4,25 +4,37 @@
 ghost use Rattle.nfs_options.specs.CommandLine.{IsOnceWithinLimits};
 
 mod build;
+mod document_lines;
+mod files_read;
+mod held_line;
 mod inputs;
+mod journal_reason;
 mod listening;
+mod misfit;
 mod new_file;
 mod ongoing;
 mod part_file;
 mod serve;
 mod stand_ins;
 mod told;
+mod tree_reason;
 
 use crate::build::BUILD;
-use crate::inputs::{core_of, file, journal_file, tree};
+use crate::files_read::read_journal_file;
+use crate::held_line::HeldLine;
+use crate::inputs::{core_of, journal_file, tree};
+use crate::journal_reason::tell_no_journal;
 use crate::serve::serve;
 use nfs_core::{Moment, Seeds};
 use nfs_options::{Declined, OnceOptions, Subcommand, options};
 use nfs_program::{Fault, run_audit, run_once};
 use nfs_server::{Counted, Sides};
-use std::io::Eprint;
+use std::io::{Eprint, Write};
 use std::process::ExitCode;
 use std::{env, io};
+
+// The beginning of the line that says that a file is no journal.
+const NO_JOURNAL: &[u8] = b"fault: not a journal";
 
 /// Does what the words of the command line ask for: see `nfs4state --help`.
 fn main(rt: HostRuntime) -> ExitCode {
@@ -91,7 +103,7 @@ fn once(rt: &HostRuntime, options: &OnceOptions<'_>) -> u8
 
 // `nfs4state audit`: whether the file is a lawful journal.
 fn audit(rt: &HostRuntime, path: &str) -> u8 {
-    let bytes = match file(rt, path) {
+    let bytes = match read_journal_file(rt, path) {
         Ok(bytes) => bytes,
         Err(fault) => return report(rt, fault),
     };
@@ -100,8 +112,14 @@ fn audit(rt: &HostRuntime, path: &str) -> u8 {
         Err(refused) => return report(rt, Fault::from(refused)),
     };
     let mut sink = Counted::new(rt.stdout());
-    let mut errors = rt.stderr();
-    run_audit(rt.alloc(), bytes.as_slice(), seeds, &mut sink, &mut errors)
+    let mut fault = HeldLine::new();
+    let status = run_audit(rt.alloc(), bytes.as_slice(), seeds, &mut sink, &mut fault);
+    if fault.bytes().starts_with(NO_JOURNAL) {
+        tell_no_journal(rt.alloc(), rt, path, bytes.as_slice());
+    }
+    // An error in writing it is ignored, as others are.
+    let _ = rt.stderr().write_all(fault.bytes());
+    status
 }
 
 // The functions below ignore an error in writing, since there is no other place to report it.

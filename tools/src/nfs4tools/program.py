@@ -4,7 +4,7 @@ import subprocess
 import tempfile
 from itertools import count
 
-from nfs4tools.rows.reading import Row
+from nfs4tools.rows.row import Row
 
 # The seconds that a run has, on however busy a machine.
 PATIENCE = 300
@@ -38,10 +38,11 @@ class Program:
         return ran.returncode, ran.stdout, ran.stderr
 
     def audit(self, data: bytes) -> Ending:
+        """How an audit of these bytes ends, but for a line that says where they are no journal."""
         path = self.file_of(data)
-        ending = self.run(["audit", path])
+        status, output, errors = self.run(["audit", path])
         os.remove(path)
-        return ending
+        return status, output, without_reason(path, errors)
 
     def once(self, row: Row, environment: dict[str, str] | None = None) -> tuple[Ending, bytes | None]:
         """How `once` ends for the row, but for a line that says what is wrong with its tree; and the bytes of the
@@ -52,10 +53,7 @@ class Program:
         if tree is not None:
             options += ["--tree", tree]
         status, output, errors = self.run(["once", "--journal", path, *options], connection.sent, environment)
-        lines = errors.splitlines(True)
-        if tree is not None and lines and lines[0].startswith(f"{tree}: ".encode()):
-            lines = lines[1:]
-        return (status, output, b"".join(lines)), bytes_of(path)
+        return (status, output, errors if tree is None else without_reason(tree, errors)), bytes_of(path)
 
     def wrong_once(self, row: Row, data: bytes) -> str | None:
         """What is wrong with how `once` carries the row, or None."""
@@ -65,6 +63,12 @@ class Program:
         if got != data:
             return f"{row.file}:{row.line}: {row.name}: `once --journal` writes another file than the model"
         return None
+
+
+def without_reason(path: str, errors: bytes) -> bytes:
+    """These lines, but for a first one that says what is wrong with the file."""
+    first, _, rest = errors.partition(b"\n")
+    return rest if first.startswith(f"{path}:".encode()) else errors
 
 
 def can_run_once(row: Row) -> bool:

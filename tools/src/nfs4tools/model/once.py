@@ -7,8 +7,13 @@ from typing import Any
 
 from nfs4tools.journal.entries import MOMENT_LIMIT
 from nfs4tools.journal.journal import LEASE_LIMIT, Recorder, journal_bytes
+from nfs4tools.model.lines import error_words
 from nfs4tools.model.server import Server
 from nfs4tools.model.tree import DEFAULT, Refused, SYNTAX, Tree
+from nfs4tools.model.tree_reasons import reason_of
+
+# The most bytes that a tree's file may have.
+TREE_LIMIT = 8 << 20
 
 
 class Options(argparse.ArgumentParser):
@@ -56,21 +61,30 @@ def options(description: str) -> Options:
 
 
 def server_of(given: argparse.Namespace, kind: type[Any] = Server) -> Any:
-    """A new server with these options; or the end of the program where its tree can't be read or is refused."""
+    """A new server with these options; or the end of the program if its tree can't be read or is refused."""
+    data = DEFAULT.encode() if given.tree is None else bytes_of(given.tree)
     try:
-        document = DEFAULT if given.tree is None else document_of(given.tree)
-        return kind(Tree(document), given.lease, given.epoch)
+        return kind(Tree(text_of(data)), given.lease, given.epoch)
     except Refused as refused:
-        sys.exit(f"fault: tree refused ({refused.args[0]})")
-    except OSError:
-        sys.exit("fault: file not read")
+        sys.exit(f"{given.tree}:{reason_of(data, refused.args[0])}\nfault: tree refused ({refused.args[0]})")
 
 
-def document_of(path: str) -> str:
+def bytes_of(path: str) -> bytes:
+    """The bytes of a tree's file; or the end of the program."""
+    try:
+        with open(path, "rb") as source:
+            data = source.read(TREE_LIMIT + 1)
+    except OSError as error:
+        sys.exit(f"{path}: {error_words(error)}\nfault: file not read")
+    if len(data) > TREE_LIMIT:
+        sys.exit(f"{path}: a tree's file has at most 8 MiB\nfault: file not read")
+    return data
+
+
+def text_of(data: bytes) -> str:
     """The text of a file; one that isn't UTF-8 makes no tree."""
     try:
-        with open(path, encoding="utf-8") as source:
-            return source.read()
+        return data.decode()
     except UnicodeDecodeError:
         raise Refused(SYNTAX) from None
 
@@ -89,7 +103,11 @@ def main() -> None:
     sys.stdout.buffer.write(replies)
     sys.stdout.flush()
     if given.journal is not None:
-        with open(given.journal, "wb") as file:
-            file.write(journal_bytes(server.journal()))
+        try:
+            with open(given.journal, "wb") as file:
+                file.write(journal_bytes(server.journal()))
+        except OSError as error:
+            print(f"{given.journal}: {error_words(error)}", file=sys.stderr)
+            fault = fault or "file not written"
     if fault:
         sys.exit(f"fault: {fault}")

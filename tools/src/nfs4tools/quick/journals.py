@@ -8,8 +8,8 @@ from dataclasses import dataclass
 from nfs4tools.journal.entries import Answer, Call
 from nfs4tools.journal.journal import Journal, journal_bytes, read_journal, verdict
 from nfs4tools.processes import PATIENCE
-from nfs4tools.program import ending_of
-from nfs4tools.quick.judged import Judged, Outcome
+from nfs4tools.program import ending_of, without_reason
+from nfs4tools.quick.judged_server import JudgedServer, Outcome
 from nfs4tools.wire import Opnum, Status
 
 NO_JOURNAL = "fault: not a journal"
@@ -19,7 +19,7 @@ NO_JOURNAL = "fault: not a journal"
 class Audit:
     """Journals that are audited by one task: what each is called, and its path."""
 
-    judged: Judged
+    judged: JudgedServer
     journals: list[tuple[str, str]]
 
 
@@ -52,7 +52,7 @@ def refused(audit: Audit) -> Outcome:
     return outcome
 
 
-def other_verdict(judged: Judged, name: str, path: str, found: tuple[bool, str]) -> str | None:
+def other_verdict(judged: JudgedServer, name: str, path: str, found: tuple[bool, str]) -> str | None:
     """How the program's audit differs from what the model found, if it does."""
     command = judged.audit()
     if command is None:
@@ -61,7 +61,7 @@ def other_verdict(judged: Judged, name: str, path: str, found: tuple[bool, str])
         ran = subprocess.run([*command, path], capture_output=True, timeout=PATIENCE)
     except subprocess.TimeoutExpired:
         return f"the journal of {name}: the audit doesn't end"
-    got = ran.returncode, ran.stdout, ran.stderr
+    got = ran.returncode, ran.stdout, without_reason(path, ran.stderr)
     return None if got == ending_of(found) else f"the journal of {name}: the model says {found}; the audit {got}"
 
 
