@@ -14,13 +14,13 @@ from typing import Any, NamedTuple
 
 import pytest
 
-from helpers.entry_memory import ENTRY, LISTED, counted, entry_len, entry_of, write_len
+from helpers.entry_memory import ENTRY, LISTED, PART, counted, entry_len, entry_of, write_len
 from helpers.expecting_client import Client, Wrong, done, expect
 from helpers.reply_oracle import Judge
 from helpers.server_helpers import lawful_journal, peer_of
 from nfs4tools.journal.entries import Call, Expire
 from nfs4tools.messages import CLOSE, GETATTR, GETFH, LOCK, PUTFH, handle, setclientid, words
-from nfs4tools.model.pages import PAGE, PART
+from nfs4tools.model.pages import PAGE
 from nfs4tools.processes import PATIENCE, PROGRAM
 from nfs4tools.wire import OWNER_LIMIT, Status, opaque
 from serve.memory_runs import (
@@ -177,10 +177,13 @@ KINDS = {
         lambda client, length: read_words(length),
         Status.OK,
         FILE,
-        (*growing(0), (PART - 1, PART - 1, PAGE + 1), (PART, 0, PART - 1), (PAGE, 0, PAGE + 1)),
+        ((0, 0, 1), (1, PART, PAGE + 1), (PAGE, PART, PAGE + 1), (FILE_LIMIT - PAGE, 15 * PART, FILE_LIMIT)),
     ),
     "READ from byte 1 on": Kind(
-        lambda client, length: read_words(length, 1), Status.OK, FILE, ((PAGE - 1, 0, PAGE), (PAGE, PAGE, PAGE + 1))
+        lambda client, length: read_words(length, 1),
+        Status.OK,
+        FILE,
+        ((PAGE - 1, PART, PAGE), (PAGE, 2 * PART, 2 * PAGE)),
     ),
     "GETATTR": Kind(lambda client, own: words(GETATTR, own // 4, *[0] * (own // 4)), Status.OK, FILE, growing(0, 4)),
     # Each child takes 28 bytes of the reply, or 40 with a fileid, and 16 are behind the last one.

@@ -1,3 +1,6 @@
+//! `serve --until-input-ends` and `--until-killed`: serves until the run is ended, keeps the journal as it goes, and
+//! writes lines.
+
 ghost use Rattle.std.specs.Prelude.{◌≡◌, [], ℕ, IsFalse};
 ghost use Rattle.nfs_owners.specs.Registry.{is_live};
 
@@ -30,8 +33,9 @@ struct Ongoing<'a, R> {
     lines: &'a Lines,
 }
 
-/// Serves one connection after the other, as many at once as the options say, until what they name ends the run. Its lines
-/// are written by a thread of their own, so that nothing waits for standard error, but the end for a second at most.
+/// Serves one connection after the other, as many at once as the options say, until what they name ends the run. Its
+/// lines are written by a thread of their own, so that nothing waits for standard error, but the end for a second at
+/// most.
 pub(crate) fn serve_ongoing<
     R: Threads
         + Wait

@@ -232,7 +232,7 @@ LacksOnce rows = LacksLease rows
     ⊎ (LacksEpoch rows
     ⊎ IsNoNumber 0 moment_max (first_of (codes "now") rows))
 
--- the same for `serve`, or both of its flags are given
+-- both flags of `serve` are given, or the value of some option of `serve` is not a number within its limits
 abbrev pub LacksServe : List Row → Type 0
 LacksServe rows = IsBoth rows
     ⊎ (IsNoNumber 1 connections_max (first_of (codes "connections") rows)
@@ -244,8 +244,8 @@ LacksServe rows = IsBoth rows
 abbrev pub LacksAudit : List Row → Type 0
 LacksAudit rows = first_of (codes "file") rows ≡ None
 
--- what is given for the subcommand of this name can't be followed: there is no file, a number isn't within its limits, or
--- there are two flags of which one can be followed
+-- what is given for the subcommand of this name can't be followed: there is no file, a number isn't within its limits,
+-- or there are two flags of which one can be followed
 abbrev pub LacksNamed : Name → List Row → Type 0
 LacksNamed name.Once rows = LacksOnce rows
 LacksNamed name.Serve rows = LacksServe rows

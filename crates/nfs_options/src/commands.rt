@@ -1,3 +1,5 @@
+//! The command line as clap knows it: subcommands, options, and the text of `--help`.
+
 ghost use Rattle.std.specs.Prelude.{◌≡◌, IfOk, codes, false};
 ghost use Rattle.clap.specs.Words.{app_of, rule_of};
 ghost use Rattle.clap.specs.declared.builder.command.Command.TheViews.{out-Command};

@@ -1,3 +1,5 @@
+//! The flags that say what ends a run of `serve`.
+
 ghost use Rattle.std.specs.Prelude.{◌≡◌, IfErr, IfOk};
 ghost use Rattle.clap.specs.Words.{found_of, rows_of};
 ghost use Rattle.nfs_options.specs.CommandLine.{IsBoth, IsMemoryOr, IsUntil, is_given};

@@ -1,5 +1,5 @@
-//! A run of the program, but for its command line: what it needs before it begins, the run over one device, how a run
-//! ends, the journal's file, and the audit of one.
+//! A run of the program, except its command line: what it needs before it begins, the run over one device, and how it
+//! ends. The journal's file and the audit of a journal are here, too.
 #![tactic(auto)]
 
 mod audit;

@@ -1,3 +1,5 @@
+//! The watcher of a run that goes on: it writes lines about the run, and keeps the journal's beginning.
+
 use crate::line::Line;
 use crate::shown_bytes::ShownBytes;
 use crate::sight::Sight;
@@ -10,7 +12,8 @@ use nfs_xdr::Callback;
 use std::sync::{Mutex, Wait};
 use std::time::Clock;
 
-/// Watches a run that goes on: tells by lines what becomes of it, and keeps the beginning of its journal, if that is wanted.
+/// Watches a run that goes on: tells by lines what becomes of it, and keeps the beginning of its journal, if that is
+/// wanted.
 #[derive(Drop)]
 pub struct Reporter<'a, R, D> {
     rt: &'a R,
@@ -38,7 +41,8 @@ impl<'a, R: Wait + Clock, D: Draft + Drop> Reporter<'a, R, D> {
         }
     }
 
-    /// Looks once more, when the run has ended, how much memory its entries count, and whether a call was refused for that.
+    /// Looks once more, when the run has ended, how much memory its entries count, and whether a call was refused for
+    /// that.
     pub(crate) fn look_at_memory(&self, journal: &Journal) {
         let mut sight = self.sight.lock(self.rt);
         sight.look_at_memory(journal);
@@ -47,8 +51,9 @@ impl<'a, R: Wait + Clock, D: Draft + Drop> Reporter<'a, R, D> {
         self.lines.tell(self.rt, LineKind::Journal, &text);
     }
 
-    /// Ends with the run. The beginning of the journal is brought up to the last entry of this one; where there is none,
-    /// it isn't wanted any more, and is removed. How many lines were left out is told. Returns what tells the rest.
+    /// Ends with the run. The beginning of the journal is brought up to the last entry of this one; where there is
+    /// none, it isn't wanted any more, and is removed. How many lines were left out is told. Returns what tells the
+    /// rest.
     pub fn end(self, journal: Option<&Journal>) -> Teller<'a, R> {
         let Reporter { rt, lines, sight } = self;
         if let Some(mut beginning) = sight.into_inner().into_beginning() {

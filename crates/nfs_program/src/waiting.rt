@@ -1,3 +1,5 @@
+//! The lines that wait for the thread that writes them, in memory that was taken when the run began.
+
 ghost use Rattle.std.specs.Prelude.{◌≡◌, ◌++◌, ◌≤◌, if◌then◌else◌, IsTrue, vec_len};
 ghost use Rattle.nfs_program.specs.declared.waiting.TheConstants.{ROOM};
 
@@ -29,7 +31,7 @@ pub(crate) struct Waiting {
 }
 
 impl Waiting {
-    /// None. All the memory that they ever take is made now.
+    /// No lines. All the memory that waiting lines will ever take is taken now.
     pub(crate) fn new(alloc: Global) -> Result<Waiting, AllocError> {
         Ok(Waiting {
             bytes: Vec::with_capacity(alloc, ROOM)?,
@@ -135,8 +137,8 @@ impl Waiting {
         self.is_closed = true;
     }
 
-    /// Takes the bytes that wait, in exchange for this memory, whose own are lost. Returns whether these are some, or more
-    /// may come.
+    /// Takes the bytes that wait, in exchange for this memory, whose own are lost. Returns whether these are some, or
+    /// more may come.
     pub(crate) fn take(&mut self, memory: &mut Vec<u8>) -> bool
         ensures { memory.new.items ≡ self.old.bytes.items }
     {
@@ -157,7 +159,7 @@ impl Waiting {
         self.bytes.is_empty() && !self.is_closed
     }
 
-    /// Whether some were left out, which isn't told yet.
+    /// Whether lines were left out, and no line has told that yet.
     pub(crate) fn has_left_out(&self) -> bool {
         self.connections.has_left_out()
             || self.callbacks.has_left_out()

@@ -1,3 +1,5 @@
+//! The thread that writes a run's lines on standard error, and may wait there.
+
 use crate::Lines;
 use crate::waiting::ROOM;
 use std::alloc::{AllocError, Global};
@@ -42,7 +44,8 @@ fn write_each<R: Wait + Clock + Copy, E: Write + Drop>(
     }
 }
 
-// Writes these bytes, by as many writes as it takes. At an error the rest is let go, since there is no other place for it.
+// Writes these bytes, by as many writes as it takes. At an error the rest is let go, since there is no other place for
+// it.
 fn write_bytes<R: Wait + Clock, E: Write>(rt: &R, errors: &mut E, bytes: &[u8]) {
     let mut rest = bytes;
     for _ in rt.forever() {

@@ -38,9 +38,9 @@ use nfs_xdr::{OpResult, Refusal};
 use std::marker::Model;
 use std::sync::ledger::Book;
 
-/// The core with its journal and the keeper's book of its clients' leases, the register of the receipts for its entries,
-/// the number of the entries that are no calls, the right to put recalls into the queue, and a recall that found no room
-/// there.
+/// The core with its journal and the keeper's book of its clients' leases, the register of the receipts for its
+/// entries, the number of the entries that are no calls, the right to put recalls into the queue, and a recall that
+/// found no room there.
 #[derive(Drop)]
 pub struct Held<N: Naming> {
     pub(crate) leased: LeasedCore<WordDesk>,
@@ -59,7 +59,8 @@ impl<N: Naming> Held<N> {
         &self.leased.core
     }
 
-    /// How many recalls wait for room in the queue. Where a hold of the lock ends, they go there as far as there is room.
+    /// How many recalls wait for room in the queue. Where a hold of the lock ends, they go there as far as there is
+    /// room.
     pub fn waiting(&self) -> usize
         ensures { result ≡ length (waiting self.now.hand self.now.server.recalls) }
     {
@@ -109,8 +110,9 @@ impl<N: Naming> Model for Held<N> {
         × (h.put.queue ≡ N.run.queue) };
 }
 
-/// Has the core answer an operation, and makes the receipt for its entry. The leases of the clients that become live by it
-/// are opened, and those of the clients that are replaced are retired. It renews no lease: the caller does that, before.
+/// Has the core answer an operation, and makes the receipt for its entry. The leases of the clients that become live by
+/// it are opened, and those of the clients that are replaced are retired. It renews no lease: the caller does that,
+/// before.
 pub fn call_held<N: Naming>(
     held: &mut Held<N>,
     seat: &mut Seat<N>,
@@ -192,9 +194,9 @@ fn call_at(core: &Core, number: u32) -> SeenCall
 }
 
 /// Goes through the live clients, and removes each whose lease is over at `now`, but for those that are renewed between
-/// the look and the closing, and those for whose entry there is no room. Then it revokes the delegations that are due, and
-/// then forgets the open owners that may be forgotten, until none is left of both, or there is no room for an entry. No
-/// receipt is made: the entries are the sweeper's.
+/// the look and the closing, and those for whose entry there is no room. Then it revokes the delegations that are due,
+/// and then forgets the open owners that may be forgotten, until none is left of both, or there is no room for an
+/// entry. No receipt is made: the entries are the sweeper's.
 pub fn sweep_held<N: Naming>(held: &mut Held<N>, sweeper: &mut Sweeper<N>, now: Moment) -> Swept
     ensures sweeps { Sweeps Happens now (leased_server held.old.server held.old.leases) result
         (leased_server held.new.server held.new.leases) }
@@ -248,8 +250,8 @@ pub fn enter_held<N: Naming>(
     }
 }
 
-/// The locked value knows all that the sender took, and the sender all that was put. What the sender took begins what was
-/// put, and no more entries are the sender's than are no calls.
+/// The locked value knows all that the sender took, and the sender all that was put. What the sender took begins what
+/// was put, and no more entries are the sender's than are no calls.
 pub(crate) fn meet_sender<N: Naming>(
     queue: &RecallQueue,
     held: &mut Held<N>,

@@ -1,3 +1,5 @@
+//! Tells all threads of a run that it has ended, and wakes those that wait for that.
+
 use std::sync::atomic::{AtomicBool, Ordering};
 use std::sync::{Condvar, Mutex, Wait};
 use std::time::{Clock, Duration};
@@ -7,7 +9,7 @@ use std::time::{Clock, Duration};
 pub(crate) struct Bell {
     ended: Mutex<bool>,
     rung: Condvar,
-    // The same once more, for those that only look: a look takes no lock.
+    // Whether the run has ended, for threads that only look: a look takes no lock.
     is_rung: AtomicBool,
 }
 

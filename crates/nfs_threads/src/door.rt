@@ -1,3 +1,5 @@
+//! Hands the connections that the acceptor takes to the workers that wait for them.
+
 ghost use Rattle.std.specs.Prelude.{◌≡◌};
 
 use crate::bell::Bell;

@@ -1,3 +1,5 @@
+//! The thread that ends a run when standard input ends.
+
 use crate::Door;
 use std::alloc::Global;
 use std::io::{ErrorKind, Read};

@@ -1,6 +1,6 @@
-//! The threads of a run. A worker serves connections at a seat of the state that all share; as many work at once as there
-//! are seats. The links of a TCP listener, the door by which connections come in one after the other, and the threads that
-//! sweep and call clients back beside the workers.
+//! The threads of a run. A worker serves connections at a seat of the state that all share; as many work at once as
+//! there are seats. The links of a TCP listener, the door by which connections come in one after the other, and the
+//! threads that sweep and call clients back beside the workers.
 #![tactic(auto)]
 
 mod accepting;

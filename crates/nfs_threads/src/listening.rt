@@ -1,3 +1,5 @@
+//! A run over a TCP listener, from a core to its end, with the threads that sweep and send callbacks.
+
 ghost use Rattle.std.specs.Prelude.{◌≡◌, ◌≤◌, [], ℕ, IfErr, IfOk, IsFalse, length, vec_capacity, vec_len};
 ghost use Rattle.std.specs.List.{AllByRecursion};
 ghost use Rattle.nfs_server.specs.Serves.{served_by};
@@ -30,10 +32,10 @@ use std::thread::{Scope, Threads};
 use std::time::{Clock as Timer, Duration};
 
 /// Serves the next connections that come to the listener, as many as `connections` says, each in a thread of its own,
-/// and ends when all of them have ended. Meanwhile one more thread removes clients whose leases are over, and another one
-/// calls clients back. It returns the core as the connections left it, how each of them ended, and whether these two
-/// threads could be made: if not, the connections are served all the same. If memory is refused for the state, the core
-/// comes back; if it is for the workers, each of them ends for want of memory, and no connection is accepted.
+/// and ends when all of them have ended. Meanwhile one more thread removes clients whose leases are over, and another
+/// one calls clients back. It returns the core as the connections left it, how each of them ended, and whether these
+/// two threads could be made: if not, the connections are served all the same. If memory is refused for the state, the
+/// core comes back; if it is for the workers, each of them ends for want of memory, and no connection is accepted.
 pub fn serve_on<R: Threads + Wait + Timer + Net<Listener = TcpListener, Stream = TcpStream> + Sync>(
     alloc: Global,
     rt: &R,
@@ -68,8 +70,8 @@ pub fn serve_on<R: Threads + Wait + Timer + Net<Listener = TcpListener, Stream =
     run::<Brand, R, Nobody>(&setting, &links, connections, opened, core)
 }
 
-/// Serves the connections that come through the door, one after the other at each worker, and ends when the door is closed
-/// and all of them have ended. Else it is as `serve_on`; the watcher is told of the run, and sees the core.
+/// Serves the connections that come through the door, one after the other at each worker, and ends when the door is
+/// closed and all of them have ended. Else it is as `serve_on`; the watcher is told of the run, and sees the core.
 pub fn serve_through<
     R: Threads + Wait + Timer + Net<Listener = TcpListener, Stream = TcpStream> + Sync,
     W: Watcher + Sync,
@@ -222,9 +224,9 @@ fn serve_helped<
     )
 }
 
-// The same in a scope of threads. What a thread was to do that can't be made is done once the end is told, so it comes
-// back with nothing done. The promise stands in here and not in the closure above, since a closure that is passed on may
-// not hold a type with a promise of a type parameter.
+// Serves as `serve_helped` does, in a scope of threads. If no thread can be made for a task, the task runs when the end
+// is told, and comes back with nothing done. The promise is in here and not in the closure above, since a closure that
+// is passed on may not hold a type with a promise of a type parameter.
 fn serve_beside<
     's,
     E,

@@ -1,3 +1,5 @@
+//! The thread that sweeps once a second and shows the core to the run's watcher.
+
 use crate::listening::Setting;
 use crate::{Uptime, Watcher};
 use nfs_server::Clock;
@@ -11,8 +13,9 @@ const PERIOD: u64 = 1;
 // How many looks the watcher has after a sweep at most.
 const MOST_LOOKS: u32 = 4_096;
 
-/// Once a second removes the clients whose leases are over, revokes the delegations that are due and forgets the open owners
-/// that may be forgotten, and then has the watcher look, until the end of the connections is told. Gives the sweeper back.
+/// Once a second removes the clients whose leases are over, revokes the delegations that are due and forgets the open
+/// owners that may be forgotten, and then has the watcher look, until the end of the connections is told. Gives the
+/// sweeper back.
 pub(crate) fn sweep_until<N: Naming, R: Wait + Timer, W: Watcher>(
     setting: &Setting<'_, R, W>,
     shared: &Shared<N>,
@@ -29,7 +32,8 @@ pub(crate) fn sweep_until<N: Naming, R: Wait + Timer, W: Watcher>(
     sweeper
 }
 
-// Has the watcher look at the core, and write down what it sees, as often as it wants to, each time in a hold of its own.
+// Has the watcher look at the core, and write down what it sees, as often as it wants to, each time in a hold of its
+// own.
 fn show<N: Naming, R: Wait, W: Watcher>(rt: &R, shared: &Shared<N>, watcher: &W) {
     for _ in 0..MOST_LOOKS {
         let hold = shared.hold(rt);

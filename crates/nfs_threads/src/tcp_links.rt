@@ -1,3 +1,5 @@
+//! The connections of a worker, which come from a listener or through the door.
+
 ghost use Rattle.std.specs.Prelude.{◌≡◌};
 
 use crate::bell::Bell;
@@ -16,7 +18,7 @@ const PAUSE_MILLIS: u64 = 100;
 pub(crate) enum Entrance<'a> {
     /// The next connection that comes to the listener, which is accepted by its first read.
     Listener(&'a TcpListener),
-    /// No further one.
+    /// No further connection comes.
     Nowhere,
     /// All that come through the door, until it is closed.
     Door(&'a Door),
@@ -30,7 +32,7 @@ pub struct TcpLinks<'a, R, W> {
     bell: &'a Bell,
     watcher: &'a W,
     entrance: Entrance<'a>,
-    // Whose connection came last through the door.
+    // The peer whose connection came last through the door.
     peer: Option<Peer>,
 }
 
@@ -55,7 +57,7 @@ impl<'a, R, W> TcpLinks<'a, R, W> {
         }
     }
 
-    /// The same once more.
+    /// Links of one more worker, from the same entrance.
     pub(crate) fn again(&self) -> TcpLinks<'a, R, W>
         ensures { result ≡ self.now }
     {

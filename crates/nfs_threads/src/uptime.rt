@@ -1,3 +1,5 @@
+//! The clock of `serve`, by which leases end: seconds since the run began.
+
 ghost use Rattle.std.specs.Prelude.{◌≡◌};
 
 use nfs_core::Moment;

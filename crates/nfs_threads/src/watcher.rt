@@ -1,3 +1,5 @@
+//! The trait of a run's observer, which writes lines and keeps files without this crate.
+
 use crate::Peer;
 use nfs_callbacks::Fault;
 use nfs_core::Core;
@@ -21,15 +23,15 @@ pub trait Watcher {
     /// Is told, once for a call, that it has had no reply from this client for five seconds. The call goes on.
     fn tell_no_reply(&self, client: u32, callback: &Callback);
 
-    /// Looks at the core, about once a second, while the lock is held. Returns whether there is something to write down,
-    /// and with it another look at once.
+    /// Looks at the core, about once a second, while the lock is held. Returns whether there is something to write
+    /// down, and with it another look at once.
     fn look(&self, core: &Core) -> bool;
 
     /// Writes down what was seen, while the lock is free.
     fn write_down(&self);
 }
 
-/// Nobody watches.
+/// The watcher of a run that nobody watches.
 #[derive(Drop)]
 pub(crate) struct Nobody;
 
