@@ -14,18 +14,19 @@ pytestmark = pytest.mark.quick
 with open(os.path.join(TOP, "docs/SUITES.md"), encoding="utf-8") as page:
     BLOCKS = re.findall(r"^```python\n(.*?)^```", page.read(), re.M | re.S)
 NAMES = [re.search(r"def (\w+)", block)[1] for block in BLOCKS]
-# The lines that the first one has at most, with its imports.
-LINES = 20
+# Which of them needs a server that takes orders; and the lines that the first one has at most, with its imports.
+OF_ORDERS, LINES = "test_lease", 20
 
 
 def test_page():
-    assert NAMES == ["test_shares", "test_sequence_id", "test_recall", "test_lost_reply"]
+    assert NAMES == ["test_shares", "test_sequence_id", "test_recall", OF_ORDERS, "test_lost_reply"]
     assert BLOCKS[0].count("\n") <= LINES
 
 
 def cases():
     for name in NAMES:
-        yield pytest.param(name, PROGRAM, id=f"{name}-program", marks=pytest.mark.needs("nfs4state"))
+        if name != OF_ORDERS:
+            yield pytest.param(name, PROGRAM, id=f"{name}-program", marks=pytest.mark.needs("nfs4state"))
         yield pytest.param(name, "/no program", id=f"{name}-model")
 
 

@@ -20,6 +20,8 @@ SERVERS = [
     pytest.param(PROGRAM_SERVES, id="program", marks=pytest.mark.needs("nfs4state")),
     pytest.param(MODEL_SERVES, id="model"),
 ]
+# Those that take orders (`--orders`).
+ORDERED_SERVERS = SERVERS[1:]
 # How often a test is tried where something comes late.
 TRIES = 3
 

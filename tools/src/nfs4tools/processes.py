@@ -48,6 +48,17 @@ def is_silent(stream: Any, seconds: float) -> bool:
     return not select.select([stream], [], [], seconds)[0]
 
 
+def line_from(stream: Any, seconds: float) -> bytes:
+    """The next line of a stream; or what comes before its end, or in so many seconds."""
+    line, until = b"", time.monotonic() + seconds
+    while not line.endswith(b"\n") and not is_silent(stream, max(0, until - time.monotonic())):
+        more = os.read(stream.fileno(), 1)
+        if not more:
+            break
+        line += more
+    return line
+
+
 P = TypeVar("P", bound="Process")
 
 
@@ -95,13 +106,11 @@ class Served(Process):
         return self.read_line() if SERVING.fullmatch(line) else line
 
     def read_line(self) -> bytes:
-        line, until = b"", time.monotonic() + PATIENCE
-        while not line.endswith(b"\n") and not is_silent(self.program.stderr, max(0, until - time.monotonic())):
-            more = os.read(self.program.stderr.fileno(), 1)
-            if not more:
-                break
-            line += more
-        return line
+        return line_from(self.program.stderr, PATIENCE)
+
+    def next_answer(self, seconds: float = PATIENCE) -> bytes:
+        """The next line on standard output; or what comes before its end, or in time."""
+        return line_from(self.program.stdout, seconds)
 
     def end(self, seconds: float = PATIENCE) -> tuple[int | None, bytes, bytes]:
         """How it ends by itself: its status, and what it has written on standard output and, behind the lines with the

@@ -1,0 +1,122 @@
+"""Ten tests of a client: opens, bytes, locks, leases, delegations, and what is lost. Each has a server of its own."""
+import threading
+
+import pytest
+
+from nfs4tools import READ, WRITE, Relay, Status, StatusError
+
+
+def refusal_of(call, *given):
+    """The status with which a call is refused."""
+    with pytest.raises(StatusError) as refused:
+        call(*given)
+    return refused.value.status
+
+
+# Opens and bytes.
+
+
+def test_reads(mine):
+    file = mine.open("a", READ)
+    assert mine.read(file) == b"hello"
+    mine.close(file)
+
+
+def test_writes(mine, other):
+    file = mine.open("b")
+    mine.write(file, b"some bytes")
+    mine.close(file)
+    assert other.read(other.open("b", READ)).data == b"some bytes"
+
+
+def test_shares(mine, other, allowed):
+    """The application is told that another client denies it to write, and may read."""
+    allowed.add(Status.SHARE_DENIED)
+    other.open("a", access=READ, deny=WRITE)
+    assert refusal_of(mine.open, "a", WRITE) == Status.SHARE_DENIED
+    assert mine.read(mine.open("a", READ)) == b"hello"
+
+
+# Locks.
+
+
+def test_locks(mine, other):
+    file = mine.open("a")
+    mine.lock(file, 0, 10)
+    mine.lock(file, 20, 10)
+    assert other.lock_test(other.open("a"), 25, 1) is not None
+    mine.unlock(file, 0, 10)
+    mine.unlock(file, 20, 10)
+    mine.close(file)
+
+
+def test_denied_lock(mine, other, allowed):
+    allowed.add(Status.DENIED)
+    other.lock(other.open("a"), 0, 10)
+    file = mine.open("a")
+    assert refusal_of(mine.lock, file, 5, 10) == Status.DENIED
+    mine.lock(file, 10, 10)
+
+
+def test_lost_reply(server, new_client):
+    """The reply to LOCK is lost, and the call comes again as it was."""
+    with Relay(server.address, "lose-reply LOCK 1") as relay:
+        mine = new_client(relay.address)
+        file = mine.open("a")
+        mine.lock(file, 0, 10)
+        mine.unlock(file, 0, 10)
+        mine.end()
+
+
+# Time.
+
+
+def test_renews(server, mine):
+    """The client lives for four leases in which the application does nothing."""
+    file = mine.open("a", READ)
+    for _ in range(8):
+        server.advance(45)
+        mine.work(45)
+    assert mine.read(file) == b"hello"
+
+
+def test_begins_anew(server, mine, allowed):
+    """The network was away for more than a lease: the client begins anew, and opens its file again."""
+    allowed.add(Status.EXPIRED)
+    file = mine.open("a", READ)
+    assert server.advance(91).expired == 1
+    assert refusal_of(mine.read, file) == Status.EXPIRED
+    mine.recover()
+    assert mine.read(mine.open("a", READ)) == b"hello"
+
+
+# Delegations.
+
+
+def test_waits_for_a_delegation(server, mine, other, listener, allowed):
+    """The file is lent to another client, which returns it when the server recalls it."""
+    allowed.add(Status.DELAY)
+    server.wait_up(other)
+    lent = other.open_lent("a")
+    returning = threading.Thread(target=lambda: other.return_delegation(listener.wait_for_recall()))
+    returning.start()
+    file = mine.open("a", READ)
+    returning.join()
+    other.close(lent)
+    assert mine.read(file) == b"hello"
+
+
+def test_returns_a_delegation(server, mine, other, allowed):
+    """The client returns a file that is recalled, within the lease."""
+    allowed.add(Status.DELAY)
+    server.wait_up(mine.nfs)
+    mine.close(mine.open("a"))
+    file = mine.open("a")
+    assert file.delegation is not None
+    assert refusal_of(other.open, "a") == Status.DELAY
+    mine.listener.wait_for_recall()
+    for seconds in (45, 45, 1):
+        mine.work(seconds)
+        other.renew()
+        assert server.advance(seconds).revoked == 0, "the delegation was revoked: it wasn't returned"
+    other.open("a")
