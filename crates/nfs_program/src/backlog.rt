@@ -37,6 +37,13 @@ impl Backlog {
         }
     }
 
+    /// How many of the journal's entries were taken.
+    pub(crate) fn count(&self) -> usize
+        ensures { result ≡ self.now.count }
+    {
+        self.count
+    }
+
     /// Takes the next entries of the journal, which begins with those that were taken before, and returns whether some
     /// were left: as many as have no more than `PIECE_LEN` bytes together, or one. An error comes only where an entry has
     /// no form or no room, and those before it were taken.

@@ -3,6 +3,7 @@ ghost use Rattle.std.specs.Prelude.{◌≡◌, []};
 use crate::Draft;
 use crate::backlog::Backlog;
 use nfs_core::Journal;
+use nfs_orders::OrderError;
 use std::alloc::Global;
 use std::io::{Error, ErrorKind, Write};
 use xdr::WireError;
@@ -64,6 +65,14 @@ impl<'a, D: Draft> Beginning<'a, D> {
             if let Err(error) = backlog.write_to(&mut self.draft) {
                 self.state = State::Lost(error);
             }
+        }
+    }
+
+    /// How many entries it has, if it is kept.
+    pub(crate) fn count_written(&self) -> Result<usize, OrderError> {
+        match &self.state {
+            State::Kept(backlog) => Ok(backlog.count()),
+            State::Lost(_) | State::GivenUp => Err(OrderError::JournalLost),
         }
     }
 

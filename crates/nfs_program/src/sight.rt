@@ -1,6 +1,7 @@
 use crate::reached_limits::ReachedLimits;
 use crate::{Beginning, Draft};
 use nfs_core::{Core, Journal};
+use nfs_orders::OrderError;
 use std::io::Write;
 
 /// What was seen of a run that goes on.
@@ -46,6 +47,14 @@ impl<'a, D: Draft> Sight<'a, D> {
     pub(crate) fn write(&mut self) {
         if let Some(beginning) = &mut self.beginning {
             beginning.write();
+        }
+    }
+
+    /// How many entries the beginning of the journal has, if it is kept.
+    pub(crate) fn count_written(&self) -> Result<usize, OrderError> {
+        match &self.beginning {
+            Some(beginning) => beginning.count_written(),
+            None => Err(OrderError::NoJournal),
         }
     }
 

@@ -36,7 +36,7 @@ use nfs_state::{Request, SeenCall};
 use nfs_words::WordDesk;
 use nfs_xdr::{OpResult, Refusal};
 use std::marker::Model;
-use std::sync::ledger::Book;
+use std::sync::ledger::{Book, Share};
 
 /// The core with its journal and the keeper's book of its clients' leases, the register of the receipts for its entries,
 /// the number of the entries that are no calls, the right to put recalls into the queue, and a recall that found no room
@@ -235,13 +235,59 @@ pub fn enter_held<N: Naming>(
     ensures places { held.new.places ≡ held.old.places }
     ensures receipts { held.new.receipts ≡ held.old.receipts }
 {
+    enter_counted(held, &mut sender.share, event)
+}
+
+/// Enters an event that ends no client, as `enter_held` does. The entry is the sweeper's.
+pub fn enter_ordered<N: Naming>(
+    held: &mut Held<N>,
+    sweeper: &mut Sweeper<N>,
+    event: Event,
+) -> Result<u32, CoreError>
+    requires { EndsNoClient event }
+    ensures enters { IfOk result (Enters held.old.server held.new.server (entry_by event)) }
+    ensures error { IfErr result (IsNotEntered held.old.server event) }
+    ensures known { SweeperMayFind N.start sweeper.old held.old }
+    ensures same { OnErr result (AreAlike held.old.server held.new.server) }
+    ensures count { OnOk result (sweeper.new.count ≡ sweeper.old.count + 1) }
+    ensures uncounted { OnErr result (sweeper.new ≡ sweeper.old) }
+    ensures leases { held.new.leases ≡ held.old.leases }
+    ensures queue { HasQueued held.old held.new }
+    ensures places { held.new.places ≡ held.old.places }
+    ensures receipts { held.new.receipts ≡ held.old.receipts }
+{
+    held.other_count.audit(&mut sweeper.share);
+    enter_counted(held, &mut sweeper.share, event)
+}
+
+// Enters an event that ends no client, and counts the entry in this share.
+fn enter_counted<N: Naming>(
+    held: &mut Held<N>,
+    share: &mut Share<OtherLedger<N>>,
+    event: Event,
+) -> Result<u32, CoreError>
+    requires ends { EndsNoClient event }
+    requires part { 0 < share.old.parts }
+    ensures enters { IfOk result (Enters held.old.server held.new.server (entry_by event)) }
+    ensures error { IfErr result (IsNotEntered held.old.server event) }
+    ensures known { CanBeHeld N.start held.old }
+    ensures same { OnErr result (AreAlike held.old.server held.new.server) }
+    ensures room { OnErr result (held.old.server.room ≤ held.new.server.room) }
+    ensures count { OnOk result (share.new.amount ≡ share.old.amount + 1) }
+    ensures uncounted { OnErr result (share.new ≡ share.old) }
+    ensures parts { share.new.parts ≡ share.old.parts }
+    ensures leases { held.new.leases ≡ held.old.leases }
+    ensures queue { HasQueued held.old held.new }
+    ensures places { held.new.places ≡ held.old.places }
+    ensures receipts { held.new.receipts ≡ held.old.receipts }
+{
     lawful_is_safe();
     recalls_stay();
     let entered = held.leased.enter(event);
     recalls_are_left(&held.leased.core);
     match entered {
         Ok(number) => {
-            held.other_count.add(&mut sender.share, 1);
+            held.other_count.add(share, 1);
             Ok(number)
         }
         Err(error) => Err(error),

@@ -18,7 +18,7 @@ mod sender;
 mod shared;
 mod sweeper;
 
-pub use held::{Held, call_held, enter_held, sweep_held};
+pub use held::{Held, call_held, enter_held, enter_ordered, sweep_held};
 pub use hold::Hold;
 pub use limits::limit_of_queue;
 pub use naming::Naming;

@@ -24,6 +24,7 @@ ghost use Rattle.nfs_xdr.specs.Op.{opnum_of};
 ghost use Rattle.nfs_xdr.specs.OpResult.{op_result};
 ghost use Rattle.nfs_xdr.specs.Opnum.{answer_limit};
 
+mod ordering;
 mod sending;
 
 use crate::held::{Held, call_held, recalls_are_left, sweep_held};

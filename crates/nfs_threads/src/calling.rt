@@ -125,6 +125,10 @@ pub(crate) fn call_back_until<N: Naming, R: Net + Wait + Timer, W: Watcher>(
     let Some(net) = network_until(setting) else {
         return sender;
     };
+    // Without a waker the end is seen when a look is over.
+    if let Ok(waker) = net.waker() {
+        setting.bell.wake_by(rt, waker);
+    }
     let source = SharedSource {
         rt,
         shared,

@@ -1,6 +1,7 @@
 ghost use Rattle.std.specs.Prelude.{◌≡◌};
 
 use crate::bell::Bell;
+use crate::time_source::TimeSource;
 use crate::{Door, Links, Peer, Socket, Uptime, Watcher};
 use nfs_server::ServeError;
 use std::alloc::AllocError;
@@ -26,7 +27,7 @@ pub(crate) enum Entrance<'a> {
 #[derive(Drop)]
 pub struct TcpLinks<'a, R, W> {
     rt: &'a R,
-    start: Duration,
+    source: TimeSource<'a>,
     bell: &'a Bell,
     watcher: &'a W,
     entrance: Entrance<'a>,
@@ -35,10 +36,10 @@ pub struct TcpLinks<'a, R, W> {
 }
 
 impl<'a, R, W> TcpLinks<'a, R, W> {
-    /// `start` is what the monotonic clock showed when the run began, and the bell tells its end.
+    /// The source tells the moments of the run, and the bell its end.
     pub(crate) fn new(
         rt: &'a R,
-        start: Duration,
+        source: TimeSource<'a>,
         bell: &'a Bell,
         watcher: &'a W,
         entrance: Entrance<'a>,
@@ -47,7 +48,7 @@ impl<'a, R, W> TcpLinks<'a, R, W> {
     {
         TcpLinks {
             rt,
-            start,
+            source,
             bell,
             watcher,
             entrance,
@@ -61,7 +62,7 @@ impl<'a, R, W> TcpLinks<'a, R, W> {
     {
         TcpLinks {
             rt: self.rt,
-            start: self.start,
+            source: self.source,
             bell: self.bell,
             watcher: self.watcher,
             entrance: self.entrance,
@@ -94,7 +95,7 @@ impl<'a, R: Timer + Wait + Sync, W: Watcher + Sync> Links for TcpLinks<'a, R, W>
                 Socket::of_stream(self.rt, self.bell, stream)
             }
         };
-        Some((socket, Uptime::since(self.rt, self.start)))
+        Some((socket, Uptime::of(self.rt, self.source)))
     }
 
     fn wait_for_memory(&mut self) -> Result<bool, AllocError> {

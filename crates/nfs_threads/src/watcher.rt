@@ -1,6 +1,7 @@
 use crate::Peer;
 use nfs_callbacks::Fault;
 use nfs_core::Core;
+use nfs_orders::{Answer, OrderError};
 use nfs_server::ServeError;
 use nfs_xdr::Callback;
 
@@ -27,6 +28,12 @@ pub trait Watcher {
 
     /// Writes down what was seen, while the lock is free.
     fn write_down(&self);
+
+    /// How many of the journal's entries are written down, or why they aren't.
+    fn count_written(&self) -> Result<usize, OrderError>;
+
+    /// Is told what came of an order.
+    fn tell_answer(&self, answer: Answer);
 }
 
 /// Nobody watches.
@@ -49,4 +56,10 @@ impl Watcher for Nobody {
     }
 
     fn write_down(&self) {}
+
+    fn count_written(&self) -> Result<usize, OrderError> {
+        Err(OrderError::NoJournal)
+    }
+
+    fn tell_answer(&self, _answer: Answer) {}
 }

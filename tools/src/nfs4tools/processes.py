@@ -21,8 +21,8 @@ SERVING = re.compile(rb"serving [0-9]+ files, lease [0-9]+ s, epoch [0-9]+(, mom
 # The files that a server has without a document, by a policy with which it calls no client back: so that its journal
 # has an entry for each call, and for what its sweeps end, and no other.
 NO_CALLBACKS = os.path.join(TOP, "samples/no_callbacks.toml")
-# The file by which a server of this program waits for the sockets of its callbacks.
-EPOLL = "anon_inode:[eventpoll]"
+# The files by which a server of this program waits for the sockets of its callbacks, and for its end.
+CALLER_FILES = {"anon_inode:[eventpoll]", "anon_inode:[eventfd]"}
 # The seconds that a server has to begin or to end, and those in which a reply has to come, on however busy a machine.
 PATIENCE, REPLY_PATIENCE = 180, 20
 
@@ -126,9 +126,9 @@ class Served(Process):
 
     def has_caller(self, seconds: float = 5) -> bool:
         """Of a server that runs: whether its thread that calls clients back has begun within so many seconds, and has
-        the one file that it always has open."""
+        the two files that it always has open."""
         until = time.monotonic() + seconds
-        while not (found := EPOLL in self.open_files()) and time.monotonic() < until:
+        while not (found := CALLER_FILES.issubset(self.open_files())) and time.monotonic() < until:
             time.sleep(0.01)
         return found
 
