@@ -1,11 +1,14 @@
 //! The bytes of files, in the arguments and results of READ and WRITE.
 
+ghost use Rattle.std.specs.Prelude.{◌+◌, ◌<◌, ◌^◌, length};
+
 use crate::encoding::{is_encoded_as, is_unreadable};
 use nfs_forms::{ClientId, StableHow, Stateid, Verifier};
 use nfs_operations::read::{self, Read, ReadOk};
 use nfs_operations::write::{self, Write, WriteOk};
+use std::alloc::{AllocError, Global};
 use std::test::Fail;
-use xdr::SharedBytes;
+use xdr::{ByteParts, SharedBytes};
 
 const STATEID: Stateid = Stateid {
     seqid: 5,
@@ -25,7 +28,7 @@ fn reads(rt: HostRuntime) -> Result<(), Fail> {
         count: 10,
     };
     assert!(rt; is_encoded_as(alloc, &read, &[5, 1, 2, 7, 2, 3, 10])?);
-    let bytes = SharedBytes::copy_of(alloc, b"hello")?;
+    let bytes = ByteParts::copy_of(alloc, b"hello")?;
     let answer = read::Outcome::Done(ReadOk { eof: true, bytes });
     assert!(rt; is_encoded_as(alloc, &answer, &[0, 1, 5, 0x68656c6c, 0x6f000000])?);
     Ok(())
@@ -67,8 +70,35 @@ fn more_bytes_are_read_than_a_file_has(rt: HostRuntime) -> Result<(), Fail> {
     words[1] = 70_000;
     let answer = ReadOk {
         eof: false,
-        bytes: SharedBytes::new(Vec::from_elem(alloc, 0u8, 70_000)?)?,
+        bytes: ByteParts::of_one(SharedBytes::new(Vec::from_elem(alloc, 0u8, 70_000)?)?),
     };
     assert!(rt; is_encoded_as(alloc, &answer, words.as_slice())?);
+    Ok(())
+}
+
+// These bytes, in two parts.
+fn in_parts(alloc: Global, first: &[u8], second: &[u8]) -> Result<ByteParts, AllocError>
+    requires { length first.now + length second.now < 2 ^ 32 }
+{
+    let mut rest = Vec::new(alloc);
+    rest.push(SharedBytes::copy_of(alloc, second)?)?;
+    let len = first.len() + second.len();
+    ByteParts::new(len, SharedBytes::copy_of(alloc, first)?, rest)
+}
+
+/// Neither equality nor the form asks in which parts the bytes lie.
+#[test]
+fn parts_are_joined(rt: HostRuntime) -> Result<(), Fail> {
+    let alloc = rt.alloc();
+    let (parts, others) = (
+        in_parts(alloc, b"he", b"llo")?,
+        in_parts(alloc, b"hell", b"o")?,
+    );
+    let whole = ByteParts::copy_of(alloc, b"hello")?;
+    assert!(rt; parts == others);
+    assert!(rt; parts == whole);
+    assert!(rt; whole == parts);
+    assert!(rt; in_parts(alloc, b"he", b"lla")? != whole);
+    assert!(rt; is_encoded_as(alloc, &parts, &[5, 0x68656c6c, 0x6f000000])?);
     Ok(())
 }

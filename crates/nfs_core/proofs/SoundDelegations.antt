@@ -155,7 +155,7 @@ dropped_sound law name old h = apart_dropped law (λ o. is_same_owner o.owner na
 
 pub delegations_owned : StayApart → (change : OwnerChange) (number : ℕ) (old : State) → HasSoundDelegations old → HasSoundDelegations (with_owner_change change number old)
 delegations_owned law owner_changes.Nothing number old h = h
-delegations_owned law (owner_changes.Restarts name) number old h = record { apart = dropped_sound law name old h; single = h.single; live = h.live }
+delegations_owned law (owner_changes.Restarts name confirmed) number old h = record { apart = dropped_sound law name old h; single = h.single; live = h.live }
 delegations_owned law (owner_changes.Drops name) number old h = record { apart = dropped_sound law name old h; single = h.single; live = h.live }
 delegations_owned law change number old h = record { apart = h.apart; single = h.single; live = h.live }
 

@@ -81,8 +81,8 @@ by_ok status change other none =
 change_counts : (passage : Passage) (name : StateOwner) (newcomer : Newcomer) (status : Status) → keeps (owner_change_of passage name newcomer status) ≡ true → counts status ≡ true
 change_counts passages.Continues name newcomer status =
     cond_both (counts status) (kept_with name newcomer status) owner_changes.Nothing (λ c. keeps c ≡ true → counts status ≡ true) (λ counted _. counted) (λ _ kept. absurd cc)
-change_counts passages.Begins name newcomer status = by_ok status (owner_changes.Records (as_open_owner name)) owner_changes.Nothing refl
-change_counts passages.Restarts name newcomer status = by_ok status (owner_changes.Restarts (as_open_owner name)) (owner_changes.Drops (as_open_owner name)) refl
+change_counts passages.Begins name newcomer status = by_ok status (owner_changes.Records (as_open_owner name) false) owner_changes.Nothing refl
+change_counts passages.Restarts name newcomer status = by_ok status (owner_changes.Restarts (as_open_owner name) false) (owner_changes.Drops (as_open_owner name)) refl
 
 answered_counts : (d e : Decision) → Some d ≡ Some e → keeps e.effect.owner ≡ false → Counted d
 answered_counts d e is none kept = absurd (never (keeps d.effect.owner) (not_kept d e is none) kept)
@@ -171,9 +171,9 @@ keep_entry K number name owners new h =
     all_map (λ o. K o.kept_entry) (λ o. K o.kept_entry) (λ o. if has_name name o then record o { kept_entry = number } else o)
     (λ o k. cond_both (has_name name o) (record o { kept_entry = number }) o (λ (x : KnownOwner). K x.kept_entry) (λ _. new) (λ _. k)) owners h
 
-keep_record : (K : ℕ → Type 0) (number : ℕ) (name : StateOwner) (owners : List KnownOwner) → K number → AllKeep K owners → AllKeep K (with_record number name owners)
-keep_record K number name owners new h =
-    all_push (λ o. K o.kept_entry) owners (record { name = name; confirmed = false; recording_entry = number; kept_entry = number }) h new
+keep_record : (K : ℕ → Type 0) (number : ℕ) (name : StateOwner) (confirmed : Bool) (owners : List KnownOwner) → K number → AllKeep K owners → AllKeep K (with_record number name confirmed owners)
+keep_record K number name confirmed owners new h =
+    all_push (λ o. K o.kept_entry) owners (record { name = name; confirmed = confirmed; recording_entry = number; kept_entry = number }) h new
 
 keep_left : (K : ℕ → Type 0) (test : KnownOwner → Bool) (owners : List KnownOwner) → AllKeep K owners → AllKeep K (filter test owners)
 keep_left K test owners h = all_filter (λ o. K o.kept_entry) (λ o. K o.kept_entry) test (λ o k _. k) owners h
@@ -184,10 +184,10 @@ keep_owned K (owner_changes.Keeps name) number old new h = keep_entry K number n
 keep_owned K (owner_changes.KeepsBoth name newcomer) number old new h =
     keep_entry K number newcomer (with_kept_entry number name old.owners) (new refl) (keep_entry K number name old.owners (new refl) h)
 keep_owned K (owner_changes.Introduces name newcomer) number old new h =
-    keep_record K number newcomer (with_kept_entry number name old.owners) (new refl) (keep_entry K number name old.owners (new refl) h)
-keep_owned K (owner_changes.Records name) number old new h = keep_record K number (open_owner name) old.owners (new refl) h
-keep_owned K (owner_changes.Restarts name) number old new h =
-    keep_record K number (open_owner name) (without_owner (open_owner name) old.owners) (new refl) (keep_left K (λ o. not (has_name (open_owner name) o)) old.owners h)
+    keep_record K number newcomer false (with_kept_entry number name old.owners) (new refl) (keep_entry K number name old.owners (new refl) h)
+keep_owned K (owner_changes.Records name confirmed) number old new h = keep_record K number (open_owner name) confirmed old.owners (new refl) h
+keep_owned K (owner_changes.Restarts name confirmed) number old new h =
+    keep_record K number (open_owner name) confirmed (without_owner (open_owner name) old.owners) (new refl) (keep_left K (λ o. not (has_name (open_owner name) o)) old.owners h)
 keep_owned K (owner_changes.Drops name) number old new h = keep_left K (λ o. not (has_name (open_owner name) o)) old.owners h
 
 keep_changed : (K : ℕ → Type 0) (change : Change) (old : State) → AllKeep K old.owners → AllKeep K (with_state_change change old).owners

@@ -129,8 +129,8 @@ states_owned change number old below =
 kept_many : (number : ℕ) (name : StateOwner) (owners : List KnownOwner) → length (with_kept_entry number name owners) ≡ length owners
 kept_many number name owners = as_many (λ o. if has_name name o then record o { kept_entry = number } else o) owners
 
-recorded_many : (number : ℕ) (name : StateOwner) (owners : List KnownOwner) → length (with_record number name owners) ≡ length owners + 1
-recorded_many number name owners = one_more owners (record { name = name; confirmed = false; recording_entry = number; kept_entry = number })
+recorded_many : (number : ℕ) (name : StateOwner) (confirmed : Bool) (owners : List KnownOwner) → length (with_record number name confirmed owners) ≡ length owners + 1
+recorded_many number name confirmed owners = one_more owners (record { name = name; confirmed = confirmed; recording_entry = number; kept_entry = number })
 
 left_many : (name : StateOwner) (owners : List KnownOwner) → length (without_owner name owners) ≤ length owners
 left_many name owners = fewer (λ o. not (has_name name o)) owners
@@ -141,12 +141,12 @@ owners_owned (owner_changes.Keeps name) number old ready below = omega (arith, k
 owners_owned (owner_changes.KeepsBoth name newcomer) number old ready below =
     omega (arith, kept_many number name old.owners, kept_many number newcomer (with_kept_entry number name old.owners), below)
 owners_owned (owner_changes.Introduces name newcomer) number old ready below =
-    omega (arith, kept_many number name old.owners, recorded_many number newcomer (with_kept_entry number name old.owners), ltb-true (length old.owners) OWNER_LIMIT ready.1)
-owners_owned (owner_changes.Records name) number old ready below =
-    omega (arith, recorded_many number (open_owner name) old.owners, ltb-true (length old.owners) OWNER_LIMIT ready.1)
-owners_owned (owner_changes.Restarts name) number old ready below =
+    omega (arith, kept_many number name old.owners, recorded_many number newcomer false (with_kept_entry number name old.owners), ltb-true (length old.owners) OWNER_LIMIT ready.1)
+owners_owned (owner_changes.Records name confirmed) number old ready below =
+    omega (arith, recorded_many number (open_owner name) confirmed old.owners, ltb-true (length old.owners) OWNER_LIMIT ready.1)
+owners_owned (owner_changes.Restarts name confirmed) number old ready below =
     let left = without_owner (open_owner name) old.owners in
-    omega (arith, recorded_many number (open_owner name) left, ltb-true (length left) OWNER_LIMIT ready.2)
+    omega (arith, recorded_many number (open_owner name) confirmed left, ltb-true (length left) OWNER_LIMIT ready.2)
 owners_owned (owner_changes.Drops name) number old ready below = omega (arith, left_many (open_owner name) old.owners, below)
 
 owners_changed : (change : Change) (old : State) → length old.owners ≤ OWNER_LIMIT → length (with_state_change change old).owners ≤ OWNER_LIMIT

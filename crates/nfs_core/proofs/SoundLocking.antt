@@ -81,12 +81,12 @@ begins_ready : (number : ℕ) (old : State) (name : StateOwner) (newcomer : Newc
     → IsChangeReady (changes.Begins node first) (with_owner_change (owner_change_of passages.Continues name newcomer status) number old)
 begins_ready number old name newcomer status node first ok counted (inl unknown) under free none place =
     let owners = with_kept_entry number name old.owners in
-    let recorded = with_record number (lock_owner first.owner) owners in
+    let recorded = with_record number (lock_owner first.owner) false owners in
     let new : KnownOwner = record { name = lock_owner first.owner; confirmed = false; recording_entry = number; kept_entry = number } in
     let introduces = owner_changes.Introduces name (lock_owner first.owner) in
     let ready : IsChangeReady (changes.Begins node first) (record old { owners = recorded }) =
     first_ready old recorded node first
-    (keeps_both old.owners owners recorded (keeps_entry number name old.owners) (keeps_record number (lock_owner first.owner) owners))
+    (keeps_both old.owners owners recorded (keeps_entry number name old.owners) (keeps_record number (lock_owner first.owner) false owners))
     (found_last (has_name (lock_owner first.owner)) owners new (same_name_self (lock_owner first.owner))) under free none place in
     subst (λ n. IsChangeReady (changes.Begins node first) (with_owner_change (owner_change_of passages.Continues name n status) number old)) (sym unknown)
     (subst (λ c. IsChangeReady (changes.Begins node first) (with_owner_change c number old))

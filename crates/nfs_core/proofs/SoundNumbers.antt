@@ -218,7 +218,7 @@ weight_granted w node client (Some kind) old =
 
 -- What an entry means for an owner adds none.
 pub weight_owned : (w : ℕ → ℕ) (change : OwnerChange) (number : ℕ) (old : State) → weight w (with_owner_change change number old) ≤ weight w old
-weight_owned w (owner_changes.Restarts name) number old =
+weight_owned w (owner_changes.Restarts name confirmed) number old =
     omega (arith, sum_all_map (of_open w) (opens.without (λ o. is_same_owner o.owner name)) (opens_without w (λ o. is_same_owner o.owner name)) old.opens)
 weight_owned w (owner_changes.Drops name) number old =
     omega (arith, sum_all_map (of_open w) (opens.without (λ o. is_same_owner o.owner name)) (opens_without w (λ o. is_same_owner o.owner name)) old.opens)

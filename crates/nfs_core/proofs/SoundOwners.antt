@@ -163,7 +163,7 @@ ones_changed change old ready h = record { opens = h.opens; locks = h.locks }
 -- So does what an entry means for an owner.
 pub ones_owned : (change : OwnerChange) (number : ℕ) (old : State) → HasOnes old → HasOnes (with_owner_change change number old)
 ones_owned owner_changes.Nothing number old h = h
-ones_owned (owner_changes.Restarts name) number old h = record { opens = opens_dropped (λ o. is_same_owner o.owner name) old h; locks = h.locks }
+ones_owned (owner_changes.Restarts name confirmed) number old h = record { opens = opens_dropped (λ o. is_same_owner o.owner name) old h; locks = h.locks }
 ones_owned (owner_changes.Drops name) number old h = record { opens = opens_dropped (λ o. is_same_owner o.owner name) old h; locks = h.locks }
 ones_owned change number old h = record { opens = h.opens; locks = h.locks }
 

@@ -246,9 +246,9 @@ owner_ready : (journal : History) (state : State) (op : Op) (owner : OpenOwner) 
 owner_ready journal state op owner passages.Continues status sound live fit nobody place =
     continues_ready journal state op (open_owner owner) status sound fit (place_for_nobody state (newcomer_of journal state owner.client op) status nobody)
 owner_ready journal state op owner passages.Begins status sound live fit nobody place =
-    cond_both (is_ok_status status) (owner_changes.Records (as_open_owner (open_owner owner))) owner_changes.Nothing (λ c. IsOwnerReady c state) (λ ok. (live, place ok)) (λ _. tt)
+    cond_both (is_ok_status status) (owner_changes.Records (as_open_owner (open_owner owner)) false) owner_changes.Nothing (λ c. IsOwnerReady c state) (λ ok. (live, place ok)) (λ _. tt)
 owner_ready journal state op owner passages.Restarts status sound live fit nobody place =
-    cond_both (is_ok_status status) (owner_changes.Restarts (as_open_owner (open_owner owner))) (owner_changes.Drops (as_open_owner (open_owner owner))) (λ c. IsOwnerReady c state)
+    cond_both (is_ok_status status) (owner_changes.Restarts (as_open_owner (open_owner owner)) false) (owner_changes.Drops (as_open_owner (open_owner owner))) (λ c. IsOwnerReady c state)
     (λ ok. (live, fit.1, place ok)) (λ _. fit.1)
 
 -- the owners are nothing to what an OPEN may do
@@ -268,13 +268,13 @@ opens_ready number state op owner passages.Begins newcomer status node share len
     let name = open_owner owner in
     let new : KnownOwner = record { name = name; confirmed = false; recording_entry = number; kept_entry = number } in
     subst (λ c. IsChangeReady (changes.Opens node owner share lent) (with_owner_change c number state))
-    (sym (cond-true (is_ok_status status) (owner_changes.Records (as_open_owner name)) owner_changes.Nothing ok))
+    (sym (cond-true (is_ok_status status) (owner_changes.Records (as_open_owner name) false) owner_changes.Nothing ok))
     (found_last (has_name name) state.owners new (same_name_self name), may_still node owner share lent (state.owners ++ new ∷ []) state may)
 opens_ready number state op owner passages.Restarts newcomer status node share lent ok fit may =
     let name = open_owner owner in
     let new : KnownOwner = record { name = name; confirmed = false; recording_entry = number; kept_entry = number } in
     subst (λ c. IsChangeReady (changes.Opens node owner share lent) (with_owner_change c number state))
-    (sym (cond-true (is_ok_status status) (owner_changes.Restarts (as_open_owner name)) (owner_changes.Drops (as_open_owner name)) ok)) (
+    (sym (cond-true (is_ok_status status) (owner_changes.Restarts (as_open_owner name) false) (owner_changes.Drops (as_open_owner name)) ok)) (
       found_last (has_name name) (without_owner name state.owners) new (same_name_self name),
       may_still node owner share lent (without_owner name state.owners ++ new ∷ []) (before_own passages.Restarts owner state) may,
     )

@@ -198,8 +198,8 @@ pub keeps_entry : (number : ℕ) (name : StateOwner) (owners : List KnownOwner) 
 keeps_entry number name owners =
     keeps_mapped (λ o. if has_name name o then record o { kept_entry = number } else o) (keeps_kept number name) owners
 
-pub keeps_record : (number : ℕ) (name : StateOwner) (owners : List KnownOwner) → KeepsOwners owners (with_record number name owners)
-keeps_record number name owners = keeps_recorded (record { name = name; confirmed = false; recording_entry = number; kept_entry = number }) owners
+pub keeps_record : (number : ℕ) (name : StateOwner) (confirmed : Bool) (owners : List KnownOwner) → KeepsOwners owners (with_record number name confirmed owners)
+keeps_record number name confirmed owners = keeps_recorded (record { name = name; confirmed = confirmed; recording_entry = number; kept_entry = number }) owners
 
 continues_alone : (number : ℕ) (old : State) (name : StateOwner) → Continues number old (owner_changes.Keeps name)
 continues_alone number old name = record { owners = with_kept_entry number name old.owners; state = refl; keeps = keeps_entry number name old.owners }
@@ -217,9 +217,9 @@ kept_continues number old name (Unknown newcomer) status =
     let owners = with_kept_entry number name old.owners in
     cond_both (is_ok_status status) (owner_changes.Introduces name (lock_owner newcomer)) (owner_changes.Keeps name) (Continues number old)
     (λ _. record {
-      owners = with_record number (lock_owner newcomer) owners;
+      owners = with_record number (lock_owner newcomer) false owners;
       state = refl;
-      keeps = keeps_both old.owners owners (with_record number (lock_owner newcomer) owners) (keeps_entry number name old.owners) (keeps_record number (lock_owner newcomer) owners);
+      keeps = keeps_both old.owners owners (with_record number (lock_owner newcomer) false owners) (keeps_entry number name old.owners) (keeps_record number (lock_owner newcomer) false owners);
     })
     (λ _. continues_alone number old name)
 

@@ -54,9 +54,9 @@ use Rattle.nfs_share.specs.Opens.{after_downgrade, is_numbered, is_refused, open
 abbrev pub IsOwnerReady : OwnerChange → State → Type 0
 IsOwnerReady (owner_changes.Introduces name newcomer) state =
     (is_live_in state.clients.confirmed newcomer.client ≡ true) × (nat_lt (length state.owners) OWNER_LIMIT ≡ true)
-IsOwnerReady (owner_changes.Records name) state =
+IsOwnerReady (owner_changes.Records name confirmed) state =
     (is_live_in state.clients.confirmed name.client ≡ true) × (nat_lt (length state.owners) OWNER_LIMIT ≡ true)
-IsOwnerReady (owner_changes.Restarts name) state =
+IsOwnerReady (owner_changes.Restarts name confirmed) state =
     (is_live_in state.clients.confirmed name.client ≡ true) × (is_confirmed (open_owner name) state.owners ≡ false)
     × (nat_lt (length (without_owner (open_owner name) state.owners)) OWNER_LIMIT ≡ true)
 IsOwnerReady (owner_changes.Drops name) state = is_confirmed (open_owner name) state.owners ≡ false
@@ -164,10 +164,10 @@ sound_kept : (number : ℕ) (name : StateOwner) (old : State) → IsSound old �
 sound_kept number name old sound =
     sound_mapped (λ o. if has_name name o then record o { kept_entry = number } else o) (keeps_kept number name) old sound
 
-sound_recorded : (number : ℕ) (name : StateOwner) (old : State) → is_live_in old.clients.confirmed name.client ≡ true → IsSound old → IsSound (record old { owners = with_record number name old.owners })
-sound_recorded number name old live sound =
-    let new : KnownOwner = record { name = name; confirmed = false; recording_entry = number; kept_entry = number } in
-    sound_owners (with_record number name old.owners) old
+sound_recorded : (number : ℕ) (name : StateOwner) (confirmed : Bool) (old : State) → is_live_in old.clients.confirmed name.client ≡ true → IsSound old → IsSound (record old { owners = with_record number name confirmed old.owners })
+sound_recorded number name confirmed old live sound =
+    let new : KnownOwner = record { name = name; confirmed = confirmed; recording_entry = number; kept_entry = number } in
+    sound_owners (with_record number name confirmed old.owners) old
     (all_push (λ o. is_live_in old.clients.confirmed o.name.client ≡ true) old.owners new sound.live live) (keeps_recorded new old.owners) sound
 
 sound_dropped : OpensStay → (name : OpenOwner) (old : State) → is_confirmed (open_owner name) old.owners ≡ false → IsSound old → IsSound (state_changes.without name old)
@@ -188,10 +188,10 @@ sound_owner law (owner_changes.Keeps name) number old ready sound = sound_kept n
 sound_owner law (owner_changes.KeepsBoth name newcomer) number old ready sound =
     sound_kept number newcomer (record old { owners = with_kept_entry number name old.owners }) (sound_kept number name old sound)
 sound_owner law (owner_changes.Introduces name newcomer) number old ready sound =
-    sound_recorded number newcomer (record old { owners = with_kept_entry number name old.owners }) ready.0 (sound_kept number name old sound)
-sound_owner law (owner_changes.Records name) number old ready sound = sound_recorded number (open_owner name) old ready.0 sound
-sound_owner law (owner_changes.Restarts name) number old ready sound =
-    sound_recorded number (open_owner name) (state_changes.without name old) ready.0 (sound_dropped law name old ready.1 sound)
+    sound_recorded number newcomer false (record old { owners = with_kept_entry number name old.owners }) ready.0 (sound_kept number name old sound)
+sound_owner law (owner_changes.Records name confirmed) number old ready sound = sound_recorded number (open_owner name) confirmed old ready.0 sound
+sound_owner law (owner_changes.Restarts name confirmed) number old ready sound =
+    sound_recorded number (open_owner name) confirmed (state_changes.without name old) ready.0 (sound_dropped law name old ready.1 sound)
 sound_owner law (owner_changes.Drops name) number old ready sound = sound_dropped law name old ready sound
 
 -- A change of the clients' records keeps the state sound.

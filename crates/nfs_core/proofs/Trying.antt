@@ -1,8 +1,8 @@
--- A try to forget an owner: an entry that may come next, or nothing.
-use Rattle.std.proofs.Common.{◌≡◌, ℕ, ◌<◌, false, Option, Some, None, Result, Ok, Err, List, [], ◌∷◌, refl, subst, sym, arith}
+-- A try to forget an owner or to take away a delegation: an entry that may come next, or nothing.
+use Rattle.std.proofs.Common.{◌≡◌, ℕ, ◌<◌, false, Option, Some, None, Result, Ok, Err, List, [], ◌∷◌, length, refl, subst, sym, arith}
 use Rattle.std.specs.Prelude.{IfOk, OnErr}
 use Rattle.std.specs.List.{AllByRecursion}
-use Rattle.nfs_core.specs.Events.{IsForgottenFrom, forget_of, path_of}
+use Rattle.nfs_core.specs.Events.{IsForgottenFrom, IsRevoked, forget_of, path_of, revoke_of}
 use Rattle.nfs_core.specs.Server.{AreAlike, Enters, Server}
 use Rattle.nfs_core.specs.declared.core_error.CoreError.{CoreError}
 use Rattle.nfs_core.specs.declared.core_error.CoreError.TheVariants.{Memory}
@@ -35,6 +35,17 @@ tried old new now (Ok (Some f)) forgotten same = record {
   other = refl;
 }
 tried old new now (Err error) forgotten same = nothing old new same
+
+pub tried_revocation : (old new : Server) (now : ℕ) (result : Result (Option ℕ) CoreError) → IfOk result (IsRevoked old new now) → OnErr result (AreAlike old new) → Tried old new
+tried_revocation old new now (Ok None) revoked same = nothing old new (subst (AreAlike old) (sym revoked) (refl, refl, refl))
+tried_revocation old new now (Ok (Some number)) revoked same = record {
+  entry = entries.Revoke (revoke_of number now);
+  result = Ok (length old.journal.entries);
+  entered = revoked;
+  same = tt;
+  other = refl;
+}
+tried_revocation old new now (Err error) revoked same = nothing old new same
 
 -- no entry is before the first
 pub none_before_first : (journal : History) (state : State) (now : ℕ) → NoneIdleBefore 0 journal state now

@@ -50,9 +50,9 @@ abbrev pub EndsNoClient : Event → Type 0
 EndsNoClient (events.Expire expire) = ⊥
 EndsNoClient event = ⊤
 
--- The event may happen, as far as its rule goes: a client that ends is live, and its lease had run out; a delegation that
--- is taken away is the next one that may be (RFC 7530, section 10.4.6); a client whose path is marked is live; an owner
--- that is forgotten is the next one that may be (section 9.1.10).
+-- The event may happen, as far as its rule goes: a client that ends is live, and its lease had run out; a delegation
+-- that is taken away is the next one that may be (RFC 7530, section 10.4.6); a client whose path is marked is live; an
+-- owner that is forgotten is the next one that may be (section 9.1.10).
 abbrev pub MayHappen : Server → Event → Type 0
 MayHappen server (events.Expire expire) =
     IsTrue (is_live server.journal (meaning server.stored) expire.client)
@@ -64,7 +64,8 @@ MayHappen server (events.Path path) =
 MayHappen server (events.Forget forget) =
     (effect : Effect) × IsForgetting server.journal (meaning server.stored) forget effect
 
--- The event may not happen, for the first of these reasons that there is: its client isn't live, or its time hasn't come.
+-- The event may not happen, for the first of these reasons that there is: its client isn't live, or its time hasn't
+-- come.
 abbrev pub MayNotHappen : Server → Event → CoreError → Type 0
 MayNotHappen server (events.Expire expire) errors.NotLive =
     IsFalse (is_live server.journal (meaning server.stored) expire.client)
@@ -96,7 +97,8 @@ IsWithoutRoom server errors.Memory =
     (length server.journal.entries < JOURNAL_LIMIT) × (server.room ≡ 0)
 IsWithoutRoom server error = ⊥
 
--- The same of the entry of an owner's end, which takes memory for the owner's name as well.
+-- There is no room for the entry of an owner's end, which takes memory for the owner's name as well: the journal is
+-- full, or memory ran out.
 abbrev pub IsWithoutRoomForOwner : History → CoreError → Type 0
 IsWithoutRoomForOwner journal errors.Full = JOURNAL_LIMIT ≤ length journal.entries
 IsWithoutRoomForOwner journal errors.Memory = length journal.entries < JOURNAL_LIMIT
@@ -134,7 +136,7 @@ IsNotRevokedFor server now error = (NoneIsDue server now → ⊥) × IsWithoutRo
 abbrev pub NoneIsIdle : Server → ℕ → Type 0
 NoneIsIdle server now = NoneIdle server.journal (meaning server.stored) now
 
--- none may that an entry before this one recorded
+-- no owner may be forgotten at this moment that an entry before this one recorded
 abbrev pub NoneIsIdleBefore : ℕ → Server → ℕ → Type 0
 NoneIsIdleBefore entry server now =
     NoneIdleBefore entry server.journal (meaning server.stored) now
@@ -145,8 +147,8 @@ IsForgotten old new now None = new ≡ old
 IsForgotten old new now (Some number) =
     (owner : OpenOwner) × Enters old new (entries.Forget (forget_of owner now)) number
 
--- The same, where it is told as well which entry had recorded the owner: none is left that an entry before that one
--- recorded and that may be forgotten.
+-- The server `old` becomes `new` by the entry of an owner's end. Told as well is which entry had recorded the owner: no
+-- owner is left that an entry before that one recorded and that may be forgotten.
 abbrev pub IsForgottenFrom : Server → Server → ℕ → Option Forgotten → Type 0
 IsForgottenFrom old new now None = new ≡ old
 IsForgottenFrom old new now (Some forgotten) =

@@ -31,8 +31,8 @@ abbrev pub HaveFewChanges : ℕ → List FileState → Type 0
 HaveFewChanges number files = AllByRecursion (λ f. f.change ≤ number) files
 
 -- What is stored agrees with the journal as far as a decision and its effect need it: no more confirm values were given
--- out than the journal has entries, and of numbers of states no more than two an entry; each state has a number that was
--- given; no file was changed more often than the journal has entries; and what is stored for each owner is what its
+-- out than the journal has entries, and of numbers of states no more than two an entry; each state has a number that
+-- was given; no file was changed more often than the journal has entries; and what is stored for each owner is what its
 -- entry has.
 pub record StoreAgrees (store : Store) : Type 0 where
   pub confirms : store.tables.clients.registry.last_confirm

@@ -21,8 +21,8 @@ OpenersStay =
     → IsTrue (has_open (open_owner forget.owner) old)
     → HasNoStep journal old (entries.Forget forget)
 
--- What goes is an owner that was known, had no open, and whose kept request was older than a lease, and nothing else: each
--- other owner stays as it was.
+-- What goes is an owner that was known, had no open, and whose kept request was older than a lease, and nothing else:
+-- each other owner stays as it was.
 pub record TakesAway (journal : History) (old : State) (forget : Forget) (new : State) : Type 0 where
   pub owner : KnownOwner
   pub known : owner_of (open_owner forget.owner) old.owners ≡ Some owner
@@ -41,8 +41,8 @@ OnlyIdleOwnersGo =
     → Step journal old (entries.Forget forget) new
     → TakesAway journal old forget new
 
--- Who comes again is as who never came: the owner isn't known, its requests are judged as those of an owner that was never
--- recorded, and the stateid of an open that it closed doesn't lead to it.
+-- Who comes again is as who never came: the owner isn't known, its requests are judged as those of an owner that was
+-- never recorded, and the stateid of an open that it closed doesn't lead to it.
 pub record IsAsNew (owner : OpenOwner) (state : State) : Type 0 where
   pub unknown : owner_of (open_owner owner) state.owners ≡ None
   pub judged : (journal : History) (seqid : ℕ) (request : Request) (sequence : SequenceStep)

@@ -8,8 +8,8 @@ use Rattle.nfs_state.specs.State.{State, History}
 use Rattle.nfs_state.specs.declared.change.Change.TheVariants as changes
 use Rattle.nfs_state.specs.declared.entry.TheConstants.{JOURNAL_LIMIT}
 
--- What was found before an owner is forgotten: there is room in the journal, and this owner may be forgotten, and none that
--- an earlier entry recorded; or no owner may.
+-- What was found before an owner is forgotten: there is room in the journal, and this owner may be forgotten, and none
+-- that an earlier entry recorded; or no owner may.
 abbrev pub IsFound : History → State → ℕ → Option IdleOwner → Type 0
 IsFound journal state now None = NoneIdle journal state now
 IsFound journal state now (Some idle) =

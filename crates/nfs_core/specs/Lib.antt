@@ -1,3 +1,4 @@
+-- What contracts say of a core: its steps, what always holds of it, and which journals are lawful.
 pub mod Step
 pub mod Lawful
 pub mod Safe

@@ -93,7 +93,7 @@ pub record LiveFollow (op : Op) (old new : Registry) : Type 0 where
   -- only the client that this one replaces isn't live any more
   pub goes : (number : ℕ) → IsTrue (is_live number old) → IsFalse (is_live number new)
       → replaced_in old op ≡ Some number
-  -- who can't become live can't afterwards
+  -- a client that can't become live before the call can't afterwards
   pub once : (number : ℕ) → IsTrue (can_become_live number new) → IsTrue (can_become_live number old)
 
 -- How the end of a client changes which clients are live.

@@ -1,4 +1,5 @@
--- The recalls that a journal makes: which delegations are called back, in what order, and how (RFC 7530, section 10.4.4).
+-- The recalls that a journal makes: which delegations are called back, in what order, and how (RFC 7530, section
+-- 10.4.4).
 use Rattle.std.specs.Prelude.{◌≡◌, ⊤, ℕ, ◌+◌, ◌<◌, Bool, ◌&&◌, if◌then◌else◌, List, [], ◌∷◌, ◌++◌, drop, length, Option, None, is_none, option_map}
 use Rattle.std.specs.List.{AllPairs, filter_map}
 use mathlib.Core.List.{IsPrefix}
@@ -73,12 +74,12 @@ AreRecallsOf journal recalls =
 
 -- What a contract sees of recalls that are taken one after the other, the first one first.
 pub record RecallsLeft : Type 0 where
-  -- how many were taken
+  -- how many recalls were taken
   pub taken : ℕ
-  -- those that weren't, in order
+  -- the recalls that weren't taken, in order
   pub pending : List Recall
 
--- the same, with how many can be added without memory
+-- the recalls that are left, with how many can be added without memory
 pub record RoomyRecalls : Type 0 where
   pub taken : ℕ
   pub pending : List Recall
@@ -88,11 +89,11 @@ pub record RoomyRecalls : Type 0 where
 abbrev pub left_of : RoomyRecalls → RecallsLeft
 left_of recalls = record { taken = recalls.taken; pending = recalls.pending }
 
--- none, of which none was taken
+-- no recalls, of which none was taken
 abbrev pub no_recalls : RecallsLeft
 no_recalls = record { taken = 0; pending = [] }
 
--- with these at the end
+-- the recalls that are left, with these at the end
 abbrev pub with_more : List Recall → RecallsLeft → RecallsLeft
 with_more more left = record left { pending = left.pending ++ more }
 

@@ -176,6 +176,6 @@ call_at journal number = option_and_then call_of (slice_get journal.entries numb
 abbrev pub KeepsRequest : History → KnownOwner → Type 0
 KeepsRequest journal o = IsSomeAnd (call_at journal o.kept_entry) HasCounted
 
--- the same of each owner
+-- the entry that is kept for each owner is such a call in the journal
 abbrev pub KeepRequests : History → State → Type 0
 KeepRequests journal state = AllByRecursion (KeepsRequest journal) state.owners

@@ -17,7 +17,7 @@ pub record Server : Type 0 where
   pub stored : Stored
   -- how many entries the journal can gain without memory
   pub room : ℕ
-  -- those of the journal's recalls that nobody took yet
+  -- the recalls of the journal that nobody took yet
   pub recalls : RecallsLeft
 
 -- the server that a core holds
@@ -38,8 +38,8 @@ AreAlike old new =
 abbrev pub IsLawful : Server → Type 0
 IsLawful server = Lawful server.journal (meaning server.stored)
 
--- The server `old` becomes `new` by an entry that may come next, and is the journal's entry with this number. The recalls
--- that it makes come to those that are left.
+-- The server `old` becomes `new` by an entry that may come next, and is the journal's entry with this number. The
+-- recalls that it makes come to those that are left.
 abbrev pub Enters : Server → Server → Entry → ℕ → Type 0
 Enters old new entry number =
     (number ≡ length old.journal.entries)

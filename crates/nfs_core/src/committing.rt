@@ -1,3 +1,5 @@
+//! Commits an entry with the recalls that it makes.
+
 ghost use Rattle.std.specs.Prelude.{◌≡◌, ◌<◌, ◌≤◌, IfErr, IfOk, IsOk, OnErr, length};
 ghost use Rattle.nfs_core.specs.Following.{IsNext, StoreAgrees};
 ghost use Rattle.nfs_core.specs.Recalls as recalls_made;
@@ -13,8 +15,9 @@ use nfs_rpc::Recall;
 use nfs_state::{Change, Effect, Entry, Shortage, Store, commit_entry};
 use std::alloc::{AllocError, Global};
 
-/// Enters the entry, which may come next with this effect, and returns its number. The recalls that it makes come to those
-/// that nobody took yet. Fails for want of memory alone, and changes nothing then but room, of which there isn't less.
+/// Enters the entry, which may come next with this effect, and returns its number. The recalls that it makes come to
+/// those that nobody took yet. Fails for want of memory alone, and changes nothing then but room, of which there isn't
+/// less.
 pub(crate) fn commit(
     alloc: Global,
     held: &mut Holdings,

@@ -1,3 +1,5 @@
+//! Why an event can't be entered in the journal, with the numbers that tests compare.
+
 ghost use Rattle.std.specs.Prelude.{◌≡◌};
 ghost use Rattle.nfs_core.specs.CoreError.{number_of};
 

@@ -1,3 +1,5 @@
+//! The core: the one value through which all changes of the state go.
+
 ghost use Rattle.std.specs.Prelude.{◌≡◌, ◌↔◌, ◌≤◌, ◌<◌, ◌+◌, [], ◌∷◌, None, Ok, IfErr, IfNone, IfOk, IfSome, OnErr, OnOk, IsErrOf, IsTrue, length};
 ghost use Rattle.std.specs.Option.{option_copied};
 ghost use Rattle.nfs_core.specs.Callbacks.{callback_of, has_delegation};
@@ -28,12 +30,14 @@ use crate::forgetting::forget_next;
 use crate::holdings::Holdings;
 use crate::laws::{lawful_is_safe, recalls_follow};
 use crate::pending_recalls::PendingRecalls;
+use crate::revoking::revoke_next;
 use crate::{CoreError, Entered, Event, FollowError, Forgotten};
 use nfs_owners::ClientState;
 use nfs_rpc::Recall;
+use nfs_rules::next_due;
 use nfs_state::{
-    Entry, Expire, JOURNAL_LIMIT, Journal, LEASE_MAX, LEASE_MIN, Moment, Path, Request, Revoke,
-    Seeds, Store, Tables,
+    Entry, Expire, JOURNAL_LIMIT, Journal, LEASE_MAX, LEASE_MIN, Moment, Path, Request, Seeds,
+    Store, Tables,
 };
 use nfs_tree::{Policy, Tree};
 use nfs_xdr::{Callback, ClientId, Op, OpResult, Principal, Refusal, Stateid};
@@ -73,8 +77,8 @@ impl Drop for Core {
 
 impl Core {
     /// A server with the files of this tree, to which no client has come. `lease` is in seconds, and `epoch` is the
-    /// number of the server's run. What is stored is found by hashes that are keyed by the seeds. Fails if memory runs out
-    /// while the tree is copied.
+    /// number of the server's run. What is stored is found by hashes that are keyed by the seeds. Fails if memory runs
+    /// out while the tree is copied.
     pub fn new(
         alloc: Global,
         tree: &Tree,
@@ -141,8 +145,8 @@ impl Core {
         }
     }
 
-    /// The same as `apply` for a request, whose operation goes into the journal without a copy, and returns what came of
-    /// it: with the entry's number who came to be live by it, or is live no longer.
+    /// Answers a request as `apply` does; its operation goes into the journal without a copy. Returns what came of it:
+    /// the entry's number, and which client became live by it, or is live no longer.
     pub fn answer(&mut self, request: Request) -> (OpResult, Option<Entered>)
         requires entry { IsTrue (has_entry self.old.journal.policy.profile request.op) }
         requires node { IsFilehandle self.old.journal request.filehandle }
@@ -172,8 +176,8 @@ impl Core {
         }
     }
 
-    /// Bounds the memory of the journal's entries: from now on a call that would bring their count above so many bytes is
-    /// refused, as where memory is. No other entry is.
+    /// Bounds the memory of the journal's entries: from now on a call that would bring their count above so many bytes
+    /// is refused, as where memory is. No other entry is.
     pub fn set_memory_limit(&mut self, limit: u64)
         ensures { self.new ≡ self.old }
     {
@@ -195,9 +199,9 @@ impl Core {
         Ok(self.held.store.journal.reserve()?)
     }
 
-    /// Enters an event in the journal, and returns the entry's number. Fails, and changes nothing but room, of which there
-    /// isn't less, for the first of these reasons that there is: the event's client isn't live (NotLive), its time hasn't
-    /// come (NotDue), the journal is full, or memory ran out.
+    /// Enters an event in the journal, and returns the entry's number. Fails, and changes nothing but room, of which
+    /// there isn't less, for the first of these reasons that there is: the event's client isn't live (NotLive), its
+    /// time hasn't come (NotDue), the journal is full, or memory ran out.
     pub fn enter(&mut self, event: Event) -> Result<u32, CoreError>
         ensures enters { IfOk result (Enters self.old self.new (entry_by event)) }
         ensures recalls { self.new.recalls ≡ self.old.recalls }
@@ -212,21 +216,19 @@ impl Core {
         enter_event(self.alloc, held, event)
     }
 
-    /// The delegation with the least number of those that are due at `now`: called back more than a lease before, and not
-    /// given back. None where none is due.
+    /// The delegation with the least number of those that are due at `now`: called back more than a lease before, and
+    /// not given back. None where none is due.
     pub fn due(&self, now: Moment) -> Option<u32>
         ensures due { IfSome result (λ number.
             MayHappen self.now (events.Revoke (revoke_of number now))) }
         ensures none { result ≡ None ↔ NoneIsDue self.now now }
     {
-        lawful_is_safe();
-        let store = &self.held.store;
-        let due = store.tables.opens.next_due(0, store.journal.lease(), now)?;
+        let due = next_due(&self.held.store, now)?;
         Some(due.state.number)
     }
 
-    /// Removes the client with this number, whose lease was renewed last at `seen` and has run out at `now`, with all that
-    /// it has, as `enter` does.
+    /// Removes the client with this number, whose lease was renewed last at `seen` and has run out at `now`, with all
+    /// that it has, as `enter` does.
     pub fn expire(&mut self, client: u32, seen: Moment, now: Moment) -> Result<u32, CoreError>
         ensures expires { IfOk result (Enters self.old self.new
             (entries.Expire (expire_of client seen now))) }
@@ -240,9 +242,9 @@ impl Core {
         self.enter(Event::Expire(Expire { client, seen, now }))
     }
 
-    /// Takes away the delegation that is due at `now`, if one is, enters that in the journal, and returns the delegation's
-    /// number. Fails only where one is due, with Full before Memory, and so changes nothing but room, of which there
-    /// isn't less.
+    /// Takes away the delegation that is due at `now`, if one is, enters that in the journal, and returns the
+    /// delegation's number. Fails only where one is due, with Full before Memory, and so changes nothing but room, of
+    /// which there isn't less.
     pub fn revoke(&mut self, now: Moment) -> Result<Option<u32>, CoreError>
         ensures revoked { IfOk result (IsRevoked self.old self.new now) }
         ensures recalls { self.new.recalls ≡ self.old.recalls }
@@ -252,23 +254,16 @@ impl Core {
         ensures room { OnErr result (self.old.room ≤ self.new.room) }
         ensures lawful { IsLawful self.new }
     {
-        match self.due(now) {
-            None => {
-                // For its clause alone: the state is lawful as it is.
-                self.journal();
-                Ok(None)
-            }
-            Some(number) => match self.enter(Event::Revoke(Revoke { number, now })) {
-                Ok(_) => Ok(Some(number)),
-                Err(error) => Err(error),
-            },
-        }
+        lawful_is_safe();
+        recalls_follow();
+        let held = &mut self.held;
+        revoke_next(self.alloc, held, now)
     }
 
-    /// Forgets the open owner that may be forgotten at `now`, if one may: it has no open, and a lease has passed since its
-    /// kept request. Of those that may be it is the one that the least entry recorded. Enters that in the journal, and returns
-    /// the entry's number. Fails only where one may be forgotten, with Full before Memory, and so changes nothing but room, of
-    /// which there isn't less.
+    /// Forgets the open owner that may be forgotten at `now`, if one may: it has no open, and a lease has passed since
+    /// its kept request. Of those that may be it is the one that the least entry recorded. Enters that in the journal,
+    /// and returns the entry's number. Fails only where one may be forgotten, with Full before Memory, and so changes
+    /// nothing but room, of which there isn't less.
     pub fn forget(&mut self, now: Moment) -> Result<Option<u32>, CoreError>
         ensures forgotten { IfOk result (IsForgotten self.old self.new now) }
         ensures recalls { self.new.recalls ≡ self.old.recalls }
@@ -285,8 +280,9 @@ impl Core {
         }
     }
 
-    /// The same, where no owner may be forgotten that an entry before this one recorded. Tells as well which entry had
-    /// recorded the owner: whoever forgets all goes on from that one, and looks at each owner once.
+    /// Forgets an owner as `forget` does, if no owner may be forgotten that an entry before this one recorded. Tells as
+    /// well which entry had recorded the owner: whoever forgets all goes on from that entry, and looks at each owner
+    /// once.
     pub fn forget_from(&mut self, entry: u32, now: Moment) -> Result<Option<Forgotten>, CoreError>
         requires { NoneIsIdleBefore entry self.old now }
         ensures forgotten { IfOk result (IsForgottenFrom self.old self.new now) }

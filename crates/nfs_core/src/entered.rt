@@ -1,3 +1,5 @@
+//! What a call's caller learns of the entry that the call made.
+
 use nfs_owners::LiveChange;
 
 /// What came of an operation whose entry was made.
@@ -5,6 +7,6 @@ use nfs_owners::LiveChange;
 pub struct Entered {
     /// The number of the entry.
     pub number: u32,
-    /// Who came to be live by it, or is live no longer.
+    /// Which client became live by the operation, or is live no longer.
     pub live: LiveChange,
 }

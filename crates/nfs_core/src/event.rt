@@ -1,3 +1,5 @@
+//! What can happen without a call: ends of clients, delegations and owners, and path marks.
+
 ghost use Rattle.std.specs.Prelude.{◌≡◌};
 ghost use Rattle.nfs_core.specs.Events.{entry_by};
 
@@ -17,7 +19,7 @@ pub enum Event {
 }
 
 impl Event {
-    /// The entry that it makes.
+    /// The entry that the event makes.
     pub(crate) fn into_entry(self) -> Entry
         ensures { result ≡ entry_by self }
     {

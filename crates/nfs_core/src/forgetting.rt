@@ -24,12 +24,12 @@ use std::alloc::{AllocError, Global};
 pub(crate) struct IdleOwner {
     pub(crate) recorded: u32,
     pub(crate) owner: OpenOwner,
-    /// The same, for its removal.
+    /// A copy of the owner, for its removal.
     pub(crate) copy: OpenOwner,
 }
 
-/// Forgets the owner that may be forgotten and that the least entry recorded, and enters that in the journal. None that an
-/// entry before this one recorded may be. What fails changes nothing but room, of which there isn't less.
+/// Forgets the owner that may be forgotten and that the least entry recorded, and enters that in the journal. None that
+/// an entry before this one recorded may be. What fails changes nothing but room, of which there isn't less.
 pub(crate) fn forget_next(
     alloc: Global,
     held: &mut Holdings,
@@ -64,8 +64,8 @@ pub(crate) fn forget_next(
     }
 }
 
-// The owner that may be forgotten and that the least entry recorded, if there is one, where there is room for the entry of
-// its end. None that an entry before this one recorded may be.
+// The owner that may be forgotten and that the least entry recorded, if there is one, where there is room for the entry
+// of its end. None that an entry before this one recorded may be.
 fn next_owner(
     alloc: Global,
     store: &Store,

@@ -1,3 +1,5 @@
+//! The parts of a core, which its functions change together.
+
 use crate::pending_recalls::PendingRecalls;
 use nfs_state::Store;
 

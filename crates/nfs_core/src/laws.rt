@@ -1,3 +1,5 @@
+//! Laws on journals: one answer, one state and one list of recalls each, and that each state is safe.
+
 ghost use Rattle.nfs_core.specs.ForgetLaws.{OnlyIdleOwnersGo, ForgottenAreAsNew, OpenersStay};
 ghost use Rattle.nfs_core.specs.Lawful.{AtMostOneState, Lawful};
 ghost use Rattle.nfs_core.specs.LiveClients.{AreNumbered, AreOfOneRun, CallsFollow, EffectsFollow, EndsFollow, EventsFollow, NewcomersFindSlots};
@@ -61,9 +63,9 @@ pub fn at_most_one_state()
     at_most_one_decision();
 }
 
-/// The law that each state which a lawful journal leads to is safe, and that what is kept for each owner is an entry of the
-/// journal: a request that goes by a sequence id, with a status that counts. And where the journal is of a tree, no file has
-/// more bytes than a file may have.
+/// The law that each state which a lawful journal leads to is safe, and that what is kept for each owner is an entry of
+/// the journal: a request that goes by a sequence id, with a status that counts. And where the journal is of a tree, no
+/// file has more bytes than a file may have.
 pub fn lawful_is_safe()
     ensures safe { (journal : History) (state : State) → Lawful journal state → IsSafe state }
     ensures kept { (journal : History) (state : State) → Lawful journal state →
@@ -90,9 +92,9 @@ pub fn newcomers_find_slots()
     no_number_is_left();
 }
 
-/// The law of how entries change which clients are live: as their effects say. One becomes so by its confirmation, and once
-/// at most; one that is live stays so until a confirmation replaces it or it ends. Other events leave all clients as
-/// they are.
+/// The law of how entries change which clients are live: as their effects say. One becomes so by its confirmation, and
+/// once at most; one that is live stays so until a confirmation replaces it or it ends. Other events leave all clients
+/// as they are.
 pub fn live_clients_follow()
     ensures effects { EffectsFollow }
     ensures calls { CallsFollow }
@@ -112,8 +114,8 @@ pub fn openers_stay()
     ensures { OpenersStay }
 {}
 
-/// The law of what goes with the end of an owner: an owner that has no open, and whose kept request is older than a lease;
-/// and nothing else.
+/// The law of what goes with the end of an owner: an owner that has no open, and whose kept request is older than a
+/// lease; and nothing else.
 pub fn only_idle_owners_go()
     ensures { OnlyIdleOwnersGo }
 {}

@@ -15,6 +15,7 @@ mod holdings;
 mod laws;
 mod pending_recalls;
 mod recalling;
+mod revoking;
 
 pub use core_error::CoreError;
 pub use core_state::Core;

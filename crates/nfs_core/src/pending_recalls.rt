@@ -1,3 +1,5 @@
+//! The recalls that entries made and the sender hasn't taken yet.
+
 ghost use Rattle.std.specs.Prelude.{◌≡◌, ◌+◌, ◌≤◌, ◌++◌, ◌∷◌, [], IfNone, IfSome, IsOk, OnOk, length};
 ghost use Rattle.nfs_core.specs.Recalls.{left_of, no_recalls, with_more};
 
@@ -34,7 +36,7 @@ impl Model for PendingRecalls {
 }
 
 impl PendingRecalls {
-    /// None, of which none was taken.
+    /// No recalls, of which none was taken.
     pub(crate) fn new(alloc: Global) -> PendingRecalls
         ensures { left_of result ≡ no_recalls }
     {
@@ -45,7 +47,7 @@ impl PendingRecalls {
         }
     }
 
-    /// Those that weren't taken, in order.
+    /// The recalls that weren't taken, in order.
     pub(crate) fn pending(&self) -> &[Recall]
         ensures { result.now ≡ self.now.pending }
     {

@@ -1,3 +1,4 @@
+-- The types of NFSv4.0 as XDR forms, which contracts of reading and writing speak of.
 pub mod Principal
 pub mod ClientId
 pub mod Stateid

@@ -1,4 +1,5 @@
--- lock_owner4 (RFC 7530, section 9.1.5; RFC 7531): a client, and the name of one of those who lock bytes of files at it.
+-- lock_owner4 (RFC 7530, section 9.1.5; RFC 7531): a client, and the name of one of those who lock bytes of files at
+-- it.
 use Rattle.std.specs.Prelude.{Bool, ◌&&◌}
 use Rattle.std.specs.Str.{bytes_eq}
 use Rattle.std.proofs.Common.{refl}

@@ -25,6 +25,7 @@ number_of_refusal refusal.BadCookie = 10003
 number_of_refusal refusal.NotSupp = 10004
 number_of_refusal refusal.TooSmall = 10005
 number_of_refusal refusal.Delay = 10008
+number_of_refusal refusal.Same = 10009
 number_of_refusal refusal.Expired = 10011
 number_of_refusal refusal.Locked = 10012
 number_of_refusal refusal.ShareDenied = 10015
@@ -44,6 +45,7 @@ number_of_refusal refusal.BadXdr = 10036
 number_of_refusal refusal.LocksHeld = 10037
 number_of_refusal refusal.OpenMode = 10038
 number_of_refusal refusal.OpIllegal = 10044
+number_of_refusal refusal.CbPathDown = 10048
 
 abbrev pub number_of : Status → ℕ
 number_of Ok = 0

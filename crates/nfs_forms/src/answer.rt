@@ -1,3 +1,5 @@
+//! Results of operations, as a status with the data that only this status has.
+
 ghost use Rattle.std.specs.Prelude.{◌≡◌};
 ghost use Rattle.nfs_forms.specs.Answer as answers;
 

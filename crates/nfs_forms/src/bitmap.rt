@@ -1,3 +1,5 @@
+//! Sets of attributes, of which those of NFSv4.0 take no memory.
+
 ghost use Rattle.std.specs.Prelude.{◌≡◌, ◌≤◌, length, IfOk, IsOk};
 ghost use Rattle.nfs_forms.specs.Bitmap as forms;
 

@@ -1,3 +1,5 @@
+//! Moves large, rare values into memory of their own, so that the types that have them stay small.
+
 ghost use Rattle.std.specs.Prelude.{◌≡◌, IfOk};
 
 use std::alloc::{AllocError, Global};

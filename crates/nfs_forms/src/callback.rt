@@ -1,3 +1,5 @@
+//! Where and how a client wants callbacks, as SETCLIENTID says.
+
 ghost use Rattle.nfs_forms.specs.Callback as forms;
 
 use std::alloc::Global;

@@ -1,3 +1,5 @@
+//! The two change attributes that OPEN returns for its directory.
+
 ghost use Rattle.nfs_forms.specs.ChangeInfo as forms;
 ghost use Rattle.xdr.specs.Reading.{Answers};
 

@@ -1,3 +1,5 @@
+//! What OPEN opens: a file by name, or a file whose open or delegation the client reclaims.
+
 ghost use Rattle.std.specs.Prelude.{◌≡◌, ◌≢◌, MatchBool};
 ghost use Rattle.nfs_forms.specs.Claim as forms;
 ghost use Rattle.xdr.specs.Reading.{Answers};

@@ -1,3 +1,5 @@
+//! Clientids, which tell the clients of this run of the server from those of earlier runs.
+
 ghost use Rattle.std.specs.Prelude.{◌≡◌};
 ghost use Rattle.nfs_forms.specs.ClientId as forms;
 ghost use Rattle.nfs_forms.specs.ClientId.{number_in};

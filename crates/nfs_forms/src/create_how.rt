@@ -1,3 +1,5 @@
+//! The three ways in which OPEN creates a file.
+
 ghost use Rattle.std.specs.Prelude.{◌≡◌, ◌≢◌, MatchBool};
 ghost use Rattle.nfs_forms.specs.CreateHow as forms;
 ghost use Rattle.xdr.specs.Reading.{Answers};

@@ -1,3 +1,5 @@
+//! The kinds of delegations, as OPEN's claims and results number them.
+
 ghost use Rattle.nfs_forms.specs.DelegationType as forms;
 ghost use Rattle.xdr.specs.Reading.{Answers};
 

@@ -1,3 +1,5 @@
+//! Values of a file's attributes, as GETATTR, READDIR, SETATTR and OPEN carry them.
+
 ghost use Rattle.nfs_forms.specs.Fattr as forms;
 
 use crate::Bitmap;

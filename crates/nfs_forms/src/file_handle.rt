@@ -1,3 +1,5 @@
+//! Filehandles, which take no memory if this server made them.
+
 ghost use Rattle.std.specs.Prelude.{◌≡◌, ◌≤◌, length, IfOk, IsErrOf, IsOk};
 ghost use Rattle.nfs_forms.specs.FileHandle as forms;
 ghost use Rattle.nfs_forms.specs.FileHandle.{IsLong};

@@ -1,3 +1,5 @@
+//! States the limits on filehandles and owners' names as a law, so that a wrong constant fails the proof.
+
 ghost use Rattle.std.specs.Prelude.{◌≡◌};
 
 use crate::file_handle::FILE_HANDLE_LIMIT;

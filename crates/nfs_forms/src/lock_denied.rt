@@ -1,3 +1,5 @@
+//! The conflicting lock that LOCK and LOCKT return with NFS4ERR_DENIED.
+
 ghost use Rattle.nfs_forms.specs.LockDenied as forms;
 
 use crate::{LockOwner, LockType};

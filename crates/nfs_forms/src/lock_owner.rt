@@ -1,11 +1,13 @@
+//! Lock owners, as LOCK, LOCKT and RELEASE_LOCKOWNER name them.
+
 ghost use Rattle.nfs_forms.specs.LockOwner as forms;
 
 use crate::{ClientId, OWNER_NAME_LIMIT};
 use std::alloc::Global;
 use xdr::{Measure, Opaque, Wire, WireError, write_two};
 
-/// Who locks bytes of files at a client, such as one of its processes (lock_owner4; RFC 7530, section 9.1.5). Its name
-/// has nothing to do with those of open owners.
+/// Who locks bytes of files at a client, such as one of its processes (lock_owner4; RFC 7530, section 9.1.5). A lock
+/// owner may have the name of an open owner: the two names are unrelated.
 #[derive(Clone, PartialEq, Drop)]
 pub struct LockOwner {
     pub client: ClientId,

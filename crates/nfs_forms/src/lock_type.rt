@@ -1,3 +1,5 @@
+//! The four types of locks, of which two say that the client will ask again.
+
 ghost use Rattle.nfs_forms.specs.LockType as forms;
 ghost use Rattle.xdr.specs.Reading.{Answers};
 

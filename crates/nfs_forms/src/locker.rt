@@ -1,3 +1,5 @@
+//! The two ways in which LOCK names its owner: with an open for a new lock state, or by a lock state.
+
 ghost use Rattle.std.specs.Prelude.{◌≡◌, ◌≢◌, MatchBool};
 ghost use Rattle.nfs_forms.specs.Locker as forms;
 ghost use Rattle.xdr.specs.Reading.{Answers};

@@ -1,3 +1,5 @@
+//! The delegation in OPEN's result, of whose fields this server varies only the stateid.
+
 ghost use Rattle.nfs_forms.specs.OpenDelegation as forms;
 ghost use Rattle.nfs_forms.specs.OpenDelegation.{not_recalled};
 ghost use Rattle.nfs_forms.specs.Stateid.{stateid};

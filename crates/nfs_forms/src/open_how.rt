@@ -1,3 +1,5 @@
+//! Whether OPEN only opens a file or also creates it.
+
 ghost use Rattle.std.specs.Prelude.{◌≡◌, ◌≢◌, MatchBool};
 ghost use Rattle.nfs_forms.specs.OpenHow as forms;
 ghost use Rattle.xdr.specs.Reading.{Answers};

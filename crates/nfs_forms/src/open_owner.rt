@@ -1,3 +1,5 @@
+//! Open owners, as OPEN names them.
+
 ghost use Rattle.nfs_forms.specs.OpenOwner as forms;
 
 use crate::ClientId;

@@ -1,3 +1,5 @@
+//! Principals, by which the server tells whether two calls come from the same user.
+
 ghost use Rattle.std.specs.Prelude.{◌≡◌};
 
 /// Who sends a call: the flavor of its RPC credential, and under AUTH_SYS the uid (RFC 5531, section 8.2).

@@ -1,3 +1,5 @@
+//! How stable WRITE's bytes are to be, and are.
+
 ghost use Rattle.nfs_forms.specs.StableHow as forms;
 ghost use Rattle.xdr.specs.Reading.{Answers};
 

@@ -1,3 +1,5 @@
+//! Stateids, by which clients name opens, lock states and delegations.
+
 ghost use Rattle.std.specs.Prelude.{◌≡◌};
 ghost use Rattle.nfs_forms.specs.Stateid as forms;
 ghost use Rattle.nfs_forms.specs.Stateid.{is_all, is_special};

@@ -1,3 +1,5 @@
+//! The statuses of operations and of COMPOUND, with their numbers.
+
 ghost use Rattle.std.specs.Prelude.{◌≡◌};
 ghost use Rattle.nfs_forms.specs.Status as statuses;
 ghost use Rattle.nfs_forms.specs.Status.{number_of, number_of_refusal, status_of};
@@ -23,6 +25,7 @@ pub enum Refusal {
     NotSupp = 10004,
     TooSmall = 10005,
     Delay = 10008,
+    Same = 10009,
     Expired = 10011,
     Locked = 10012,
     ShareDenied = 10015,
@@ -42,6 +45,7 @@ pub enum Refusal {
     LocksHeld = 10037,
     OpenMode = 10038,
     OpIllegal = 10044,
+    CbPathDown = 10048,
 }
 
 impl Refusal {
@@ -60,13 +64,13 @@ pub enum Status {
     Ok,
     /// NFS4ERR_DENIED: the results of LOCK and LOCKT give the conflicting lock.
     Denied,
-    /// NFS4ERR_CLID_INUSE: the result of SETCLIENTID gives the address at which the client with the id is called back.
+    /// NFS4ERR_CLID_INUSE: the result of SETCLIENTID gives the callback address of the client that has the id.
     ClidInUse,
     Refused(Refusal),
 }
 
 /// Every status that this server knows.
-pub const STATUSES: [Status; 36] = [
+pub const STATUSES: [Status; 38] = [
     Status::Ok,
     Status::Refused(Refusal::NoEnt),
     Status::Refused(Refusal::Access),
@@ -82,6 +86,7 @@ pub const STATUSES: [Status; 36] = [
     Status::Refused(Refusal::NotSupp),
     Status::Refused(Refusal::TooSmall),
     Status::Refused(Refusal::Delay),
+    Status::Refused(Refusal::Same),
     Status::Denied,
     Status::Refused(Refusal::Expired),
     Status::Refused(Refusal::Locked),
@@ -103,6 +108,7 @@ pub const STATUSES: [Status; 36] = [
     Status::Refused(Refusal::LocksHeld),
     Status::Refused(Refusal::OpenMode),
     Status::Refused(Refusal::OpIllegal),
+    Status::Refused(Refusal::CbPathDown),
 ];
 
 impl Status {

@@ -1,3 +1,5 @@
+//! Verifiers, which tell one start of a client or of the server from another.
+
 ghost use Rattle.nfs_forms.specs.Verifier as forms;
 ghost use Rattle.xdr.specs.Reading.{Answers};
 

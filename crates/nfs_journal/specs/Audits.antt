@@ -24,7 +24,8 @@ pub record IsWrongAt (number : ℕ) (h : History) : Type 0 where
   pub wrong : HasNoStep (record h { entries = before }) state entry
 
 -- What an audit returned is a server with this journal, which leads to what is stored there, and none of whose recalls
--- was taken; or the number of the first wrong entry, with which the journal leads to no state, unless the audit ran out of memory.
+-- was taken; or the number of the first wrong entry, with which the journal leads to no state, unless the audit ran out
+-- of memory.
 abbrev pub Audits : Result Server AuditError → History → Type 0
 Audits (Ok core) h = (core.journal ≡ h) × IsLawful core × (core.recalls.taken ≡ 0)
 Audits (Err errors.Format) h = ⊥

@@ -1,3 +1,5 @@
+//! Why an audit refuses a file as a journal.
+
 ghost use Rattle.std.specs.Prelude.{◌≡◌};
 ghost use Rattle.nfs_journal.specs.Journals.{number_of};
 

@@ -1,11 +1,13 @@
+//! Audits a journal: a new core has to give the journal's answers again.
+
 ghost use Rattle.nfs_journal.specs.Audits.{Audits};
 
 use crate::{AuditError, FiledJournal};
 use nfs_core::{Core, FollowError, Seeds, at_most_one_state};
 use std::alloc::Global;
 
-/// A core to which the journal leads, with these seeds. WrongAnswer with the number of the first entry that can't follow those before it,
-/// if the journal isn't lawful; never Format.
+/// A core to which the journal leads, with these seeds. WrongAnswer with the number of the first entry that can't
+/// follow those before it, if the journal isn't lawful; never Format.
 pub fn audit(alloc: Global, journal: FiledJournal, seeds: Seeds) -> Result<Core, AuditError>
     ensures { Audits result journal }
 {

@@ -1,3 +1,5 @@
+//! Reads a value that takes up all bytes, and refuses any other encoding of the value.
+
 ghost use Rattle.nfs_journal.specs.Exact.{IsExactly};
 
 use std::alloc::Global;

@@ -1,3 +1,5 @@
+//! The form of a journal's file: its opening, the nodes, and the entries.
+
 ghost use Rattle.std.specs.List.{All, flat_map};
 ghost use Rattle.nfs_state.specs.EntryForm.{entry};
 ghost use Rattle.nfs_journal.specs.File as forms;

@@ -1,3 +1,5 @@
+//! The journal that was read from a file, before an audit has said whether it is lawful.
+
 use crate::Opening;
 use nfs_state::Entry;
 use nfs_tree::Tree;

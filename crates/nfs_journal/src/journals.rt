@@ -1,3 +1,5 @@
+//! Writes a journal as the bytes of its file, and reads it from them.
+
 ghost use Rattle.std.specs.Prelude.{◌≡◌, not};
 ghost use Rattle.std.specs.List.{list_all};
 ghost use Rattle.nfs_journal.specs.Journals.{Accepts, Reads, WritesFile, are_of_edition, is_entry, is_forget};

@@ -1,3 +1,5 @@
+//! The beginning of a journal's file: the letters of its edition, and what the server was started with.
+
 ghost use Rattle.std.specs.Prelude.{◌≡◌};
 ghost use Rattle.nfs_journal.specs.File as forms;
 ghost use Rattle.nfs_journal.specs.File.{of_profile, start_case, start_of};
@@ -36,7 +38,7 @@ pub struct Start {
     pub policy: Policy,
 }
 
-/// The same in a file of the second edition.
+/// What a file of the second edition has of what the server began with.
 #[derive(Clone, Copy)]
 pub struct SecondStart {
     pub epoch: u32,
@@ -45,7 +47,7 @@ pub struct SecondStart {
     pub callbacks: Callbacks,
 }
 
-/// The same in a file of the third edition, of either profile.
+/// What a file of the third edition, of either profile, has of what the server began with.
 #[derive(Clone, Copy)]
 pub struct ThirdStart {
     pub epoch: u32,

@@ -73,4 +73,5 @@ IsAloneIn is_open client = (other : ℕ) → slot_of other ≡ slot_of client �
 -- a book to a book.
 abbrev pub AllHappen : {Book : Type 0} → (Book → BookEvent → Book → Type 0) → Book → List BookEvent → Book → Type 0
 AllHappen happens old [] new = new ≡ old
-AllHappen {Book} happens old (event ∷ events) new = (mid : Book) × happens old event mid × AllHappen happens mid events new
+AllHappen {Book} happens old (event ∷ events) new =
+    (mid : Book) × happens old event mid × AllHappen happens mid events new

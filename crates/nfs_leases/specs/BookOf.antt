@@ -26,7 +26,7 @@ events_of_change (changes.Comes comes) moment = Open comes moment ∷ []
 events_of_change (changes.Replaces comes goes) moment = Open comes moment ∷ Retire goes ∷ []
 events_of_change (changes.Goes goes) moment = Retire goes ∷ []
 
--- the same after an operation, if it made an entry
+-- what is asked of the book after an operation, at this moment: nothing if the operation made no entry
 abbrev pub events_entered : Option Entered → ℕ → List BookEvent
 events_entered None moment = []
 events_entered (Some entered) moment = events_of_change entered.live moment

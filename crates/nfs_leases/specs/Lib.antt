@@ -1,3 +1,4 @@
+-- What contracts say of lease tables and sweeps.
 pub mod BookEvent
 pub mod BookOf
 pub mod PlainBook

@@ -1,5 +1,5 @@
--- How clients renew their leases (RFC 7530, sections 9.5 and 16.28): which operation renews whose, how, and what RENEW is
--- answered.
+-- How clients renew their leases (RFC 7530, sections 9.5 and 16.28): which operation renews whose, how, and what RENEW
+-- is answered.
 use Rattle.std.specs.Prelude.{ℕ, Bool, true, false, nat_lt, if◌then◌else◌, Option, option_and_then}
 use Rattle.nfs_forms.specs.Answer.{PlainAnswer}
 use Rattle.nfs_forms.specs.ClientId.{number_in}
@@ -16,8 +16,8 @@ use Rattle.nfs_xdr.specs.declared.op.Op.{Op}
 abbrev pub renewed_by : ℕ → Op → Option ℕ
 renewed_by epoch op = option_and_then (number_in epoch) (client_in (names_of op))
 
--- A lease after a renewal at this moment: of an open one the later of the two moments counts, so that none is shortened.
--- A lease that isn't open stays as it is.
+-- A lease after a renewal at this moment: of an open one the later of the two moments counts, so that none is
+-- shortened. A lease that isn't open stays as it is.
 abbrev pub renewed : LeaseState → ℕ → LeaseState
 renewed lease_state.Vacant moment = lease_state.Vacant
 renewed (lease_state.Open last) moment = lease_state.Open (if nat_lt last moment then moment else last)

@@ -93,7 +93,7 @@ IsLastAttempt (Some error) now found new = (NoneIsDue new now → ⊥)
     × AreAlike found new
     × IsWithoutRoom found error
 
--- The part of a sweep in which delegations are revoked, those with these numbers. It stops, or goes on until none is due.
+-- The part of a sweep in which the delegations with these numbers are revoked. It stops, or goes on until none is due.
 pub record RevokesDue (now : ℕ) (numbers : List ℕ) (stopped : Option CoreError) (old new : Server)
     : Type 0 where
   pub found : Server
@@ -124,7 +124,7 @@ IsLastForgetting (Some error) now found new = (NoneIsIdle new now → ⊥)
     × AreAlike found new
     × IsWithoutRoomForOwner found.journal error
 
--- The part of a sweep in which open owners are forgotten, these. It stops, or goes on until none may be.
+-- The part of a sweep in which these open owners are forgotten. It stops, or goes on until none may be forgotten.
 pub record ForgetsIdle (now : ℕ) (owners : List OpenOwner) (stopped : Option CoreError)
     (old new : Server) : Type 0 where
   pub found : Server
@@ -134,21 +134,22 @@ pub record ForgetsIdle (now : ℕ) (owners : List OpenOwner) (stopped : Option C
   -- the journal gained just their entries
   pub entries : Gains (forgettings now owners) old new
 
--- The same, unless the sweep had halted at a delegation: then no owner is forgotten, and it has stopped for that reason.
+-- The part of a sweep in which these open owners are forgotten, unless the sweep had halted at a delegation: then no
+-- owner is forgotten, and the sweep has stopped for that reason.
 abbrev pub ForgetsUnless : Option CoreError → ℕ → List OpenOwner → Option CoreError
     → Server → Server → Type 0
 ForgetsUnless (Some error) now owners stopped old new =
     (owners ≡ []) × (stopped ≡ Some error) × (new ≡ old)
 ForgetsUnless None now owners stopped old new = ForgetsIdle now owners stopped old new
 
--- The entries of a sweep: the ends of clients in these visits, then those of the delegations with these numbers, and then
--- those by which these open owners are forgotten.
+-- The entries of a sweep: the ends of clients in these visits, then those of the delegations with these numbers, and
+-- then those by which these open owners are forgotten.
 abbrev pub entries_of_sweep : ℕ → List Visit → List ℕ → List OpenOwner → List Entry
 entries_of_sweep now visits numbers owners =
     expiries (events_of_all now visits) ++ (revocations now numbers ++ forgettings now owners)
 
--- A sweep, in its parts, and how it was counted. First clients end, then delegations are revoked, and then open owners are
--- forgotten; the book stays as it is at these two.
+-- A sweep, in its parts, and how it was counted. First clients end, then delegations are revoked, and then open owners
+-- are forgotten; the book stays as it is at these two.
 pub record Sweeps {Book : Type 0} (happens : Book → BookEvent → Book → Type 0) (now : ℕ)
     (old : LeasedServer Book) (swept : Swept) (new : LeasedServer Book) : Type 0 where
   pub visits : List Visit

@@ -31,8 +31,8 @@ pub(crate) fn forget_unless(halted: Option<CoreError>, core: &mut Core, now: Mom
     }
 }
 
-// Forgets the open owners that may be forgotten at `now`, in the order of the entries that recorded them, until none may
-// be or there is no room for an entry. It goes on behind the last one, so that each owner is looked at once.
+// Forgets the open owners that may be forgotten at `now`, in the order of the entries that recorded them, until none
+// may be or there is no room for an entry. It goes on behind the last one, so that each owner is looked at once.
 fn forget_idle(core: &mut Core, now: Moment) -> Removals
     ensures forgets { (owners : List OpenOwner)
         × (result.count ≡ length owners)

@@ -1,3 +1,5 @@
+//! The trait of lease tables, by which one sweep serves both a plain list and words that threads share.
+
 ghost use Rattle.std.specs.Prelude.{◌≡◌, ℕ, Bool, IsTrue, true, false};
 ghost use Rattle.nfs_leases.specs.BookEvent.{BookEvent, Look, Renew, Close, Open, Retire, IsAloneIn};
 ghost use Rattle.nfs_leases.specs.BookEvent.{is_done, is_known, is_renewed, shows_open, shows_opened};
@@ -10,8 +12,8 @@ use nfs_state::Moment;
 /// The leases of clients, by the clients' numbers, in the hands of the one who opens, closes and retires them. Others
 /// may renew a lease at any time, also between two calls here: so a look may show a later moment than the last call
 /// left, and the next call may meet a later one than the look showed. A client's number is a generation of a slot. Its
-/// lease is opened once, while none of its slot is open and no later one of its slot was opened, and is closed or retired
-/// for good. No call takes memory.
+/// lease is opened once, while none of its slot is open and no later one of its slot was opened, and is closed or
+/// retired for good. No call takes memory.
 pub trait LeaseBook {
     /// How long a lease lasts without a renewal, in seconds.
     ghost lease: { Self → ℕ };

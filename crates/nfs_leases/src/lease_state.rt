@@ -1,12 +1,14 @@
+//! What a look at a client's lease shows.
+
 use nfs_state::Moment;
 
 /// A client's lease, as a look shows it.
 #[derive(Clone, Copy)]
 pub enum LeaseState {
-    /// Neither it nor a later one of its slot was opened.
+    /// The lease wasn't opened, nor was a lease of a later generation of the client's slot.
     Vacant,
-    /// It is open, and was opened or renewed at this moment and not later.
+    /// The lease is open, and was opened or renewed at this moment and not later.
     Open(Moment),
-    /// It was closed or retired, or a later one of its slot was opened.
+    /// The lease was closed or retired, or a lease of a later generation of the client's slot was opened.
     Closed,
 }

@@ -1,3 +1,5 @@
+//! A core with a lease table that is changed in step with it, so that exactly the live clients have open leases.
+
 ghost use Rattle.std.specs.Prelude.{◌≡◌, ◌↔◌, ◌≤◌, ◌+◌, [], ◌∷◌, IfErr, IfNone, IfOk, IfSome, IsTrue, None, Ok, OnErr, length};
 ghost use Rattle.nfs_core.specs.Entered.{Answers};
 ghost use Rattle.nfs_core.specs.Events.{EndsNoClient, IsForgotten, IsNotEntered, IsNotForgottenFor, NoneIsIdle, entry_by};
@@ -40,7 +42,8 @@ impl<B: LeaseBook> LeasedCore<B> {
     }
 
     /// Has the core answer a request. The leases follow: where a client becomes live by it, its lease is opened at the
-    /// request's moment; where one is replaced, its lease is retired. No lease is renewed: the caller does that, before.
+    /// request's moment; where one is replaced, its lease is retired. No lease is renewed: the caller does that,
+    /// before.
     pub fn call(&mut self, request: Request) -> (OpResult, Option<Entered>)
         requires entry { IsTrue (has_entry self.old.core.journal.policy.profile request.op) }
         requires node { IsFilehandle self.old.core.journal request.filehandle }
@@ -97,8 +100,8 @@ impl<B: LeaseBook> LeasedCore<B> {
         self.core.enter(event)
     }
 
-    /// Forgets the next open owner that may be forgotten at `now`, if one may, as the core does, and returns the entry's
-    /// number. The leases stay as they are.
+    /// Forgets the next open owner that may be forgotten at `now`, if one may, as the core does, and returns the
+    /// entry's number. The leases stay as they are.
     pub fn forget(&mut self, now: Moment) -> Result<Option<u32>, CoreError>
         ensures forgotten { IfOk result (IsForgotten self.old.core self.new.core now) }
         ensures none { result ≡ Ok None ↔ NoneIsIdle self.old.core now }

@@ -1,6 +1,5 @@
-//! The leases of clients: what a book of them promises, a book that is a plain list, and a core with the book of its
-//! clients' leases, whose sweep removes the clients whose leases are over, revokes the delegations that are due, and
-//! forgets open owners that have no open.
+//! The leases of clients: what a lease table promises, a plain lease table, and a core with its lease table. The sweep
+//! removes clients whose leases are over, revokes delegations that are due, and forgets open owners that have no open.
 #![tactic(auto)]
 
 mod closing;

@@ -1,3 +1,5 @@
+//! What a plain lease table keeps for each slot.
+
 ghost use Rattle.std.specs.Prelude.{◌≡◌};
 ghost use Rattle.nfs_leases.specs.PlainBook.{lease_in};
 
@@ -12,7 +14,7 @@ pub(crate) struct Place {
 }
 
 impl Place {
-    /// Of a slot of which no lease was opened.
+    /// The place of a slot of which no lease was opened.
     pub(crate) const EMPTY: Place = Place {
         generation: 0,
         lease: LeaseState::Vacant,

@@ -1,3 +1,5 @@
+//! A lease table for one thread, as `once` and the tests use it.
+
 ghost use Rattle.std.specs.Prelude.{◌≡◌, ◌<◌, ℕ, IfOk, false, length, replicate, slice_index_or, slice_set};
 ghost use Rattle.nfs_owners.specs.Slots.{generation_of, slot_of};
 ghost use Rattle.nfs_owners.specs.declared.slots.TheConstants.{SLOTS};

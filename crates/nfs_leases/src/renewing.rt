@@ -30,8 +30,8 @@ pub fn renewal_answer(is_open: bool) -> Answer<()>
     }
 }
 
-/// Renews the lease of the client with this number, if there is one. Returns whether the lease is open. The book has the
-/// leases of the same core as before.
+/// Renews the lease of the client with this number, if there is one. Returns whether the lease is open. The book has
+/// the leases of the same core as before.
 pub fn renew_lease(book: &mut PlainLeases, client: Option<u32>, moment: Moment) -> bool
     ensures book { book.new ≡ with_renewal client moment book.old }
     ensures open { result ≡ has_open_lease book.old client }

@@ -9,7 +9,8 @@ use crate::removals::Removals;
 use nfs_core::{Core, live_clients_follow};
 use nfs_state::Moment;
 
-/// Revokes the delegations that are due at `now`, by rising numbers, until none is due or there is no room for an entry.
+/// Revokes the delegations that are due at `now`, by rising numbers, until none is due or there is no room for an
+/// entry.
 pub(crate) fn revoke_due(core: &mut Core, now: Moment) -> Removals
     ensures revokes { (numbers : List ℕ)
         × (result.count ≡ length numbers)

@@ -17,10 +17,11 @@ use crate::{Closing, LeaseBook, LeaseState, Swept};
 use nfs_core::{Core, Event, live_clients_follow};
 use nfs_state::{Expire, Moment, is_over};
 
-/// Goes through the live clients, by rising numbers, and removes each whose lease is over at `now`: from the book, where
-/// the lease is still as it was seen, and then from the core. A client whose lease isn't over stays, and so does one
-/// whose lease was renewed meanwhile, or for whose entry there is no room. Then it revokes the delegations that are due,
-/// and then forgets the open owners that may be forgotten, until none is left of both, or there is no room for an entry.
+/// Goes through the live clients, by rising numbers, and removes each whose lease is over at `now`: from the book,
+/// where the lease is still as it was seen, and then from the core. A client whose lease isn't over stays, and so does
+/// one whose lease was renewed meanwhile, or for whose entry there is no room. Then it revokes the delegations that are
+/// due, and then forgets the open owners that may be forgotten, until none is left of both, or there is no room for an
+/// entry.
 pub fn sweep_core<B: LeaseBook>(core: &mut Core, book: &mut B, now: Moment) -> Swept
     requires agrees { IsBookOf (B.is_open book.old) (B.was_opened book.old) (B.lease book.old)
         core.old }
@@ -65,8 +66,8 @@ fn end_clients<B: LeaseBook>(core: &mut Core, book: &mut B, now: Moment) -> Swep
     swept
 }
 
-// Treats one live client: where its lease is over and there is room for an entry, the lease is closed, if it is still as
-// it was seen, and then the client is removed from the core.
+// Treats one live client: where its lease is over and there is room for an entry, the lease is closed, if it is still
+// as it was seen, and then the client is removed from the core.
 fn visit_of<B: LeaseBook>(core: &mut Core, book: &mut B, client: u32, now: Moment) -> VisitCase
     requires live { IsTrue (is_live client core.old.stored.clients) }
     requires run { AreOfOneRun core.old.journal (meaning core.old.stored) }

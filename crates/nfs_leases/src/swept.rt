@@ -1,3 +1,5 @@
+//! The counts that a sweep returns.
+
 ghost use Rattle.std.specs.Prelude.{◌≡◌, ◌-◌, ◌<◌, ◌^◌};
 ghost use Rattle.nfs_leases.specs.Visit.{total, with_case};
 
@@ -7,25 +9,25 @@ use nfs_core::CoreError;
 /// How many clients a sweep treated in which way, how many delegations it revoked, and how many open owners it forgot.
 #[derive(Clone, Copy, PartialEq, Eq)]
 pub struct Swept {
-    /// Those whose leases were closed, and that were removed.
+    /// Clients whose leases were closed, and that were removed.
     pub expired: u32,
-    /// Those whose leases aren't over.
+    /// Clients whose leases aren't over.
     pub kept: u32,
-    /// Those whose leases were renewed between the look and the attempt to close them.
+    /// Clients whose leases were renewed between the look and the attempt to close them.
     pub changed: u32,
-    /// Those that stay because the journal had no room for an entry.
+    /// Clients that stay because the journal had no room for an entry.
     pub refused: u32,
     /// How many delegations were revoked.
     pub revoked: u32,
     /// How many open owners were forgotten.
     pub forgotten: u32,
-    /// Why the sweep stopped at a delegation that is due or at an owner that may be forgotten, if it did: the journal had
-    /// no room for an entry, or memory ran out.
+    /// Why the sweep stopped at a delegation that is due or at an owner that may be forgotten, if it did: the journal
+    /// had no room for an entry, or memory ran out.
     pub stopped: Option<CoreError>,
 }
 
 impl Swept {
-    /// Of no client.
+    /// The counts of a sweep that has visited no client.
     pub const NONE: Swept = Swept {
         expired: 0,
         kept: 0,
@@ -36,7 +38,7 @@ impl Swept {
         stopped: None,
     };
 
-    /// One client more.
+    /// These counts with one more client, which was treated so.
     pub(crate) fn and(self, case: VisitCase) -> Swept
         requires { total self < 2 ^ 32 - 1 }
         ensures { result ≡ with_case self case }

@@ -1,3 +1,5 @@
+//! How a sweep treated one client, for the sweep's counts.
+
 /// How a sweep treated one client.
 #[derive(Clone, Copy)]
 pub(crate) enum VisitCase {

@@ -1,6 +1,7 @@
 pub mod Elements
 pub mod Files
 pub mod Indexed
+pub mod Named
 pub mod Compatible
 pub mod Meetings
 pub mod Unique

@@ -69,7 +69,7 @@ IsAboveAll number locks = AllByRecursion (IsAbove number) locks
 abbrev pub HasLockRoom : StoredLocks → Type 0
 HasLockRoom f = (0 < f.room) × IsTrue f.spare
 
--- the same of a node's file
+-- a first lock of a node's file takes no memory
 abbrev pub HasLockRoomAt : ℕ → List StoredLocks → Type 0
 HasLockRoomAt node files = IfSome (slice_get files node) HasLockRoom
 

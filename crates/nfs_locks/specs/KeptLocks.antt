@@ -22,7 +22,7 @@ pub record IsRowOf (names : RandomState) (r : Row LockState) : Type 0 where
   pub hashed : r.hash ≡ owner_hash names r.value.owner
   pub of_client : r.client ≡ r.value.owner.client.number
 
--- and so does each
+-- each row says of its lock state what it is found by
 abbrev pub AreRowsOf : RandomState → List (Row LockState) → Type 0
 AreRowsOf names rows = AllByRecursion (IsRowOf names) rows
 

@@ -1,3 +1,4 @@
+-- What contracts say of lock states, conflicting locks, and their places in memory.
 pub mod Locks
 pub mod StoredLocks
 pub mod KeptLocks

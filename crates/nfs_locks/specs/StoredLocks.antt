@@ -1,5 +1,6 @@
 -- What is stored of a lock state: pieces that give each byte its mode. Their room is left out.
 use Rattle.std.specs.Prelude.{ℕ, Bool, List, map}
+use Rattle.std.specs.declared.hash.RandomState.{RandomState}
 use Rattle.nfs_forms.specs.declared.lock_owner.LockOwner.{LockOwner}
 use Rattle.nfs_locks.specs.Locks.{ByteLocks}
 use Rattle.nfs_locks.specs.declared.lock_state.LockState.{LockState}
@@ -35,12 +36,13 @@ byte_locks l = record {
 abbrev pub lock_seen : LockState → ByteLocks
 lock_seen l = byte_locks (stored_lock l)
 
--- The lock states of a file in the order in which they began, how many more can begin without taking memory, and
--- whether there are ranges for the next one that are free and have room.
+-- The lock states of a file in the order in which they began, how many more can begin without taking memory, whether
+-- there are ranges for the next one that are free and have room, and the key of the hashes of their owners.
 pub record StoredLocks : Type 0 where
   pub states : List LockState
   pub room : ℕ
   pub spare : Bool
+  pub names : RandomState
 
 -- what is stored of the lock states of a file, no matter how much room they have
 abbrev pub stored_locks : List LockState → List StoredLock

@@ -1,8 +1,10 @@
+//! The lock states of one file, by owner and by number, and how each LOCK, LOCKU and CLOSE changes them.
+
 ghost use Rattle.std.specs.Prelude.{◌≡◌, ◌≤◌, ◌<◌, ◌&&◌, [], IfOk, IsFalse, IsOk, OnOk, None, length, option_map};
 ghost use Rattle.std.specs.List.{AllByRecursion, find, list_any};
 ghost use Rattle.std.specs.Option.{option_copied};
 ghost use Rattle.nfs_locks.specs.AllLocks.{HasLockRoom, HasRangeRoom, is_full_for};
-ghost use Rattle.nfs_locks.specs.KeptLocks.{NumbersRise};
+ghost use Rattle.nfs_locks.specs.KeptLocks.{NumbersRise, owner_hash};
 ghost use Rattle.nfs_locks.specs.Locks.{IsAbove, holds_bytes, is_lock_of, is_lock_of_client, is_numbered, is_stateid_of, is_under, with_first_lock, with_lock_change, without, would_be_full};
 ghost use Rattle.nfs_locks.specs.Report.{IsReport};
 ghost use Rattle.nfs_locks.specs.ReportSeen.{report_seen};
@@ -15,9 +17,8 @@ use crate::reserves::{reserve, roomy_ranges};
 use crate::{FirstLock, LockState, Report};
 use nfs_forms::{ClientId, LockOwner, Stateid};
 use nfs_ranges::{Mode, Piece, Range, Ranges};
-use nfs_rows::Rows;
+use nfs_rows::{OwnerSeed, Rows};
 use std::alloc::{AllocError, Global};
-use std::hash::RandomState;
 use std::marker::Model;
 
 /// The lock states of a file, in the order in which they began.
@@ -27,7 +28,7 @@ pub(crate) struct FileLocks {
     // ranges that are free and have room, for the next lock state
     spare: Option<Ranges>,
     // the key of the hashes of owners
-    names: RandomState,
+    names: OwnerSeed,
 }
 
 impl Model for FileLocks {
@@ -41,6 +42,7 @@ impl Model for FileLocks {
       states = states_of f.states.rows;
       room = f.states.room;
       spare = is_some f.spare;
+      names = f.names;
     } };
 
     ghost invariant = { λ f. AreRowsOf f.names f.states.rows
@@ -49,8 +51,9 @@ impl Model for FileLocks {
 
 impl FileLocks {
     /// A file without lock states, taking no memory. Owners are hashed with this key.
-    pub fn new(alloc: Global, names: RandomState) -> FileLocks
-        ensures { result.states ≡ [] }
+    pub fn new(alloc: Global, names: OwnerSeed) -> FileLocks
+        ensures states { result.states ≡ [] }
+        ensures names { result.names ≡ names }
     {
         FileLocks {
             states: Rows::new(alloc),
@@ -123,12 +126,12 @@ impl FileLocks {
         self.states.iter().any(|row| row.1.is_of_client(client))
     }
 
-    /// Whether this owner holds a byte.
-    pub fn holds(&self, owner: &LockOwner) -> bool
+    /// Whether this owner, whose hash is at hand, holds a byte.
+    pub fn holds(&self, hash: u64, owner: &LockOwner) -> bool
+        requires { hash ≡ owner_hash self.now.names owner.now }
         ensures { result ≡ list_any
             (λ l. is_lock_of owner.now (lock_seen l) && holds_bytes (lock_seen l)) self.now.states }
     {
-        let hash = owner_hash(self.names, owner);
         self.states
             .find_named(hash, |state| state.is_held_by(owner))
             .is_some()
@@ -170,6 +173,7 @@ impl FileLocks {
         ensures states { self.new.states ≡ self.old.states }
         ensures room { OnOk result (HasLockRoom self.new) }
         ensures ready { HasLockRoom self.old → IsOk result }
+        ensures names { self.new.names ≡ self.old.names }
     {
         self.states.reserve()?;
         if self.spare.is_none() {
@@ -183,6 +187,7 @@ impl FileLocks {
         ensures states { stored_locks self.new.states ≡ stored_locks self.old.states }
         ensures room { OnOk result (AllByRecursion (HasRangeRoom number) self.new.states) }
         ensures ready { AllByRecursion (HasRangeRoom number) self.old.states → IsOk result }
+        ensures names { self.new.names ≡ self.old.names }
     {
         let Some(state) = self.states.find_mut(u64::from(number)) else {
             return Ok(());
@@ -195,8 +200,9 @@ impl FileLocks {
     pub fn begin(&mut self, first: FirstLock, number: u32)
         requires room { HasLockRoom self.old }
         requires newest { IsAbove number (locks_seen self.old.states) }
-        ensures { locks_seen self.new.states
+        ensures states { locks_seen self.new.states
             ≡ with_first_lock first number (locks_seen self.old.states) }
+        ensures names { self.new.names ≡ self.old.names }
     {
         if let Some(ranges) = self.spare.take() {
             let hash = owner_hash(self.names, &first.owner);
@@ -210,8 +216,9 @@ impl FileLocks {
     pub fn change(&mut self, number: u32, change: Piece)
         requires room { AllByRecursion (HasRangeRoom number) self.old.states }
         requires place { IsFalse (is_full_for number change (locks_seen self.old.states)) }
-        ensures { locks_seen self.new.states
+        ensures states { locks_seen self.new.states
             ≡ with_lock_change number change (locks_seen self.old.states) }
+        ensures names { self.new.names ≡ self.old.names }
     {
         if let Some(state) = self.states.find_mut(u64::from(number)) {
             state.change(change);
@@ -220,25 +227,28 @@ impl FileLocks {
 
     /// CLOSE: removes the lock states under the open with this number.
     pub fn close(&mut self, open_number: u32)
-        ensures { locks_seen self.new.states
+        ensures states { locks_seen self.new.states
             ≡ without (is_under open_number) (locks_seen self.old.states) }
+        ensures names { self.new.names ≡ self.old.names }
     {
         remove_under(&mut self.states, open_number);
     }
 
-    /// Removes the lock state of this owner.
-    pub fn remove_owner(&mut self, owner: &LockOwner)
-        ensures { locks_seen self.new.states
+    /// Removes the lock state of this owner, whose hash is at hand.
+    pub fn remove_owner(&mut self, hash: u64, owner: &LockOwner)
+        requires { hash ≡ owner_hash self.old.names owner.now }
+        ensures states { locks_seen self.new.states
             ≡ without (is_lock_of owner.now) (locks_seen self.old.states) }
+        ensures names { self.new.names ≡ self.old.names }
     {
-        let hash = owner_hash(self.names, owner);
         remove_named(&mut self.states, hash, owner);
     }
 
     /// Removes the lock states of all owners of this client.
     pub fn remove_client(&mut self, client: ClientId)
-        ensures { locks_seen self.new.states
+        ensures states { locks_seen self.new.states
             ≡ without (is_lock_of_client client) (locks_seen self.old.states) }
+        ensures names { self.new.names ≡ self.old.names }
     {
         self.states
             .remove_of_client(client.number, |state| state.is_of_client(client));

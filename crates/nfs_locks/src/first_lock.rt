@@ -1,3 +1,5 @@
+//! What an owner's first LOCK of a file brings.
+
 use nfs_forms::LockOwner;
 use nfs_ranges::Piece;
 

@@ -1,3 +1,5 @@
+//! Laws that no byte is held by two owners, unless both read, and that LOCK's report is unique.
+
 ghost use Rattle.std.specs.Prelude.{◌≡◌, ℕ, Bool, true, List, Option, IsTrue};
 ghost use Rattle.std.specs.List.{AllByRecursion};
 ghost use Rattle.nfs_forms.specs.declared.lock_owner.LockOwner.{LockOwner};
@@ -13,8 +15,8 @@ ghost use Rattle.nfs_ranges.specs.declared.range.Range.{Range};
 use nfs_ranges::at_most_one_run;
 
 /// If no byte of a file is held by two owners unless both read, it stays so: when an owner makes its first lock or
-/// another change and no other owner's lock is in the way, where it alone has lock states with the number, and when lock
-/// states are removed.
+/// another change and no other owner's lock is in the way, where it alone has lock states with the number, and when
+/// lock states are removed.
 pub fn locks_stay_compatible()
     ensures begin { (first : FirstLock) (number : ℕ) (locks : List ByteLocks) →
         AllLocksAreCompatible locks → IsFreeFor first.owner first.change locks →

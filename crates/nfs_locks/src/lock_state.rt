@@ -1,3 +1,5 @@
+//! One lock owner's lock state of a file, with its stateid.
+
 use crate::FirstLock;
 use nfs_forms::{ClientId, LockOwner, Stateid};
 use nfs_ranges::{Piece, Ranges, first_change_has_place};

@@ -1,8 +1,11 @@
+//! The lock states of all files, found by stateid without a walk over the files.
+
 ghost use Rattle.std.specs.Prelude.{◌≡◌, ◌-◌, ◌&&◌, [], IfOk, IsFalse, IsOk, OnOk, map, option_map, replicate};
 ghost use Rattle.std.specs.List.{list_any};
 ghost use Rattle.std.specs.Option.{option_copied};
 ghost use Rattle.nfs_locks.specs.AllLocks.{HasLockRoomAt, HasRoomFor, IsAboveAll, at_node, holds, is_full_for, lock_count, lock_named_in, locks_in, locks_of, stored_in, with_locks};
 ghost use Rattle.nfs_locks.specs.LockFound.{lock_found_seen};
+ghost use Rattle.nfs_locks.specs.LockNodes.{HaveHash, names_of};
 ghost use Rattle.nfs_locks.specs.Locks.{holds_bytes, holds_under, is_lock_of, is_lock_of_client, is_under, lock_of, with_first_lock, with_lock_change, without};
 ghost use Rattle.nfs_locks.specs.Report.{IsReport};
 ghost use Rattle.nfs_locks.specs.ReportSeen.{report_seen};
@@ -10,16 +13,17 @@ ghost use Rattle.nfs_locks.specs.StoredLocks.{lock_seen};
 
 use crate::file_locks::FileLocks;
 use crate::numbers::{close_in, reserve_number};
+use crate::owner_hash::owner_hash;
 use crate::{FirstLock, LockState, Report};
 use nfs_forms::{ClientId, LockOwner, Stateid};
 use nfs_nodes::Nodes;
 use nfs_ranges::{Mode, Piece, Range};
+use nfs_rows::OwnerSeed;
 use std::alloc::{AllocError, Global};
-use std::hash::RandomState;
 use std::marker::Model;
 
-/// The lock states of all files, by the numbers of their nodes. A node that there isn't has no lock states, and a change
-/// of its lock states changes nothing.
+/// The lock states of all files, by the numbers of their nodes. A node that there isn't has no lock states, and a
+/// change of its lock states changes nothing.
 #[derive(Drop)]
 pub struct Locks {
     files: Vec<FileLocks>,
@@ -27,6 +31,8 @@ pub struct Locks {
     nodes: Nodes,
     // How many lock states there are.
     count: usize,
+    // the key of the hashes of owners, in all files
+    names: OwnerSeed,
 }
 
 /// A lock state, and the node of its file.
@@ -39,7 +45,7 @@ pub struct LockFound<'a> {
 impl Model for Locks {
     ghost use Rattle.std.specs.Prelude.{List, map};
     ghost use Rattle.nfs_locks.specs.AllLocks.{locks_in};
-    ghost use Rattle.nfs_locks.specs.LockNodes.{number_of, within_room};
+    ghost use Rattle.nfs_locks.specs.LockNodes.{AreNamedBy, number_of, within_room};
     ghost use Rattle.nfs_locks.specs.StoredLocks.{StoredLocks};
     ghost use Rattle.nfs_nodes.specs.Numbers.{AreFound};
 
@@ -47,12 +53,13 @@ impl Model for Locks {
 
     ghost view = { λ l. map (within_room l.nodes.room) l.files.items };
 
-    ghost invariant = { λ l. AreFound number_of l.nodes l.count (locks_in l.files.items) };
+    ghost invariant = { λ l. AreFound number_of l.nodes l.count (locks_in l.files.items)
+        × AreNamedBy l.names l.files.items };
 }
 
 impl Locks {
     /// No lock states of any of these nodes.
-    pub fn new(alloc: Global, nodes: u32, names: RandomState) -> Result<Locks, AllocError>
+    pub fn new(alloc: Global, nodes: u32, names: OwnerSeed) -> Result<Locks, AllocError>
         ensures { IfOk result (λ locks. stored_in locks ≡ replicate nodes []) }
     {
         let mut files = Vec::new(alloc);
@@ -64,6 +71,7 @@ impl Locks {
             files,
             nodes: Nodes::new(alloc),
             count: 0,
+            names,
         })
     }
 
@@ -95,7 +103,8 @@ impl Locks {
     pub fn holds(&self, owner: &LockOwner) -> bool
         ensures { result ≡ holds owner.now (locks_in self.now) }
     {
-        holds_in(&self.files, owner)
+        let hash = owner_hash(self.names, owner);
+        holds_in(&self.files, hash, owner)
     }
 
     /// Whether a lock state of the node's file, under the open with this number, holds a byte.
@@ -115,8 +124,8 @@ impl Locks {
         limit.saturating_sub(self.count)
     }
 
-    /// Whether a change of the lock state of the node's file with this number would make more runs of bytes than an owner
-    /// may have of a file.
+    /// Whether a change of the lock state of the node's file with this number would make more runs of bytes than an
+    /// owner may have of a file.
     pub fn is_full_for(&self, node: u32, number: u32, change: Piece) -> bool
         ensures { result ≡ is_full_for number change (locks_of node (locks_in self.now)) }
     {
@@ -212,7 +221,8 @@ impl Locks {
     pub fn remove_owner(&mut self, owner: &LockOwner)
         ensures { locks_in self.new ≡ map (without (is_lock_of owner.now)) (locks_in self.old) }
     {
-        remove_owner_each(&mut self.files, owner);
+        let hash = owner_hash(self.names, owner);
+        remove_owner_each(&mut self.files, hash, owner);
         self.count -= places_left(&self.files, self.count);
     }
 
@@ -233,11 +243,18 @@ fn has_client_in(files: &[FileLocks], client: ClientId) -> bool
     files.iter().any(|file| file.has_client(client))
 }
 
-fn holds_in(files: &[FileLocks], owner: &LockOwner) -> bool
+// Whether the owner, whose hash is at hand, holds a byte of one of these files.
+fn holds_in(files: &[FileLocks], hash: u64, owner: &LockOwner) -> bool
+    requires { HaveHash hash owner.now files.now }
     ensures { result ≡ list_any (λ f. list_any
         (λ l. is_lock_of owner.now (lock_seen l) && holds_bytes (lock_seen l)) f.states) files.now }
 {
-    files.iter().any(|file| file.holds(owner))
+    for file in files.iter() {
+        if file.holds(hash, owner) {
+            return true;
+        }
+    }
+    false
 }
 
 // How many places of this limit the lock states of these files leave.
@@ -251,30 +268,37 @@ fn places_left(files: &[FileLocks], limit: usize) -> usize
     left
 }
 
-fn remove_owner_each(files: &mut Vec<FileLocks>, owner: &LockOwner)
-    ensures { locks_in files.new.items
+fn remove_owner_each(files: &mut Vec<FileLocks>, hash: u64, owner: &LockOwner)
+    requires { HaveHash hash owner.now files.old.items }
+    ensures locks { locks_in files.new.items
         ≡ map (without (is_lock_of owner.now)) (locks_in files.old.items) }
+    ensures names { names_of files.new.items ≡ names_of files.old.items }
 {
-    remove_owner_in(files, owner);
+    remove_owner_in(files, hash, owner);
 }
 
-fn remove_owner_in(files: &mut [FileLocks], owner: &LockOwner)
-    ensures { locks_in files.new ≡ map (without (is_lock_of owner.now)) (locks_in files.old) }
+fn remove_owner_in(files: &mut [FileLocks], hash: u64, owner: &LockOwner)
+    requires { HaveHash hash owner.now files.old }
+    ensures locks { locks_in files.new ≡ map (without (is_lock_of owner.now)) (locks_in files.old) }
+    ensures names { names_of files.new ≡ names_of files.old }
 {
     for file in files.iter_mut() {
-        file.remove_owner(owner);
+        file.remove_owner(hash, owner);
     }
 }
 
 fn remove_client_each(files: &mut Vec<FileLocks>, client: ClientId)
-    ensures { locks_in files.new.items
+    ensures locks { locks_in files.new.items
         ≡ map (without (is_lock_of_client client)) (locks_in files.old.items) }
+    ensures names { names_of files.new.items ≡ names_of files.old.items }
 {
     remove_client_in(files, client);
 }
 
 fn remove_client_in(files: &mut [FileLocks], client: ClientId)
-    ensures { locks_in files.new ≡ map (without (is_lock_of_client client)) (locks_in files.old) }
+    ensures locks { locks_in files.new
+        ≡ map (without (is_lock_of_client client)) (locks_in files.old) }
+    ensures names { names_of files.new ≡ names_of files.old }
 {
     for file in files.iter_mut() {
         file.remove_client(client);

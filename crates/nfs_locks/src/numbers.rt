@@ -1,3 +1,5 @@
+//! Keeps the index from lock states' numbers to nodes, from which removed states go only when room is needed.
+
 ghost use Rattle.std.specs.Prelude.{◌≡◌, ◌+◌, ◌<◌, ◌≤◌, IsOk, OnOk, length};
 ghost use Rattle.std.specs.List.{list_any};
 ghost use Rattle.nfs_locks.specs.AllLocks.{locks_in, locks_of};
@@ -72,6 +74,7 @@ pub(crate) fn close_in(file: &mut FileLocks, open_number: u32) -> usize
         ≡ without (is_under open_number) (locks_seen file.old.states) }
     ensures gone { result + length (locks_seen file.new.states)
         ≡ length (locks_seen file.old.states) }
+    ensures names { file.new.names ≡ file.old.names }
 {
     let before = file.len();
     file.close(open_number);

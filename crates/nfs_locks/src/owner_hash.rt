@@ -1,16 +1,17 @@
+//! Hashes lock owners with a key, by clientid and name.
+
 ghost use Rattle.std.specs.Prelude.{◌≡◌, ◌+◌, ◌*◌, ◌^◌};
 ghost use Rattle.nfs_locks.specs.KeptLocks.{owner_hash};
 
 use nfs_forms::LockOwner;
-use nfs_rows::hash_of;
-use std::hash::RandomState;
+use nfs_rows::OwnerSeed;
 
 /// The keyed hash of a lock owner.
-pub(crate) fn owner_hash(names: RandomState, owner: &LockOwner) -> u64
+pub(crate) fn owner_hash(names: OwnerSeed, owner: &LockOwner) -> u64
     ensures { result ≡ owner_hash names owner.now }
 {
     let client = client_number(owner.client.epoch, owner.client.number);
-    hash_of(names, client, 0, owner.name.as_slice())
+    names.hash(client, 0, owner.name.as_slice())
 }
 
 // The number of the clientid of these two parts.

@@ -1,3 +1,5 @@
+//! Orders lock owners, so that it is determined which conflicting lock LOCK reports.
+
 ghost use Rattle.std.specs.Prelude.{◌≡◌};
 ghost use Rattle.nfs_locks.specs.Report.{owner_order};
 

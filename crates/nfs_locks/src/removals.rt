@@ -1,3 +1,5 @@
+//! Removes lock states by owner and by open.
+
 ghost use Rattle.std.specs.Prelude.{◌≡◌, find, option_map};
 ghost use Rattle.nfs_locks.specs.KeptLocks.{AreOfClients};
 ghost use Rattle.nfs_locks.specs.Locks.{is_lock_of, is_under};

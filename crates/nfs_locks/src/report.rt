@@ -1,3 +1,5 @@
+//! Finds the conflicting lock that LOCK and LOCKT report.
+
 ghost use Rattle.std.specs.Prelude.{◌≡◌, [], ◌∷◌, Some, option_map};
 ghost use Rattle.nfs_locks.specs.KeptLocks.{states_of};
 ghost use Rattle.nfs_locks.specs.Report.{IsMeeting, IsReport};
@@ -61,8 +63,8 @@ fn meeting_among<'a>(
     first
 }
 
-// The first byte that this lock state refuses, with the report of it, where this byte is the first in the way of another
-// owner.
+// The first byte that this lock state refuses, with the report of it, where this byte is the first in the way of
+// another owner.
 fn meeting_at<'a>(
     state: &'a LockState,
     owner: &LockOwner,

@@ -1,3 +1,5 @@
+//! Makes ranges with room for a change, before a LOCK is committed.
+
 ghost use Rattle.std.specs.Prelude.{◌≡◌, ◌<◌, [], IfOk, IsOk, OnOk};
 
 use nfs_ranges::Ranges;

@@ -14,7 +14,7 @@ module _ {X : Type 0} (number : X → ℕ) where
   StandAt nodes node xs =
       AllByRecursion (λ x. node_of (number x) nodes ≡ Some node) xs × Rise 0 xs
 
-  -- so it is for each node, from this one on
+  -- the things of each node are found there, and their numbers rise, from this node on
   abbrev pub StandFrom : RoomyNodes → ℕ → List (List X) → Type 0
   StandFrom nodes node [] = ⊤
   StandFrom nodes node (xs ∷ lists) = StandAt nodes node xs × StandFrom nodes (node + 1) lists
@@ -25,7 +25,8 @@ total [] = 0
 total (xs ∷ lists) = length xs + total lists
 
 -- The things of each node are found there; they are so many.
-pub record AreFound {X : Type 0} (number : X → ℕ) (nodes : RoomyNodes) (count : ℕ) (lists : List (List X)) : Type 0 where
+pub record AreFound {X : Type 0} (number : X → ℕ) (nodes : RoomyNodes) (count : ℕ) (lists : List (List X))
+    : Type 0 where
   pub stand : StandFrom number nodes 0 lists
   pub counted : count ≡ total lists
   pub few : length lists < 2 ^ 32

@@ -1,3 +1,5 @@
+//! An index from the number in a stateid to the node of its file, so that no lookup walks over all files.
+
 ghost use Rattle.std.specs.Prelude.{◌≡◌, ◌<◌, ◌≤◌, ◌/◌, ◌&&◌, [], IsOk, None, OnOk, Some, length, nat_eq, nat_lt, slice_get};
 ghost use Rattle.nfs_nodes.specs.Nodes.{Forgets, HasAt, node_of};
 

@@ -1,3 +1,4 @@
+-- The arguments and results of each operation as XDR forms.
 pub mod Access
 pub mod Close
 pub mod Commit

@@ -1,3 +1,5 @@
+//! ACCESS's arguments and result.
+
 ghost use Rattle.nfs_operations.specs.Access as forms;
 ghost use Rattle.xdr.specs.Reading.{Answers};
 

@@ -1,3 +1,5 @@
+//! CLOSE's arguments and result.
+
 ghost use Rattle.nfs_operations.specs.Close as forms;
 ghost use Rattle.xdr.specs.Reading.{Answers};
 

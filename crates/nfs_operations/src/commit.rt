@@ -1,3 +1,5 @@
+//! COMMIT's arguments and result.
+
 ghost use Rattle.nfs_operations.specs.Commit as forms;
 ghost use Rattle.xdr.specs.Reading.{Answers};
 

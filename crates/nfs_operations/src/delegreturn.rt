@@ -1,3 +1,5 @@
+//! DELEGRETURN's arguments and result.
+
 ghost use Rattle.nfs_operations.specs.Delegreturn as forms;
 ghost use Rattle.xdr.specs.Reading.{Answers};
 

@@ -1,3 +1,5 @@
+//! GETATTR's arguments and result.
+
 use nfs_forms::{Answer, Bitmap, Fattr};
 
 /// The attributes that the client asks for (RFC 7530, section 16.7).

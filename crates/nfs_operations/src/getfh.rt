@@ -1,3 +1,5 @@
+//! GETFH's result; the operation has no arguments.
+
 use nfs_forms::{Answer, FileHandle};
 
 /// GETFH has no arguments (RFC 7530, section 16.8).

@@ -1,3 +1,5 @@
+//! States the limit on a client's id as a law, so that a wrong constant fails the proof.
+
 ghost use Rattle.std.specs.Prelude.{◌≡◌};
 
 use crate::setclientid::ID_LIMIT;

@@ -1,3 +1,5 @@
+//! LOCK's arguments and result, which with NFS4ERR_DENIED has the conflicting lock.
+
 ghost use Rattle.std.specs.Prelude.{◌≡◌, ◌≢◌, MatchBool};
 ghost use Rattle.nfs_operations.specs.Lock as forms;
 

@@ -1,3 +1,5 @@
+//! LOCKT's arguments and result, which with NFS4ERR_DENIED has the conflicting lock.
+
 ghost use Rattle.nfs_operations.specs.Lockt as forms;
 
 use nfs_forms::{Answer, LockDenied, LockOwner, LockType};

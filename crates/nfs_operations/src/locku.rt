@@ -1,3 +1,5 @@
+//! LOCKU's arguments and result.
+
 ghost use Rattle.nfs_operations.specs.Locku as forms;
 ghost use Rattle.xdr.specs.Reading.{Answers};
 

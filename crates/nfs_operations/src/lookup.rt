@@ -1,3 +1,5 @@
+//! LOOKUP's arguments and result.
+
 use nfs_forms::Answer;
 use xdr::Bytes;
 

@@ -1,3 +1,5 @@
+//! OPEN's arguments and result.
+
 ghost use Rattle.std.specs.Prelude.{◌≡◌, ◌≢◌, MatchBool};
 ghost use Rattle.nfs_operations.specs.Open as forms;
 

@@ -1,3 +1,5 @@
+//! OPEN_CONFIRM's arguments and result.
+
 ghost use Rattle.nfs_operations.specs.OpenConfirm as forms;
 ghost use Rattle.xdr.specs.Reading.{Answers};
 

@@ -1,3 +1,5 @@
+//! OPEN_DOWNGRADE's arguments and result.
+
 ghost use Rattle.nfs_operations.specs.OpenDowngrade as forms;
 ghost use Rattle.xdr.specs.Reading.{Answers};
 

@@ -1,3 +1,5 @@
+//! PUTROOTFH's result; the operation has no arguments.
+
 use nfs_forms::Answer;
 
 /// PUTROOTFH has no arguments (RFC 7530, section 16.22).

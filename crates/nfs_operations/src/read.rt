@@ -1,9 +1,11 @@
+//! READ's arguments and result, whose bytes the journal and the reply share.
+
 ghost use Rattle.nfs_operations.specs.Read as forms;
 ghost use Rattle.xdr.specs.Reading.{Answers};
 
 use nfs_forms::{Answer, Stateid};
 use std::alloc::Global;
-use xdr::{Measure, SharedBytes, Wire, WireError, write_three, write_two};
+use xdr::{ByteParts, Measure, Wire, WireError, write_three, write_two};
 
 /// The bytes of a file that are asked for, and by which right (RFC 7530, section 16.23).
 pub type Arguments = Read;
@@ -27,7 +29,7 @@ pub type Outcome = Answer<ReadOk>;
 pub struct ReadOk {
     /// Whether the file ends with the last of the bytes, or before the first one.
     pub eof: bool,
-    pub bytes: SharedBytes,
+    pub bytes: ByteParts,
 }
 
 impl Wire for Read {
@@ -60,7 +62,7 @@ impl Wire for ReadOk {
     #[tactic(auto, unfolding(crate::specs::Read::read_ok))]
     fn read(alloc: Global, bytes: &[u8]) -> Result<(ReadOk, &[u8]), WireError> {
         let (eof, rest) = bool::read(alloc, bytes)?;
-        let (bytes, rest) = SharedBytes::read(alloc, rest)?;
+        let (bytes, rest) = ByteParts::read(alloc, rest)?;
         Ok((ReadOk { eof, bytes }, rest))
     }
 

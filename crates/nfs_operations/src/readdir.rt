@@ -1,3 +1,5 @@
+//! READDIR's arguments and result, whose entries the journal and the reply share.
+
 ghost use Rattle.std.specs.Prelude.{◌≡◌, ◌≢◌, IfOk, MatchBool};
 ghost use Rattle.nfs_operations.specs.Readdir as forms;
 ghost use Rattle.xdr.specs.Form.{chain};

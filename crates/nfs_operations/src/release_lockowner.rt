@@ -1,3 +1,5 @@
+//! RELEASE_LOCKOWNER's arguments and result.
+
 ghost use Rattle.nfs_operations.specs.ReleaseLockowner as forms;
 
 use nfs_forms::{Answer, LockOwner};

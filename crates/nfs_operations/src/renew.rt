@@ -1,3 +1,5 @@
+//! RENEW's arguments and result.
+
 ghost use Rattle.nfs_operations.specs.Renew as forms;
 
 use nfs_forms::{Answer, ClientId};

@@ -1,3 +1,5 @@
+//! RESTOREFH's result; the operation has no arguments.
+
 use nfs_forms::Answer;
 
 /// RESTOREFH has no arguments (RFC 7530, section 16.29).

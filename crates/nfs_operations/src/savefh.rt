@@ -1,3 +1,5 @@
+//! SAVEFH's result; the operation has no arguments.
+
 use nfs_forms::Answer;
 
 /// SAVEFH has no arguments (RFC 7530, section 16.30).

@@ -1,3 +1,5 @@
+//! SETATTR's arguments and result, which with each status has the attributes that were set.
+
 ghost use Rattle.std.specs.Prelude.{◌≡◌, []};
 ghost use Rattle.nfs_operations.specs.Setattr as forms;
 ghost use Rattle.nfs_operations.specs.Setattr.{refused};
@@ -52,7 +54,7 @@ impl SetattrResult {
 /// its words.
 #[derive(Drop)]
 pub struct AttributesSet {
-    // None for the empty bitmap.
+    // `None` is the empty bitmap.
     bitmap: Option<Bitmap>,
 }
 

@@ -1,3 +1,5 @@
+//! SETCLIENTID's arguments and result, which with NFS4ERR_CLID_INUSE has the other client's address.
+
 ghost use Rattle.nfs_operations.specs.Setclientid as forms;
 
 use crate::setclientid_confirm::SetclientidConfirm;

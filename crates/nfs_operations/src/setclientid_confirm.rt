@@ -1,3 +1,5 @@
+//! SETCLIENTID_CONFIRM's arguments, which SETCLIENTID returns, and its result.
+
 ghost use Rattle.nfs_operations.specs.SetclientidConfirm as forms;
 ghost use Rattle.xdr.specs.Reading.{Answers};
 

@@ -1,3 +1,5 @@
+//! WRITE's arguments and result.
+
 ghost use Rattle.nfs_operations.specs.Write as forms;
 ghost use Rattle.xdr.specs.Reading.{Answers};
 
@@ -30,7 +32,8 @@ pub struct WriteOk {
     pub count: u32,
     /// How much is in stable storage.
     pub committed: StableHow,
-    /// Another one tells the client that the server restarted, and may have lost what isn't in stable storage.
+    /// The verifier of the server's run. Another verifier tells the client that the server restarted, and may have lost
+    /// what isn't in stable storage.
     pub verifier: Verifier,
 }
 

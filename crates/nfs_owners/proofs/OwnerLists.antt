@@ -93,12 +93,12 @@ owners_change change name owners are = (omega (arith, length-map {B = Owner} own
 pub owners_push : (owners : List Owner) (o : Owner) → AreOwners owners → is_known o.name owners ≡ false → length owners < OWNER_LIMIT → AreOwners (owners ++ o ∷ [])
 owners_push owners o are new below = (omega (arith, length-append owners (o ∷ []), below), apart_push owners o are.1 new)
 
-pub owners_kept : (name : StateOwner) (number : ℕ) (kept : KeptSummary) (owners : List Owner) → AreOwners owners → has_place name owners ≡ true → AreOwners (with_kept name number kept owners)
-owners_kept name number kept owners are place = by (is_known name owners) refl
+pub owners_kept : (name : StateOwner) (number : ℕ) (kept : KeptSummary) (confirmed : Bool) (owners : List Owner) → AreOwners owners → has_place name owners ≡ true → AreOwners (with_kept name number kept confirmed owners)
+owners_kept name number kept confirmed owners are place = by (is_known name owners) refl
   where
-    by : (b : Bool) → is_known name owners ≡ b → AreOwners (with_kept name number kept owners)
+    by : (b : Bool) → is_known name owners ≡ b → AreOwners (with_kept name number kept confirmed owners)
     by true known = rw known (owners_change (with_request number kept) name owners are)
-    by false unknown = rw unknown (owners_push owners (new_owner name number kept) are unknown (grind (arith, place, unknown)))
+    by false unknown = rw unknown (owners_push owners (new_owner name number kept confirmed) are unknown (grind (arith, place, unknown)))
 
 not_not : (b : Bool) → b ≡ not (not b)
 not_not true = refl

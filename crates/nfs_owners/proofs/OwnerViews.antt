@@ -1,5 +1,5 @@
 -- What a change of rows is to the owners in them.
-use Rattle.std.proofs.Common.{◌≡◌, ℕ, false, Some, None, Option, List, [], ◌∷◌, ◌++◌, is_some, refl, sym, ap, ◌∙◌, subst}
+use Rattle.std.proofs.Common.{◌≡◌, ℕ, Bool, false, Some, None, Option, List, [], ◌∷◌, ◌++◌, is_some, refl, sym, ap, ◌∙◌, subst}
 use Rattle.std.specs.Prelude.{if◌then◌else◌}
 use Rattle.nfs_rows.specs.Rows.{Row, is_numbered, without}
 use Rattle.nfs_rows.proofs.Callers.{without_seen}
@@ -17,17 +17,17 @@ pub some_known : (name : StateOwner) (rows : List (Row Owner)) (at : Option ℕ)
 some_known name rows None is = sym is
 some_known name rows (Some row) is = sym is.0
 
-pub kept_known : (name : StateOwner) (number : ℕ) (kept : KeptSummary) (row : ℕ) (rows new : List (Row Owner)) → IsRowOf name rows (Some row) → new ≡ with_state_at (with_request number kept) row rows
-    → owners_in new ≡ with_kept name number kept (owners_in rows)
-kept_known name number kept row rows new is set =
+pub kept_known : (name : StateOwner) (number : ℕ) (kept : KeptSummary) (confirmed : Bool) (row : ℕ) (rows new : List (Row Owner)) → IsRowOf name rows (Some row) → new ≡ with_state_at (with_request number kept) row rows
+    → owners_in new ≡ with_kept name number kept confirmed (owners_in rows)
+kept_known name number kept confirmed row rows new is set =
     ap owners_in set ∙ state_seen (with_request number kept) row name rows is.1
-    ∙ sym (ap (λ b. if b then with_change (with_request number kept) name (owners_in rows) else owners_in rows ++ new_owner name number kept ∷ []) is.0)
+    ∙ sym (ap (λ b. if b then with_change (with_request number kept) name (owners_in rows) else owners_in rows ++ new_owner name number kept confirmed ∷ []) is.0)
 
-pub kept_unknown : (name : StateOwner) (number : ℕ) (kept : KeptSummary) (o : Owner) (owners new : List Owner) → is_known name owners ≡ false → o ≡ new_owner name number kept → new ≡ owners ++ o ∷ []
-    → new ≡ with_kept name number kept owners
-kept_unknown name number kept o owners new unknown is set =
+pub kept_unknown : (name : StateOwner) (number : ℕ) (kept : KeptSummary) (confirmed : Bool) (o : Owner) (owners new : List Owner) → is_known name owners ≡ false → o ≡ new_owner name number kept confirmed → new ≡ owners ++ o ∷ []
+    → new ≡ with_kept name number kept confirmed owners
+kept_unknown name number kept confirmed o owners new unknown is set =
     set ∙ ap (λ o. owners ++ o ∷ []) is
-    ∙ sym (ap (λ b. if b then with_change (with_request number kept) name owners else owners ++ new_owner name number kept ∷ []) unknown)
+    ∙ sym (ap (λ b. if b then with_change (with_request number kept) name owners else owners ++ new_owner name number kept confirmed ∷ []) unknown)
 
 pub confirmed_known : (name : StateOwner) (row : ℕ) (rows new : List (Row Owner)) → IsRowOf name rows (Some row) → new ≡ with_state_at confirmed row rows → owners_in new ≡ with_confirmed name (owners_in rows)
 confirmed_known name row rows new is set = ap owners_in set ∙ state_seen confirmed row name rows is.1

@@ -5,8 +5,8 @@ use Rattle.nfs_owners.specs.LiveClients.{can_become_live, replaced_by}
 use Rattle.nfs_owners.specs.Registry.{AreRecords, Registry, after_mark, confirmed_of, is_live, record_of, with_mark}
 use Rattle.nfs_owners.specs.declared.client_record.PathMark.{PathMark}
 
--- Both have the same clients: the same ones are live and can become so, each replaces the same one, and each id and each
--- clientid is of the same client.
+-- Both registries have the same clients. The same clients are live and can become so, each replaces the same one, and
+-- each id and each clientid is of the same client.
 pub record HaveSameClients (old new : Registry) : Type 0 where
   pub live : (number : ℕ) → is_live number new ≡ is_live number old
   pub can_come : (number : ℕ) → can_become_live number new ≡ can_become_live number old

@@ -1,6 +1,6 @@
 -- Which owner's kept request closed a state.
-use Rattle.std.specs.Prelude.{◌≡◌, ℕ, ◌==◌, false, List, Option, Some, None, if◌then◌else◌, find, nat_eq, option_map}
-use Rattle.indexmap.specs.IndexMap.{get}
+use Rattle.std.specs.Prelude.{◌≡◌, ℕ, ◌+◌, ◌==◌, ⊤, false, List, Option, Some, None, if◌then◌else◌, find, nat_eq, option_map}
+use Rattle.indexmap.specs.IndexMap.{get, index_map_len, spare}
 use Rattle.nfs_rows.specs.Rows.{Row, is_numbered, value_in}
 use Rattle.nfs_owners.specs.declared.closers.Closers.{Closers}
 use Rattle.nfs_owners.specs.declared.kept.KeptSummary.{KeptSummary}
@@ -30,6 +30,15 @@ with_at row closed f other = if other == row then closed else f other
 pub record IsInverse (index : ℕ → Option ℕ) (closed : ℕ → Option ℕ) : Type 0 where
   pub leads : (state row : ℕ) → closed row ≡ Some state → index state ≡ Some row
   pub own : (state row : ℕ) → index state ≡ Some row → closed row ≡ Some state
+
+-- no row is known to have closed the state
+abbrev pub IsOpenStill : Option ℕ → Closers → Type 0
+IsOpenStill None closers = ⊤
+IsOpenStill (Some state) closers = get nat_eq closers.index state ≡ None
+
+-- how many states the index has room for, with those that are in it
+abbrev pub capacity_of : Closers → ℕ
+capacity_of closers = index_map_len closers.index + spare closers.index
 
 abbrev pub AreClosers : Closers → (ℕ → Option ℕ) → Type 0
 AreClosers closers closed =

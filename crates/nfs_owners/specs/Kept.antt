@@ -76,7 +76,7 @@ abbrev pub summary_of : Kept → KeptSummary
 summary_of kept =
     record { seqid = kept.seqid; closed = closed_stateid kept.request.op kept.answer }
 
--- it is the stateid of the client's state with this number
+-- the stateid is that of the client's state with this number
 abbrev pub is_of_state : ClientId → ℕ → Option Stateid → Bool
 is_of_state client number None = false
 is_of_state client number (Some id) = is_same_client id.client client && (id.number == number)

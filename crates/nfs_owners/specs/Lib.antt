@@ -1,3 +1,4 @@
+-- What contracts say of clients' records, owners, and the numbers of states.
 pub mod Addresses
 pub mod Slots
 pub mod Registry

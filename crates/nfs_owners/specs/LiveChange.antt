@@ -1,4 +1,5 @@
--- Who comes to be live by a change of the clients' records, or is live no longer (RFC 7530, sections 9.1.1 and 16.34.5).
+-- Who comes to be live by a change of the clients' records, or is live no longer (RFC 7530, sections 9.1.1 and
+-- 16.34.5).
 use Rattle.std.specs.Prelude.{ℕ, Bool, ◌&&◌, ◌||◌, ◌==◌, not}
 use Rattle.nfs_owners.specs.declared.clients.client_change.ClientChange.{ClientChange}
 use Rattle.nfs_owners.specs.declared.clients.client_change.ClientChange.TheVariants as changes

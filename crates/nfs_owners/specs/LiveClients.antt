@@ -59,8 +59,8 @@ replaced_by number registry =
     (unconfirmed_of_client number registry)
 
 -- The client with this number can become live: the number wasn't given yet, or the client has an unconfirmed record and
--- no confirmed one. A client that was live can't become so again. A number of slot 0 passes too, as one that wasn't given
--- yet, and never is.
+-- no confirmed one. A client that was live can't become so again. A number of slot 0 passes too, as one that wasn't
+-- given yet, and never is.
 abbrev pub can_become_live : ℕ → Registry → Bool
 can_become_live number registry =
     not (was_given number registry)

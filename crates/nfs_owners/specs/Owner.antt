@@ -1,5 +1,5 @@
 -- The owners that the server knows (RFC 7530, section 9.1.5).
-use Rattle.std.specs.Prelude.{ℕ, Bool, false, List, find, Option, Some, None, if◌then◌else◌}
+use Rattle.std.specs.Prelude.{ℕ, Bool, List, find, Option, Some, None, if◌then◌else◌}
 use Rattle.std.specs.List.{list_any}
 use Rattle.nfs_owners.specs.declared.kept.KeptSummary.{KeptSummary}
 use Rattle.nfs_owners.specs.declared.owner.Owner.{Owner}
@@ -35,15 +35,16 @@ standing_of None kind = Unknown
 standing_of (Some o) kinds.Open = if o.state.confirmed then Confirmed else Unconfirmed
 standing_of (Some o) kinds.Lock = Confirmed
 
--- the state of an owner that is recorded by its first request, in the journal's entry of this number
-abbrev pub new_state : ℕ → KeptSummary → OwnerState
-new_state number kept =
-    record { confirmed = false; recorded = number; number = number; kept = kept }
+-- the state of an owner that is recorded by its first request, in the journal's entry of this number, confirmed or not
+abbrev pub new_state : ℕ → KeptSummary → Bool → OwnerState
+new_state number kept confirmed =
+    record { confirmed = confirmed; recorded = number; number = number; kept = kept }
 
--- the same, with this as the kept request, in the journal's entry of this number
+-- the state of an owner with this as the kept request, in the journal's entry of this number
 abbrev pub with_request : ℕ → KeptSummary → OwnerState → OwnerState
 with_request number kept s = record s { number = number; kept = kept }
 
 -- an owner that is recorded by its first request, in the journal's entry of this number
-abbrev pub new_owner : StateOwner → ℕ → KeptSummary → Owner
-new_owner name number kept = record { name = name; state = new_state number kept }
+abbrev pub new_owner : StateOwner → ℕ → KeptSummary → Bool → Owner
+new_owner name number kept confirmed =
+    record { name = name; state = new_state number kept confirmed }

@@ -1,5 +1,5 @@
 -- What the owners that the server knows have to do with each other.
-use Rattle.std.specs.Prelude.{◌≡◌, ℕ, IsFalse, List, None, if◌then◌else◌}
+use Rattle.std.specs.Prelude.{◌≡◌, ℕ, Bool, IsFalse, List, None, if◌then◌else◌}
 use Rattle.nfs_forms.specs.ClientId.{is_same_client}
 use Rattle.nfs_forms.specs.declared.client_id.ClientId.{ClientId}
 use Rattle.nfs_forms.specs.declared.lock_owner.LockOwner.{LockOwner}
@@ -22,8 +22,8 @@ KindsAreApart =
 abbrev pub OthersStay : Type 0
 OthersStay =
     (name other : StateOwner) (owners : List Owner) → IsFalse (is_same_state_owner name other)
-    → ((number : ℕ) (kept : KeptSummary)
-    → owner_of other (with_kept name number kept owners) ≡ owner_of other owners)
+    → ((number : ℕ) (kept : KeptSummary) (confirmed : Bool)
+    → owner_of other (with_kept name number kept confirmed owners) ≡ owner_of other owners)
     × (owner_of other (with_confirmed name owners) ≡ owner_of other owners)
     × (owner_of other (without_owner name owners) ≡ owner_of other owners)
 

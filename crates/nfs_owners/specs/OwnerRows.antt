@@ -27,10 +27,12 @@ name_hash names name = hash_of names (space_of name.client) (kind_number name.ki
 abbrev pub owners_in : List (Row Owner) → List Owner
 owners_in rows = map (λ r. r.value) rows
 
--- The rows of owners, how many more can come without taking memory, and the seed of the hashes of their names.
+-- The rows of owners, how many more can come without taking memory, how many closed states there is room for, and the
+-- seed of the hashes of their names.
 pub record RoomyOwnerRows : Type 0 where
   pub rows : List (Row Owner)
   pub room : ℕ
+  pub states : ℕ
   pub names : RandomState
 
 -- the row says of its owner what the owner is found by

@@ -54,12 +54,12 @@ with_change change name owners =
     map (λ o. if has_name name o then record o { state = change o.state } else o) owners
 
 -- The owner's kept request is now this one, in the journal's entry of this number. An owner that was unknown is
--- recorded by it.
-abbrev pub with_kept : StateOwner → ℕ → KeptSummary → List Owner → List Owner
-with_kept name number kept owners =
+-- recorded by it, confirmed or not.
+abbrev pub with_kept : StateOwner → ℕ → KeptSummary → Bool → List Owner → List Owner
+with_kept name number kept confirmed owners =
     if is_known name owners
     then with_change (with_request number kept) name owners
-    else owners ++ new_owner name number kept ∷ []
+    else owners ++ new_owner name number kept confirmed ∷ []
 
 -- the owner is confirmed
 abbrev pub with_confirmed : StateOwner → List Owner → List Owner

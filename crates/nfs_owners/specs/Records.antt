@@ -33,7 +33,8 @@ row_of_client number rows = option_map (λ r. r.number) (find (λ r. is_of_clien
 
 -- No two records have one id, nor one client; each row has its record's hash, and is found by its client's number; and
 -- so many more rows can be promised.
-pub record AreRows {S : Type 0} (ids : RandomState) (rows : RoomyRows ClientRecord) (by_client : IndexMap ℕ ℕ S) (newest room : ℕ) : Type 0 where
+pub record AreRows {S : Type 0} (ids : RandomState) (rows : RoomyRows ClientRecord)
+    (by_client : IndexMap ℕ ℕ S) (newest room : ℕ) : Type 0 where
   pub names : IsDistinct have_same_id (records_in rows.rows)
   pub clients : IsDistinct have_same_client (records_in rows.rows)
   pub hashes : AllByRecursion (IsHashed ids) rows.rows

@@ -136,9 +136,9 @@ HasOwnNumber registry r = IsNumberOf r.id r.state.client.number registry
 abbrev pub HaveValues : Registry → Type 0
 HaveValues registry = AllByRecursion (λ count. count ≤ registry.last_confirm) registry.given
 
--- The records that clients can have: no two confirmed ones have one id, nor two unconfirmed ones, and each client number
--- is the last that was given of its slot, to one id. There is a count for each slot, and none is above the last confirm
--- value.
+-- The records that clients can have: no two confirmed ones have one id, nor two unconfirmed ones, and each client
+-- number is the last that was given of its slot, to one id. There is a count for each slot, and none is above the last
+-- confirm value.
 pub record AreRecords (registry : Registry) : Type 0 where
   pub slots : length registry.given ≡ SLOTS
   pub values : HaveValues registry

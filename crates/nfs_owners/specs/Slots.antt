@@ -13,7 +13,7 @@ generation_of number = number / SLOTS
 abbrev pub number_of : ℕ → ℕ → ℕ
 number_of slot generation = generation * SLOTS + slot
 
--- both are of one slot, and the first is of an earlier generation
+-- both numbers are of one slot, and the first is of an earlier generation
 abbrev pub is_earlier : ℕ → ℕ → Bool
 is_earlier number other =
     (slot_of number == slot_of other) && nat_lt (generation_of number) (generation_of other)

@@ -1,1 +1,2 @@
+-- Proofs of what crates above need to know of path marks.
 pub mod Marks

@@ -1,3 +1,5 @@
+//! Callback addresses as records store them, with a limit, so that a record's size is bounded.
+
 ghost use Rattle.std.specs.Prelude.{◌≡◌, ◌↔◌, false, true, IfOk, IsErrOf};
 ghost use Rattle.nfs_owners.specs.Addresses.{is_within_limit};
 

@@ -1,3 +1,5 @@
+//! Clients' records, as SETCLIENTID adds them and SETCLIENTID_CONFIRM confirms them.
+
 use crate::slots::slot_of;
 use crate::{ClientCallback, ClientRef};
 use nfs_operations::setclientid::ID_LIMIT;
@@ -33,7 +35,7 @@ pub struct ClientState {
 /// What is known about the path to a client's callbacks.
 #[derive(Clone, Copy, PartialEq, Eq)]
 pub enum PathMark {
-    /// Nothing is known yet.
+    /// Nothing is known yet of the path.
     Unknown,
     /// A callback was accepted, or is assumed to have been.
     Up,

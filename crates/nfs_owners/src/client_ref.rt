@@ -1,3 +1,5 @@
+//! Lends a client's record without a copy of its id.
+
 ghost use Rattle.std.specs.Prelude.{◌≤◌, length};
 ghost use Rattle.nfs_operations.specs.declared.setclientid.TheConstants.{ID_LIMIT};
 

@@ -1,3 +1,5 @@
+//! The clients' records, with the numbers and confirm values that were given out.
+
 ghost use Rattle.std.specs.Prelude.{◌≡◌, ◌-◌, ◌^◌, ◌<◌, ◌≤◌, IsOk, IsTrue, OnOk, find, length, option_map};
 ghost use Rattle.std.specs.Option.{option_copied};
 ghost use Rattle.nfs_owners.specs.Registry.{client_seen, is_named_by, record_state};
@@ -13,14 +15,14 @@ use crate::slots::{SLOTS, generation_of, slot_of};
 use crate::{ClientRecord, ClientRef, ClientState};
 pub use client_change::ClientChange;
 use nfs_operations::setclientid_confirm::SetclientidConfirm;
+use nfs_rows::IdSeed;
 use nfs_xdr::ClientId;
 use records::Records;
 use std::alloc::{AllocError, Global};
-use std::hash::RandomState;
 use std::marker::Model;
 
-/// The clients' confirmed and unconfirmed records, each in the order in which they were added, and the numbers that were
-/// given out. An id has at most one record of each kind, and a client number is that of one id. SETCLIENTID and
+/// The clients' confirmed and unconfirmed records, each in the order in which they were added, and the numbers that
+/// were given out. An id has at most one record of each kind, and a client number is that of one id. SETCLIENTID and
 /// SETCLIENTID_CONFIRM are decided first (`set`, `confirm`); after `make_room` the change takes no memory.
 #[derive(Drop)]
 pub struct Clients {
@@ -66,7 +68,7 @@ impl Clients {
     ghost use Rattle.nfs_owners.specs.Slots.{slot_of};
 
     /// A registry without clients, taking no memory.
-    pub fn new(alloc: Global, ids: RandomState) -> Clients
+    pub fn new(alloc: Global, ids: IdSeed) -> Clients
         ensures { result.registry ≡ no_clients }
     {
         let _ = ids;
@@ -78,8 +80,8 @@ impl Clients {
         }
     }
 
-    /// The law of the records: an id has at most one confirmed and one unconfirmed record, and a client number is that of
-    /// one id, and the last that was given of its slot.
+    /// The law of the records: an id has at most one confirmed and one unconfirmed record, and a client number is that
+    /// of one id, and the last that was given of its slot.
     pub fn records_are_apart(&self)
         ensures { AreRecords self.now.registry }
     {
@@ -126,8 +128,8 @@ impl Clients {
         self.confirmed.next_client(after, |_| true)
     }
 
-    /// The number of the live client that the client with this number replaces once it is confirmed: another one, of the
-    /// id that this number's unconfirmed record has.
+    /// The number of the live client that the client with this number replaces once it is confirmed: another one, of
+    /// the id that this number's unconfirmed record has.
     pub fn replaced_by(&self, number: u32) -> Option<u32>
         ensures { result ≡ replaced_by number self.now.registry }
     {
@@ -231,7 +233,8 @@ impl Clients {
         self.unconfirmed.put(newcomer);
     }
 
-    // Removes the unconfirmed record of the slot whose next number this is, if there is one. It has the slot's last number.
+    // Removes the unconfirmed record of the slot whose next number this is, if there is one. It has the slot's last
+    // number.
     fn vacate(&mut self, next: u32)
         requires { IsNextNumber next self.old.registry }
         ensures registry { self.new.registry

@@ -1,21 +1,23 @@
-ghost use Rattle.std.specs.Prelude.{◌≡◌, ℕ, None, Option, false, nat_eq, true};
-ghost use Rattle.indexmap.specs.IndexMap.{get};
-ghost use Rattle.nfs_owners.specs.Closers.{AreClosers, nothing, with_at};
+//! An index from closed states to their owners, by which a CLOSE that comes again finds its stored reply.
+
+ghost use Rattle.std.specs.Prelude.{◌≡◌, ℕ, ◌<◌, ◌≤◌, None, OnOk, Option, false, nat_eq, true};
+ghost use Rattle.indexmap.specs.IndexMap.{get, spare};
+ghost use Rattle.nfs_owners.specs.Closers.{AreClosers, IsOpenStill, capacity_of, nothing, with_at};
 
 use indexmap::IndexMap;
-use std::alloc::Global;
+use std::alloc::{AllocError, Global};
 
 // In which row the owner is whose kept request closed a state.
 #[derive(Drop)]
 pub(crate) struct Closers {
     // The row's number at that of the state.
     pub index: IndexMap<u32, u64>,
-    // The index may lack some: two rows had closed one state, or there was no room in it. So each row has to be looked at.
+    // The index may lack some: two rows had closed one state, or memory was refused. So each row has to be looked at.
     pub partial: bool,
 }
 
 impl Closers {
-    // Nothing was closed.
+    // An index in which no state was closed.
     pub fn new(alloc: Global) -> Closers
         ensures { AreClosers result nothing }
     {
@@ -42,27 +44,29 @@ impl Closers {
         }
     }
 
-    // Notes the state that this row's owner closed, if it closed one. It takes no memory.
+    // Notes the state that this row's owner closed, if it closed one. Where there is room, it takes no memory.
     pub fn note(&mut self, closed: Option<u32>, row: u64)
-        ensures { (f : ℕ → Option ℕ) → f row ≡ None
+        ensures closers { (f : ℕ → Option ℕ) → f row ≡ None
             → AreClosers self.old f → AreClosers self.new (with_at row closed f) }
+        ensures whole { self.old.partial ≡ false → 0 < spare self.old.index
+            → IsOpenStill closed self.old → self.new.partial ≡ false }
     {
         let Some(number) = closed else {
             return;
         };
-        if self.index.len() < self.index.capacity() {
-            if let Ok(None) = self.index.insert(number, row) {
-                return;
-            }
+        if let Ok(None) = self.index.insert(number, row) {
+            return;
         }
         self.partial = true;
     }
 
-    // Makes room, so that the next state can be noted. Where memory is refused, the index will be partial.
-    pub fn reserve(&mut self)
-        ensures { (f : ℕ → Option ℕ) → AreClosers self.old f → AreClosers self.new f }
+    // Makes room for so many states.
+    pub fn reserve(&mut self, states: usize) -> Result<(), AllocError>
+        ensures closers { (f : ℕ → Option ℕ) → AreClosers self.old f → AreClosers self.new f }
+        ensures room { OnOk result (states ≤ capacity_of self.new) }
     {
-        let _reserved = self.index.reserve(1);
+        let count = self.index.len();
+        self.index.reserve(states.saturating_sub(count))
     }
 
     // The index begins anew where no rows are left.

@@ -1,3 +1,5 @@
+//! Copies bytes whose length was checked before, so that only memory can be lacking.
+
 ghost use Rattle.std.specs.Prelude.{◌≡◌, ◌≤◌, IfOk, length};
 
 use std::alloc::{AllocError, Global};

@@ -1,3 +1,5 @@
+//! Judges a request by its sequence id: next, the last one again, or bad.
+
 ghost use Rattle.std.specs.Prelude.{◌≡◌, ◌≢◌, ◌==◌, MatchBool};
 ghost use Rattle.nfs_owners.specs.Closers.{closed_by};
 ghost use Rattle.nfs_owners.specs.Kept.{IsVerdict, closed_in, closed_stateid, is_freeing, kept_seen, next_seqid, request_of, summary_closes};
@@ -5,8 +7,8 @@ ghost use Rattle.nfs_owners.specs.Kept.{IsVerdict, closed_in, closed_stateid, is
 use nfs_forms::Stateid;
 use nfs_xdr::{Answer, ClientId, Op, OpResult};
 
-/// What is stored of the request that is kept for an owner: the owner's entry in the journal has the request itself, and
-/// the answer to it (RFC 7530, section 9.1.8).
+/// What is stored of the request that is kept for an owner: the owner's entry in the journal has the request itself,
+/// and the answer to it (RFC 7530, section 9.1.8).
 #[derive(Clone, Copy)]
 pub struct KeptSummary {
     pub seqid: u32,
@@ -26,11 +28,11 @@ pub struct KeptCall<'a> {
 /// The verdict on a request, given the one that is kept for its owner (RFC 7530, section 9.1.7).
 #[derive(Clone, Copy)]
 pub enum Verdict<'a> {
-    /// It is the owner's next request.
+    /// The request is the owner's next one.
     New,
-    /// It is the kept request again, which had this answer.
+    /// The request is the kept one again, which had this answer.
     Replay(&'a OpResult),
-    /// It is neither.
+    /// The request is neither the owner's next one nor the kept one.
     Bad,
 }
 
@@ -47,7 +49,8 @@ impl KeptSummary {
         KeptSummary { seqid, closed }
     }
 
-    /// The verdict on a request with this sequence id, operation and current filehandle, where this call is the kept one.
+    /// The verdict on a request with this sequence id, operation and current filehandle, where this call is the kept
+    /// one.
     pub fn judge<'a>(
         &self,
         kept: KeptCall<'a>,

@@ -1,5 +1,5 @@
-//! Who holds state: the clients' records with the rules of SETCLIENTID and its confirmation, the owners with the numbers
-//! of their last requests, and the numbers of states.
+//! Who holds state: the clients' records with the rules of SETCLIENTID and its confirmation, the owners with the
+//! numbers of their last requests, and the numbers of states.
 #![tactic(auto)]
 
 mod client_callback;

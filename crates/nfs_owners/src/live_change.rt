@@ -1,4 +1,6 @@
-/// Who comes to be live by a change, or is live no longer. Clients are told by their numbers.
+//! Tells the lease table which clients became live or ended.
+
+/// Which client becomes live by a change, or is live no longer. Clients are told by their numbers.
 #[derive(Clone, Copy, PartialEq, Eq)]
 pub enum LiveChange {
     /// Nobody came or went.

@@ -1,3 +1,5 @@
+//! Gives each state a number that no other state had.
+
 ghost use Rattle.std.specs.Prelude.{◌≡◌, ◌<◌, ◌+◌, ◌-◌, ◌^◌};
 ghost use Rattle.nfs_owners.specs.Numbers.{Gives, NumbersRise};
 
@@ -19,7 +21,7 @@ impl Model for Numbers {
 }
 
 impl Numbers {
-    /// No number was given.
+    /// The numbers of a run in which no number was given.
     pub fn new() -> Numbers
         ensures { result ≡ 0 }
     {

@@ -1,3 +1,5 @@
+//! Owners: whether an owner is confirmed, and which of its requests is stored.
+
 ghost use Rattle.std.specs.Prelude.{◌≡◌};
 ghost use Rattle.nfs_owners.specs.Owner.{has_client, has_name, with_request, new_owner, new_state};
 ghost use Rattle.nfs_owners.specs.StateOwner.{owner_seen};
@@ -15,7 +17,7 @@ pub struct Owner {
 /// What the server keeps for an owner: its kept request is the last one that counted, which the journal has.
 #[derive(Drop)]
 pub struct OwnerState {
-    /// Whether an OPEN_CONFIRM has confirmed the owner, which is an open owner then.
+    /// Whether the owner is confirmed, by an OPEN_CONFIRM or when it was recorded. It is an open owner then.
     pub confirmed: bool,
     /// The number of the journal's entry that recorded the owner.
     pub recorded: u32,
@@ -28,11 +30,11 @@ pub struct OwnerState {
 /// What the server knows of an owner (RFC 7530, section 9.1.11).
 #[derive(Clone, Copy, PartialEq, Eq)]
 pub enum OwnerStanding {
-    /// Nothing.
+    /// The owner isn't known.
     Unknown,
-    /// It is an open owner that has opened a file, and no OPEN_CONFIRM has come.
+    /// The owner is an open owner that has opened a file, and no OPEN_CONFIRM has come.
     Unconfirmed,
-    /// It is an open owner for which an OPEN_CONFIRM has come, or a lock owner, which needs none.
+    /// The owner is an open owner for which an OPEN_CONFIRM has come, or a lock owner, which needs none.
     Confirmed,
 }
 
@@ -40,13 +42,13 @@ pub enum OwnerStanding {
 pub const OWNER_LIMIT: usize = 16_384;
 
 impl Owner {
-    /// An owner that is recorded by its first request, in the journal's entry of this number.
-    pub fn new(name: StateOwner, number: u32, kept: KeptSummary) -> Owner
-        ensures { result ≡ new_owner name number kept }
+    /// An owner that is recorded by its first request, in the journal's entry of this number, confirmed or not.
+    pub fn new(name: StateOwner, number: u32, kept: KeptSummary, confirmed: bool) -> Owner
+        ensures { result ≡ new_owner name number kept confirmed }
     {
         Owner {
             name,
-            state: OwnerState::new(number, kept),
+            state: OwnerState::new(number, kept, confirmed),
         }
     }
 
@@ -67,11 +69,11 @@ impl Owner {
 
 impl OwnerState {
     /// That of an owner that is recorded by its first request, in the journal's entry of this number.
-    pub fn new(number: u32, kept: KeptSummary) -> OwnerState
-        ensures { result ≡ new_state number kept }
+    pub fn new(number: u32, kept: KeptSummary, confirmed: bool) -> OwnerState
+        ensures { result ≡ new_state number kept confirmed }
     {
         OwnerState {
-            confirmed: false,
+            confirmed,
             recorded: number,
             number,
             kept,

@@ -1,3 +1,5 @@
+//! Laws that a change of one owner or client leaves all others.
+
 ghost use Rattle.nfs_owners.specs.OwnerLaws.{ClientTakesItsOwners, KindsAreApart, OthersStay};
 
 /// The law that an open owner and a lock owner are never the same owner.

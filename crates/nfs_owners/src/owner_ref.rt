@@ -1,12 +1,13 @@
+//! Names an owner without a copy of its name.
+
 ghost use Rattle.std.specs.Prelude.{◌≤◌, length};
 ghost use Rattle.nfs_forms.specs.declared.open_owner.TheConstants.{OWNER_NAME_LIMIT};
 
 use crate::copy_of_bytes::copy_of_bytes;
 use crate::{OwnerKind, StateOwner};
 use nfs_forms::{ClientId, LockOwner, OWNER_NAME_LIMIT, OpenOwner};
-use nfs_rows::hash_of;
+use nfs_rows::OwnerSeed;
 use std::alloc::{AllocError, Global};
-use std::hash::RandomState;
 
 /// An owner's kind, client and name, lent: by these an owner is looked for without a copy of its name, which is at most
 /// as long as that of an owner.
@@ -23,7 +24,7 @@ impl<'a> OwnerRef<'a> {
     ghost use Rattle.nfs_owners.specs.OwnerRows.{name_hash};
     ghost use Rattle.nfs_owners.specs.StateOwner.{as_open_owner, is_same_state_owner, lock_owner, open_owner, owner_seen};
 
-    /// This open owner.
+    /// The reference to this open owner.
     pub fn of_open(owner: &'a OpenOwner) -> OwnerRef<'a>
         ensures { owner_seen result ≡ open_owner owner.now }
     {
@@ -34,7 +35,7 @@ impl<'a> OwnerRef<'a> {
         }
     }
 
-    /// This lock owner.
+    /// The reference to this lock owner.
     pub fn of_lock(owner: &'a LockOwner) -> OwnerRef<'a>
         ensures { owner_seen result ≡ lock_owner owner.now }
     {
@@ -67,7 +68,7 @@ impl<'a> OwnerRef<'a> {
     }
 
     // The keyed hash of the owner's name.
-    pub(crate) fn hash(self, names: RandomState) -> u64
+    pub(crate) fn hash(self, names: OwnerSeed) -> u64
         ensures { result ≡ name_hash names (owner_seen self.entry) }
     {
         let space = u64::from(self.client.epoch) * 0x1_0000_0000 + u64::from(self.client.number);
@@ -75,7 +76,7 @@ impl<'a> OwnerRef<'a> {
             OwnerKind::Open => 0,
             OwnerKind::Lock => 1,
         };
-        hash_of(names, space, kind, self.name)
+        names.hash(space, kind, self.name)
     }
 
     /// Whether the owner is this one.

@@ -1,3 +1,5 @@
+//! The owners as rows, with the indexes by which they are found.
+
 ghost use Rattle.std.specs.Prelude.{◌≡◌, ℕ, ◌<◌, ◌≤◌, ◌+◌, ◌&&◌, ◌++◌, ◌∷◌, [], Bool, IsOk, OnOk, Option, filter, find, length};
 ghost use Rattle.std.specs.Option.{option_copied};
 ghost use Rattle.nfs_rows.specs.Rows.{AnswersAs, is_from as is_row_from, is_numbered, without};
@@ -8,28 +10,28 @@ ghost use Rattle.nfs_owners.specs.OwnerRows.{IsRowOf, confirmed, name_hash, owne
 ghost use Rattle.nfs_owners.specs.Owners.{AreBefore, AreOwners, StandInOrder, is_from};
 ghost use Rattle.nfs_owners.specs.StateOwner.{owner_seen};
 ghost use Rattle.nfs_owners.specs.declared.owner.Owner.{Owner};
+ghost use Rattle.nfs_owners.specs.declared.owner.TheConstants.{OWNER_LIMIT};
 
 use crate::closers::Closers;
 use crate::{KeptSummary, Owner, OwnerRef};
-use nfs_rows::Rows;
+use nfs_rows::{OwnerSeed, Rows};
 use nfs_xdr::ClientId;
 use std::alloc::{AllocError, Global};
-use std::hash::RandomState;
 use std::marker::Model;
 
-// The owners in rows, each with the number of the entry that recorded it, found by these numbers, by their names, and by
-// the states that their kept requests closed.
+// The owners in rows, each with the number of the entry that recorded it, found by these numbers, by their names, and
+// by the states that their kept requests closed.
 #[derive(Drop)]
 pub(crate) struct OwnerRows {
     rows: Rows<Owner>,
     closers: Closers,
     // The seed of the hashes of their names.
-    names: RandomState,
+    names: OwnerSeed,
 }
 
 impl Model for OwnerRows {
     ghost use Rattle.std.specs.List.{AllByRecursion};
-    ghost use Rattle.nfs_owners.specs.Closers.{AreClosers, closed_at};
+    ghost use Rattle.nfs_owners.specs.Closers.{AreClosers, capacity_of, closed_at};
     ghost use Rattle.nfs_owners.specs.OwnerRows.{IsFiled, RoomyOwnerRows};
 
     ghost Value = { RoomyOwnerRows };
@@ -37,6 +39,7 @@ impl Model for OwnerRows {
     ghost view = { λ o. record {
       rows = o.rows.rows;
       room = o.rows.room;
+      states = capacity_of o.closers;
       names = o.names;
     } };
 
@@ -46,7 +49,7 @@ impl Model for OwnerRows {
 
 impl OwnerRows {
     // No rows, taking no memory.
-    pub fn new(alloc: Global, names: RandomState) -> OwnerRows
+    pub fn new(alloc: Global, names: OwnerSeed) -> OwnerRows
         ensures { result.rows ≡ [] }
     {
         OwnerRows {
@@ -56,7 +59,7 @@ impl OwnerRows {
         }
     }
 
-    // How many there are.
+    // How many owners there are.
     pub fn len(&self) -> usize
         ensures { result ≡ length self.now.rows }
     {
@@ -134,16 +137,20 @@ impl OwnerRows {
         found_from(&self.rows, u64::from(entry), test)
     }
 
-    // Makes room, so that the next row takes no memory.
+    // Makes room, so that the next row takes no memory, and for as many closed states as there are rows with it.
     pub fn reserve(&mut self) -> Result<(), AllocError>
+        requires { length self.old.rows ≤ OWNER_LIMIT }
         ensures rows { self.new.rows ≡ self.old.rows }
         ensures room { OnOk result (0 < self.new.room) }
         ensures grows { self.old.room ≤ self.new.room }
         ensures ready { 0 < self.old.room → IsOk result }
+        ensures states { self.old.room ≡ 0 → OnOk result (length self.new.rows < self.new.states) }
     {
-        self.rows.reserve()?;
-        self.closers.reserve();
-        Ok(())
+        if self.rows.has_room() {
+            return Ok(());
+        }
+        self.closers.reserve(self.rows.len() + 1)?;
+        self.rows.reserve()
     }
 
     // Adds a row with this owner, whose name has this hash, and who was recorded after all others. It takes no memory.

@@ -1,3 +1,5 @@
+//! The owners that the server knows, with the last request and reply of each.
+
 ghost use Rattle.std.specs.Prelude.{◌≡◌, ◌<◌, ◌≤◌, ◌+◌, ◌↔◌, ◌&&◌, Bool, Some, IfSome, true, false, [], find, IsErrOf, IsFalse, IsOk, IsTrue, OnOk, length, option_map};
 ghost use Rattle.std.specs.Option.{option_copied};
 ghost use Rattle.nfs_rows.specs.Rows.{AnswersAs};
@@ -13,9 +15,9 @@ use crate::{
     KeptCall, KeptSummary, OWNER_LIMIT, Owner, OwnerKind, OwnerRef, OwnerStanding, OwnerState,
     OwnersError, StateOwner, Verdict,
 };
+use nfs_rows::OwnerSeed;
 use nfs_xdr::{ClientId, Op};
 use std::alloc::Global;
-use std::hash::RandomState;
 use std::marker::Model;
 
 /// The owners that the server knows, in the order in which they were recorded: at most `OWNER_LIMIT`, no two with one
@@ -41,7 +43,7 @@ impl Model for Owners {
 
 impl Owners {
     /// No owners, taking no memory. Their names are found by hashes with this seed.
-    pub fn new(alloc: Global, names: RandomState) -> Owners
+    pub fn new(alloc: Global, names: OwnerSeed) -> Owners
         ensures { result.owners ≡ [] }
     {
         Owners {
@@ -86,8 +88,8 @@ impl Owners {
         }
     }
 
-    /// The first owner that the journal's entry of this number recorded, or a later one, and that passes the test, if there
-    /// is one. It finds the first that was recorded so by halving, and looks at those behind it one by one.
+    /// The first owner that the journal's entry of this number recorded, or a later one, and that passes the test, if
+    /// there is one. It finds the first that was recorded so by halving, and looks at those behind it one by one.
     pub fn find_from<F: Fn(&Owner) -> bool>(&self, entry: u32, test: F) -> Option<&Owner>
         requires { F.IsAlwaysCallable test }
         ensures found { (p : Owner → Bool) → AnswersAs F.Fn test p
@@ -99,8 +101,8 @@ impl Owners {
         self.owners.find_from(entry, test)
     }
 
-    /// The verdict on a request of the owner with this name, where this call is the one that is kept for it, or `None` if
-    /// the owner is unknown.
+    /// The verdict on a request of the owner with this name, where this call is the one that is kept for it, or `None`
+    /// if the owner is unknown.
     pub fn judge<'a>(
         &self,
         name: OwnerRef<'_>,
@@ -152,13 +154,14 @@ impl Owners {
     }
 
     /// Makes this the kept request of the owner with this name, in the journal's entry `number`; an unknown owner is
-    /// recorded by it, after all others. It takes no memory.
-    pub fn keep(&mut self, name: StateOwner, number: u32, kept: KeptSummary)
+    /// recorded by it, after all others, confirmed or not. It takes no memory.
+    pub fn keep(&mut self, name: StateOwner, number: u32, kept: KeptSummary, confirmed: bool)
         requires place { IsTrue (has_place name self.old.owners) }
         requires room { IsFalse (is_known name self.old.owners) → 0 < self.old.room }
         requires newest { IsFalse (is_known name self.old.owners)
             → AreBefore number self.old.owners }
-        ensures owners { self.new.owners ≡ with_kept name number kept self.old.owners }
+        ensures owners { self.new.owners
+            ≡ with_kept name number kept confirmed self.old.owners }
         ensures room { self.old.room ≤ self.new.room + 1 }
         ensures known { IsTrue (is_known name self.old.owners) → self.new.room ≡ self.old.room }
     {
@@ -166,7 +169,9 @@ impl Owners {
         let hash = self.owners.hash(owner);
         match self.owners.row_of_hash(hash, owner) {
             Some(row) => self.owners.keep_at(row, number, kept),
-            None => self.owners.add(hash, Owner::new(name, number, kept)),
+            None => self
+                .owners
+                .add(hash, Owner::new(name, number, kept, confirmed)),
         }
     }
 

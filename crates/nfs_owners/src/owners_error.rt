@@ -1,3 +1,5 @@
+//! Why a client or an owner can't be recorded.
+
 ghost use Rattle.std.specs.Prelude.{◌≡◌};
 ghost use Rattle.nfs_owners.specs.OwnersError.{number_of};
 

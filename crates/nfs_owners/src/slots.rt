@@ -1,3 +1,5 @@
+//! Splits a client's number into a slot and a generation, so that lease tables have a fixed size.
+
 ghost use Rattle.std.specs.Prelude.{◌≡◌, ◌<◌};
 ghost use Rattle.nfs_owners.specs.Slots.{generation_of, slot_of};
 

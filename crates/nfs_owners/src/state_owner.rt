@@ -1,3 +1,5 @@
+//! Open owners and lock owners as one type, since both go by sequence ids.
+
 ghost use Rattle.std.specs.Prelude.{◌≡◌};
 ghost use Rattle.nfs_owners.specs.StateOwner.{lock_owner, open_owner, owner_seen};
 
@@ -22,7 +24,7 @@ pub struct StateOwner {
 }
 
 impl StateOwner {
-    /// This open owner.
+    /// This open owner, as an owner of either kind.
     pub fn of_open(owner: OpenOwner) -> StateOwner
         ensures { result ≡ open_owner owner }
     {
@@ -33,7 +35,7 @@ impl StateOwner {
         }
     }
 
-    /// This lock owner.
+    /// This lock owner, as an owner of either kind.
     pub fn of_lock(owner: LockOwner) -> StateOwner
         ensures { result ≡ lock_owner owner }
     {

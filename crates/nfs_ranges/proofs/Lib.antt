@@ -10,3 +10,4 @@ pub mod Cuts
 pub mod Spliced
 pub mod Conflicts
 pub mod InOrder
+pub mod Covered

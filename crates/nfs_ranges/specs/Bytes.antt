@@ -18,7 +18,7 @@ IsByteOf offset length byte =
 abbrev pub IsIn : Range → ℕ → Type 0
 IsIn range byte = (range.first ≤ byte) × (byte ≤ range.last)
 
--- the same, as a test
+-- the range has this byte, as a test
 abbrev pub has : Range → ℕ → Bool
 has range byte = nat_le range.first byte && nat_le byte range.last
 

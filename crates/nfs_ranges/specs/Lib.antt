@@ -1,3 +1,4 @@
+-- What contracts say of the bytes that a lock owner holds.
 pub mod Bytes
 pub mod Modes
 pub mod Runs
@@ -7,3 +8,4 @@ pub mod RangesError
 pub mod Merged
 pub mod Room
 pub mod Splices
+pub mod Covering

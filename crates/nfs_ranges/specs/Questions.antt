@@ -14,7 +14,8 @@ IsFirstConflict modes range asked (Some first) =
     IsIn range first × (conflicts asked (modes first) ≡ true)
     × ((byte : ℕ) → range.first ≤ byte → byte < first → conflicts asked (modes byte) ≡ false)
 
--- A walk over runs up to a byte, for a lock with the asked mode, stops at this one: it begins behind the byte, or refuses.
+-- A walk over runs up to a byte, for a lock with the asked mode, stops at this one: it begins behind the byte, or
+-- refuses.
 abbrev pub stops : ℕ → Mode → Piece → Bool
 stops last asked p = nat_lt last p.range.first || conflicts asked p.mode
 
@@ -28,7 +29,8 @@ IsLeastSame modes byte first =
     (first ≤ byte) × AreAs modes byte first byte
     × ((first ≡ 0) ⊎ (is_same (modes (first - 1)) (modes byte) ≡ false))
 
--- It ends here: it is byte 2^64 - 1, or the next one has another.
+-- The longest stretch round a byte in which all have its mode ends here: it is byte 2^64 - 1, or the next one has
+-- another.
 abbrev pub IsLastSame : (ℕ → Option Mode) → ℕ → ℕ → Type 0
 IsLastSame modes byte last =
     (byte ≤ last) × (last ≤ 2 ^ 64 - 1) × AreAs modes byte byte last

@@ -1,5 +1,5 @@
--- Runs: the longest stretches of bytes that are held in one mode. The limit counts them; a refused lock is answered with one
--- (RFC 7530, sections 16.10 and 16.11).
+-- Runs: the longest stretches of bytes that are held in one mode. The limit counts them; a refused lock is answered
+-- with one (RFC 7530, sections 16.10 and 16.11).
 use Rattle.std.specs.Prelude.{ℕ, zero, suc, ◌+◌, ◌-◌, ◌^◌, ◌==◌, Bool, ◌&&◌, ◌||◌, not, Option, is_some, if◌then◌else◌}
 use Rattle.nfs_ranges.specs.Modes.{is_same}
 use Rattle.nfs_ranges.specs.declared.mode.Mode.{Mode}

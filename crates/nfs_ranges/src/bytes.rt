@@ -1,3 +1,5 @@
+//! Turns the offset and length of LOCK, LOCKT and LOCKU into a range of bytes, and back.
+
 ghost use Rattle.std.specs.Prelude.{◌≡◌};
 ghost use Rattle.nfs_ranges.specs.Bytes.{IsRangeOf, has, length_of};
 
@@ -27,14 +29,14 @@ pub fn range_of(offset: u64, length: u64) -> Option<Range>
 }
 
 impl Range {
-    /// Whether it has the byte.
+    /// Whether the range has the byte.
     pub fn has(self, byte: u64) -> bool
         ensures { result ≡ has self byte }
     {
         self.first <= byte && byte <= self.last
     }
 
-    /// The length by which a report names it: all ones where it has byte 2^64 - 1, else how many bytes it has.
+    /// The length by which a report names the range: all ones where it has byte 2^64 - 1, else how many bytes it has.
     pub fn length(self) -> u64
         ensures { result ≡ length_of self }
     {

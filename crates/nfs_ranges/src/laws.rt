@@ -1,3 +1,5 @@
+//! Laws that the questions to an owner's ranges have one answer each.
+
 ghost use Rattle.std.specs.Prelude.{◌≡◌, ◌≤◌, ℕ, [], Option};
 ghost use Rattle.nfs_ranges.specs.Bytes.{IsRangeOf};
 ghost use Rattle.nfs_ranges.specs.Modes.{with_change, modes_of};

@@ -2,6 +2,7 @@
 #![tactic(auto)]
 
 mod bytes;
+mod coverage;
 mod laws;
 mod limits;
 mod mode;
@@ -16,6 +17,7 @@ mod splices;
 mod stops;
 
 pub use bytes::range_of;
+pub use coverage::covers;
 pub use laws::{
     at_most_one_first_conflict, at_most_one_range, at_most_one_run, first_change_has_place,
 };

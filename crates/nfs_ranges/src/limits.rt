@@ -1,3 +1,5 @@
+//! Bounds how many runs one lock owner may have of a file.
+
 ghost use Rattle.std.specs.Prelude.{◌≡◌};
 ghost use Rattle.nfs_ranges.specs.declared.limits.TheConstants.{RUN_LIMIT};
 

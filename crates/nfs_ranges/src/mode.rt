@@ -1,4 +1,7 @@
+//! The two modes of a byte-range lock, and which of them conflict.
+
 ghost use Rattle.std.specs.Prelude.{◌≡◌};
+ghost use Rattle.nfs_ranges.specs.Covering.{suffices};
 ghost use Rattle.nfs_ranges.specs.Modes.{conflicts, is_same};
 
 /// What a lock is for: to read bytes beside other readers, or to write them alone (RFC 7530, section 16.10). Locks are
@@ -22,6 +25,20 @@ impl Mode {
             Some(Mode::Read) => match self {
                 Mode::Read => false,
                 Mode::Write => true,
+            },
+        }
+    }
+
+    // Whether a byte that is held so is held for this, or for writing.
+    pub(crate) fn is_met_by(self, held: Option<Mode>) -> bool
+        ensures { result ≡ suffices self held }
+    {
+        match held {
+            None => false,
+            Some(Mode::Write) => true,
+            Some(Mode::Read) => match self {
+                Mode::Read => true,
+                Mode::Write => false,
             },
         }
     }

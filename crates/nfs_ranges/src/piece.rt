@@ -1,3 +1,5 @@
+//! A change of a lock owner's bytes: a range, with its new mode or none.
+
 use crate::{Mode, Range};
 
 /// The bytes of a range in one mode, or held no longer. A list of pieces gives each byte the mode of the last piece

@@ -1,3 +1,5 @@
+//! The bytes of a file that one lock owner holds, with a change that takes no memory.
+
 ghost use Rattle.std.specs.Prelude.{◌≡◌, ◌≤◌, ◌<◌, ◌+◌, ◌↔◌, [], length, nat_le, Some, None};
 ghost use Rattle.std.specs.Prelude.{IfErr, IsErrOf, IsOk, IsTrue, OnErr, OnOk};
 ghost use Rattle.nfs_ranges.specs.Merged.{in_order};

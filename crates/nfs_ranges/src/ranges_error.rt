@@ -1,3 +1,5 @@
+//! Why LOCK or LOCKU can't change an owner's ranges.
+
 ghost use Rattle.std.specs.Prelude.{◌≡◌};
 ghost use Rattle.nfs_ranges.specs.RangesError.{number_of};
 ghost use Rattle.nfs_ranges.specs.declared.ranges_error.RangesError.TheVariants as errors;

@@ -1,3 +1,5 @@
+//! Keeps an owner's runs in two lists, so that a change near the last one moves few runs.
+
 ghost use Rattle.std.specs.Prelude.{◌≡◌, ◌≤◌, ◌<◌, ◌+◌, ℕ, [], IsFalse, IsTrue, OnOk, drop, find, length, slice_get, vec_len};
 ghost use Rattle.nfs_ranges.specs.Bytes.{has};
 ghost use Rattle.nfs_ranges.specs.Merged.{IsMerged, ended, in_order};
@@ -22,7 +24,7 @@ pub(crate) struct Runs {
 }
 
 impl Runs {
-    /// None, taking no memory.
+    /// No runs, taking no memory.
     pub fn new(alloc: Global) -> Runs
         ensures runs { in_order result ≡ [] }
         ensures room { IsRoomy 0 result }
@@ -33,7 +35,7 @@ impl Runs {
         }
     }
 
-    /// How many there are.
+    /// How many runs there are.
     pub fn len(&self) -> usize
         requires few { length (in_order self.now) ≤ RUN_LIMIT }
         ensures { result ≡ length (in_order self.now) }

@@ -1,3 +1,5 @@
+//! Moves runs from the end of one list to another.
+
 ghost use Rattle.std.specs.Prelude.{◌≡◌, ◌≤◌, ◌<◌, ◌+◌, ◌-◌, ◌++◌, drop, reverse, take, vec_capacity, vec_len};
 ghost use Rattle.std.specs.List.{cons_option};
 

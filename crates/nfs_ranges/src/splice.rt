@@ -1,3 +1,5 @@
+//! Describes a change of the runs by what it replaces, before anything is changed.
+
 ghost use Rattle.std.specs.Prelude.{◌≡◌, ◌≤◌, List, length, if◌then◌else◌};
 ghost use Rattle.nfs_ranges.specs.Splices.{spliced};
 ghost use Rattle.nfs_ranges.specs.declared.limits.TheConstants.{RUN_LIMIT};

@@ -1,3 +1,5 @@
+//! Computes which runs a change replaces, cuts and joins.
+
 ghost use Rattle.std.specs.Prelude.{◌≡◌, ◌≤◌, ◌<◌, ◌+◌, IfSome, length};
 ghost use Rattle.nfs_ranges.specs.Merged.{IsMerged, ended, in_order};
 ghost use Rattle.nfs_ranges.specs.Splices.{IsFirstWith, IsLastWith, IsRestBefore, IsRestBehind, IsRunOver, IsSpliceOf};
@@ -47,7 +49,7 @@ fn first_with(runs: &Runs, change: Piece) -> u64
     }
 }
 
-// Where it ends.
+// Where the run of the change ends.
 fn last_with(runs: &Runs, change: Piece) -> u64
     requires few { length (in_order runs.now) ≤ RUN_LIMIT }
     requires merged { IsMerged (in_order runs.now) }

@@ -1,3 +1,5 @@
+//! Searches runs for the first that conflicts with a lock.
+
 ghost use Rattle.std.specs.Prelude.{◌≡◌, ◌≤◌, find, length, reverse, take};
 ghost use Rattle.nfs_ranges.specs.Questions.{stops};
 

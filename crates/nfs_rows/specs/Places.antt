@@ -46,7 +46,7 @@ HasRowAt at places =
 abbrev pub number_at : ℕ → List Place → ℕ
 number_at at places = slice_index_or (map (λ p. p.number) places) at 0
 
--- and the key
+-- the key at a place
 abbrev pub key_at : ℕ → List Place → ℕ
 key_at at places = slice_index_or (map (λ p. p.key) places) at 0
 
@@ -96,7 +96,8 @@ module _ {S : Type 0} where
     pub leads : AllByRecursion (λ p. get nat_eq index p.hash ≡ Some p.number) places
     pub own : (hash number : ℕ) → get nat_eq index hash ≡ Some number → Leads places hash number
 
-  pub record AreKept {V : Type 0} (slab : Slab V) (places : List Place) (index : IndexMap ℕ ℕ S) (clashed : Bool) : Type 0 where
+  pub record AreKept {V : Type 0} (slab : Slab V) (places : List Place) (index : IndexMap ℕ ℕ S) (clashed : Bool)
+      : Type 0 where
     pub rise : NumbersRise places
     pub there : AllByRecursion (HasRow slab) (kept places)
     pub apart : KeysDiffer (kept places)
@@ -104,7 +105,8 @@ module _ {S : Type 0} where
     pub indexed : clashed ≡ false → IsIndexed index (kept places)
 
   -- so many rows more take no memory
-  pub record HasRoom {V : Type 0} (slab : Slab V) (places : Vec Place) (index : IndexMap ℕ ℕ S) (room : ℕ) : Type 0 where
+  pub record HasRoom {V : Type 0} (slab : Slab V) (places : Vec Place) (index : IndexMap ℕ ℕ S) (room : ℕ)
+      : Type 0 where
     pub in_slab : slab_len slab + room ≤ slab.capacity
     pub in_places : vec_len places + room ≤ vec_capacity places
     pub in_index : room ≤ spare index

@@ -65,7 +65,7 @@ module _ {V : Type 0} where
   abbrev pub value_in : Option (Row V) → Option V
   value_in found = option_map (λ r. r.value) found
 
-  -- its number and its value
+  -- the row's number and its value
   abbrev pub pair_of : Row V → ℕ × V
   pair_of r = (r.number, r.value)
 

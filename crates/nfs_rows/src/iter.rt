@@ -1,3 +1,5 @@
+//! Iterates over rows in the order in which they came.
+
 ghost use Rattle.std.specs.Iterator.{YieldsFirstBy, item_count};
 
 use crate::place::Place;

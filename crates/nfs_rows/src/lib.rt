@@ -6,7 +6,8 @@ mod name_hash;
 mod parts;
 mod place;
 mod rows;
+mod seeds;
 
 pub use iter::Iter;
-pub use name_hash::hash_of;
 pub use rows::Rows;
+pub use seeds::{IdSeed, OwnerSeed};

@@ -1,3 +1,5 @@
+//! Searches and removals that borrow only some of a table's fields.
+
 ghost use Rattle.std.specs.Prelude.{◌≡◌, ◌≤◌, ℕ, Bool, false, true, List, None, Some, find, length};
 ghost use Rattle.std.specs.List.{AllByRecursion};
 ghost use Rattle.slab.specs.Slab.{Updates};

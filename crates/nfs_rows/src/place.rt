@@ -1,3 +1,5 @@
+//! Where each row is kept: places in the order of numbers, with marks for removed rows.
+
 ghost use Rattle.std.specs.Prelude.{◌≡◌, ◌≤◌, ◌*◌, false, filter, length, nat_lt, slice_index_or, true, vec_capacity, vec_len};
 ghost use Rattle.std.specs.List.Sorted.{IsPartitionPoint};
 ghost use Rattle.nfs_rows.specs.Places.{EndsKept, HasRowAt, IsPlaceOf, NumbersRise, is_from, kept, marked};

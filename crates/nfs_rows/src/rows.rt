@@ -1,4 +1,6 @@
-ghost use Rattle.std.specs.Prelude.{◌≡◌, ◌<◌, ◌≤◌, ◌==◌, ◌+◌, [], ◌∷◌, ◌++◌, IsOk, OnErr, OnOk, Bool, filter, find, length, map};
+//! A table whose rows are found by number and by name, for opens, lock states, owners and clients.
+
+ghost use Rattle.std.specs.Prelude.{◌≡◌, ◌<◌, ◌≤◌, ◌==◌, ◌+◌, ◌↔◌, [], ◌∷◌, ◌++◌, IsOk, IsTrue, OnErr, OnOk, Bool, filter, find, length, map};
 ghost use Rattle.std.specs.Option.{option_copied, option_copied_mut};
 ghost use Rattle.std.specs.Borrow.{sem};
 ghost use Rattle.nfs_rows.specs.Rows.{AnswersAs, IsAbove, StandInOrder, is_from, is_named, is_numbered, is_of_client, pair_in, pair_of, pair_seen, value_in, without};
@@ -69,11 +71,18 @@ impl<T> Rows<T> {
         self.slab.len()
     }
 
-    /// Whether there are none.
+    /// Whether there are no rows.
     pub fn is_empty(&self) -> bool
         ensures { result ≡ (length self.now.rows == 0) }
     {
         self.slab.is_empty()
+    }
+
+    /// Whether the next row takes no memory.
+    pub fn has_room(&self) -> bool
+        ensures { IsTrue result ↔ (0 < self.now.room) }
+    {
+        self.room > 0
     }
 
     /// The row with this number, if there is one.
@@ -95,8 +104,8 @@ impl<T> Rows<T> {
         self.slab.get_mut(self.places[at].key)
     }
 
-    /// The first row that has the hash and passes the test, with its number, if there is one. As long as no two rows have
-    /// had one hash, it looks at one row, and else at each.
+    /// The first row that has the hash and passes the test, with its number, if there is one. As long as no two rows
+    /// have had one hash, it looks at one row, and else at each.
     pub fn find_named<F: Fn(&T) -> bool>(&self, hash: u64, test: F) -> Option<(u64, &T)>
         requires { F.IsAlwaysCallable test }
         ensures { (p : T → Bool) → AnswersAs F.Fn test p
@@ -124,7 +133,8 @@ impl<T> Rows<T> {
         }
     }
 
-    /// The same of those rows whose numbers aren't below this one. It finds the first of them by halving.
+    /// The values of the rows whose numbers aren't below this one, as `iter` gives them. It finds the first of them by
+    /// halving.
     pub fn iter_from(&self, number: u64) -> Iter<'_, T>
         ensures { result ≡ map pair_of (filter (is_from number) self.now.rows) }
     {

@@ -60,8 +60,8 @@ HasStatus true status bytes =
 HasStatus false status bytes = status ≡ OK
 
 -- The record begins with the reply SUCCESS to the call of this xid, with status OK. The status of a COMPOUND is that of
--- its last operation (RFC 7530, sections 15.2 and 17.2), so it alone says whether the operation succeeded: a reply whose results
--- say something else, or that has none, is taken by its status.
+-- its last operation (RFC 7530, sections 15.2 and 17.2), so it alone says whether the operation succeeded: a reply
+-- whose results say something else, or that has none, is taken by its status.
 abbrev pub SaysOk : Bool → ℕ → List ℕ → Type 0
 SaysOk compound xid = IsAccepted xid ACCEPTED_SUCCESS (HasStatus compound OK)
 

@@ -1,3 +1,4 @@
+-- What contracts say of records, calls, replies and callbacks as bytes.
 pub mod Records
 pub mod Keeping
 pub mod AuthSys

@@ -1,3 +1,5 @@
+//! Reads the user in a credential of AUTH_SYS; the server uses nothing else of such a credential.
+
 ghost use Rattle.std.specs.Prelude.{List, ℕ};
 ghost use Rattle.nfs_rpc.specs.AuthSys.{AuthSys, auth_sys, gids};
 ghost use Rattle.xdr.specs.Reading.{Answers, as_value};

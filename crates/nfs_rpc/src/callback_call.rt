@@ -1,3 +1,5 @@
+//! Writes the calls of a client's callback program, from the record's header to the credential.
+
 ghost use Rattle.std.specs.Prelude.{◌≡◌, ◌+◌, ◌^◌, ◌<◌, ◌≤◌, ◌++◌, length, take, drop, vec_capacity, OnErr, Err};
 ghost use Rattle.nfs_rpc.specs.CallbackCall.{callback_header, credential_of, null_call};
 ghost use Rattle.nfs_rpc.specs.Credential.{opaque_auth};

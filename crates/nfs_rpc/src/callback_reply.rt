@@ -1,3 +1,5 @@
+//! Reads what a client replied to a callback, without taking memory.
+
 ghost use Rattle.std.specs.Prelude.{◌≡◌};
 ghost use Rattle.nfs_rpc.specs.CallbackReply.{IsTakenAs, versions};
 ghost use Rattle.nfs_rpc.specs.ReadingCallbackReplies.{accepted_at, accepted_head, cb_compound_at, denied_at, refused_at, reply_at, reply_start};

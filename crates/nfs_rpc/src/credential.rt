@@ -1,3 +1,5 @@
+//! Reads credentials and verifiers, and turns a credential into the principal that it authenticates.
+
 ghost use Rattle.std.specs.Prelude.{◌≡◌};
 ghost use Rattle.nfs_rpc.specs.AuthSys.{auth_sys};
 ghost use Rattle.nfs_rpc.specs.Credential.{opaque_auth, principal_of, user_of};

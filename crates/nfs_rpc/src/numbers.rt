@@ -1,3 +1,5 @@
+//! States the numbers of RPC and NFS in this crate as a law, so that a wrong constant fails the proof.
+
 ghost use Rattle.std.specs.Prelude.{◌≡◌, ◌^◌};
 
 use crate::auth_sys::{GID_LIMIT, MACHINE_NAME_LIMIT};

@@ -1,3 +1,5 @@
+//! The state of a parser of fragments, which may be cut anywhere, also inside a header.
+
 ghost use Rattle.std.specs.Prelude.{◌+◌, ◌<◌, ◌≤◌, ◌↔◌, ◌++◌, List, ℕ, length, take, IfOk, IsTrue};
 ghost use Rattle.nfs_rpc.specs.Records.{IsHeader, IsAt};
 ghost use Rattle.nfs_rpc.specs.Keeping.{IsPlace, IsIncomplete, Fits, Begins};

@@ -1,3 +1,5 @@
+//! Recalls of delegations: what a recall needs, and its CB_COMPOUND as a record.
+
 ghost use Rattle.std.specs.Prelude.{◌≡◌, [], false, OnErr, Err};
 ghost use Rattle.nfs_rpc.specs.CallbackCall.{recall_args, recall_call, recall_form, recall_head, recall_list, recall_operation, recall_target};
 ghost use Rattle.nfs_rpc.specs.Reply.{written_record};

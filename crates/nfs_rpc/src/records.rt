@@ -1,3 +1,5 @@
+//! Splits a TCP stream into RPC records, from pieces of any size.
+
 ghost use Rattle.std.specs.Prelude.{◌≡◌, ◌+◌, ◌^◌, ◌≤◌, ◌↔◌, ◌∷◌, [], ℕ, List, false, length, OnOk, IsErrOf, IfSome, IfNone, IsTrue};
 ghost use Rattle.nfs_rpc.specs.Records.{IsRest, IsTooLong, Stream, Keeps, IsStream, IsNew, TakesPiece, OneSplit, SplitGoesOn};
 ghost use Rattle.nfs_rpc.specs.RecordError.{number_of};

@@ -1,3 +1,5 @@
+//! Replies to calls, and their bytes.
+
 ghost use Rattle.std.specs.Prelude.{[]};
 ghost use Rattle.nfs_rpc.specs.Reply.{IsWritable, accepted_reply, denied_reply, no_verifier, written_accepted, written_reply};
 ghost use Rattle.nfs_xdr.specs.Compound.{compound_result};

@@ -1,3 +1,5 @@
+//! Reads an RPC call from a record, and decides which calls are refused before any operation runs.
+
 ghost use Rattle.std.specs.Prelude.{◌≡◌, ◌+◌, ◌≤◌, IfOk, length};
 ghost use Rattle.nfs_rpc.specs.RpcCall.{IsCall, IsCallWithinLimits, OneCall, OrSystemError, start};
 ghost use Rattle.nfs_rpc.specs.ReadingCalls.{call_of, compound_or_garbage, header_at};

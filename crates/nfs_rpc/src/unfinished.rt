@@ -1,3 +1,5 @@
+//! Adds pieces to the record that isn't whole yet, and undoes this if memory is refused.
+
 ghost use Rattle.std.specs.Prelude.{◌≡◌, ◌+◌, ◌^◌, ◌≤◌, ◌++◌, List, ℕ, [], false, length, take, if◌then◌else◌, is_ok, IfOk, OnOk, OnErr};
 ghost use Rattle.nfs_rpc.specs.Keeping.{IsPlace, Fits, TakesMore, Begins, AreFound, Finds, first_or, messages_of};
 
@@ -153,8 +155,8 @@ fn make_ready(
     ready.append(found)
 }
 
-/// Restores the first `len` bytes of the bodies, which may have been moved to a record that was found, and lets what was
-/// found go.
+/// Restores the first `len` bytes of the bodies, which may have been moved to a record that was found, and lets what
+/// was found go.
 fn give_back(found: &mut VecDeque<Vec<u8>>, bodies: &mut Vec<u8>, len: usize)
     ensures bodies { bodies.new.items
         ≡ take len (first_or (messages_of found.old.items) bodies.old.items) }
@@ -167,8 +169,8 @@ fn give_back(found: &mut VecDeque<Vec<u8>>, bodies: &mut Vec<u8>, len: usize)
     found.clear();
 }
 
-/// Adds a piece to an unfinished record, and moves all records that are whole now to those that are ready, by a queue for
-/// those that are found. If it fails, both the ready records and the bodies are as before.
+/// Adds a piece to an unfinished record, and moves all records that are whole now to those that are ready, by a queue
+/// for those that are found. If it fails, both the ready records and the bodies are as before.
 pub(crate) fn take_piece(
     alloc: Global,
     ready: &mut VecDeque<Vec<u8>>,

@@ -1,3 +1,5 @@
+//! Turns the universal address of a client's callbacks into a socket address, if the server can connect to it.
+
 ghost use Rattle.std.specs.Prelude.{◌≡◌, ◌↔◌, ◌==◌, ◌<◌, Some, IfSome, length, option_map};
 ghost use Rattle.std.specs.List.{position};
 ghost use Rattle.nfs_rpc.specs.ReadingAddresses.{number_at, part_at, parts_of, socket_at, universal_at};

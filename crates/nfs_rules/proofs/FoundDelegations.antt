@@ -1,12 +1,11 @@
 -- Delegations that are found by a stateid, by a number, or as the next one that is due.
 use Rattle.std.proofs.Common.{◌≡◌, ◌≤◌, ℕ, zero, suc, Bool, true, false, Option, Some, None, List, [], ◌∷◌, refl, sym, ap, ◌∙◌, subst, arith}
-use Rattle.std.proofs.lemmas.Bool.{eqb-true, le-leb}
-use Rattle.std.specs.Prelude.{◌&&◌, ◌==◌, IsTrue, IsFalse, find, option_map, position, if◌then◌else◌}
-use Rattle.std.specs.List.{AllByRecursion, Contains, list_any}
-use Rattle.std.proofs.lemmas.List.Elements.{All-contains, All-from_recursion}
-use Rattle.nfs_rules.specs.entries.Revoke.{IsNoneBefore, IsRevocation}
+use Rattle.std.proofs.lemmas.Bool.{eqb-true}
+use Rattle.std.specs.Prelude.{◌==◌, IsTrue, IsFalse, find, option_map, position, if◌then◌else◌}
+use Rattle.std.specs.List.{AllByRecursion, list_any}
+use Rattle.nfs_rules.specs.entries.Revoke.{IsNoneBefore, IsRevocation, NoneDue, end_of, return_of}
 use Rattle.nfs_share.specs.AllOpens.{DelegationAt, IsNextDue, delegation_numbered_in, delegations_of, lent_at, lent_found}
-use Rattle.nfs_share.specs.Delegations.{is_delegation_numbered, is_due, is_due_from}
+use Rattle.nfs_share.specs.Delegations.{is_delegation_numbered, is_due}
 use Rattle.nfs_share.specs.declared.delegation.Delegation.{Delegation}
 use Rattle.nfs_state.specs.State.{State, History}
 use Rattle.nfs_state.specs.declared.effect.Effect.{Effect}
@@ -15,14 +14,6 @@ use Rattle.nfs_state.specs.declared.entry.Revoke.{Revoke}
 -- what holds of all delegations of all files
 abbrev pub OfAll : (Delegation → Type 0) → List (List Delegation) → Type 0
 OfAll P all = AllByRecursion (AllByRecursion P) all
-
-weaker_each : (P Q : Delegation → Type 0) → ((d : Delegation) → P d → Q d) → (ds : List Delegation) → AllByRecursion P ds → AllByRecursion Q ds
-weaker_each P Q weaker [] holds = tt
-weaker_each P Q weaker (d ∷ ds) holds = (weaker d holds.0, weaker_each P Q weaker ds holds.1)
-
-pub weaker_all : (P Q : Delegation → Type 0) → ((d : Delegation) → P d → Q d) → (all : List (List Delegation)) → OfAll P all → OfAll Q all
-weaker_all P Q weaker [] holds = tt
-weaker_all P Q weaker (ds ∷ all) holds = (weaker_each P Q weaker ds holds.0, weaker_all P Q weaker all holds.1)
 
 -- what holds of all holds of those of one file
 at_node : (P : Delegation → Type 0) (node : ℕ) (all : List (List Delegation)) → OfAll P all → AllByRecursion P (delegations_of node all)
@@ -54,33 +45,24 @@ numbered_has P number all at found holds = by (position (list_any (is_delegation
     by None found = absurd cc
     by (Some node) found = found_passes P (is_delegation_numbered number) (delegations_of node all) at.state (lent_is node _ at found) (at_node P node all holds)
 
--- what holds of all delegations holds of one that a file has
-pub contained_has : (P : Delegation → Type 0) (node : ℕ) (all : List (List Delegation)) (d : Delegation) → Contains (delegations_of node all) d → OfAll P all → P d
-contained_has P node all d has holds =
-    All-contains P (delegations_of node all) d (All-from_recursion P (delegations_of node all) (at_node P node all holds)) has
-
--- each delegation that is due is one from the number 0 on
-due_from_none : (lease now : ℕ) (d : Delegation) → is_due_from 0 lease now d ≡ is_due lease now d
-due_from_none lease now d = ap (λ b. b && is_due lease now d) (le-leb 0 d.number (search arith))
-
--- no delegation that is due has a lesser number than the next one
-pub none_before : (journal : History) (revoke : Revoke) (next : DelegationAt) (all : List (List Delegation)) → next.state.number ≡ revoke.number → IsNextDue 0 journal.lease revoke.now all (Some next) → OfAll (IsNoneBefore journal revoke) all
-none_before journal revoke next all same is =
-    weaker_all (λ d. IsTrue (is_due_from 0 journal.lease revoke.now d) → next.state.number ≤ d.number) (IsNoneBefore journal revoke)
-    (λ d above due. subst (λ n. n ≤ d.number) same (above (due_from_none journal.lease revoke.now d ∙ due))) all is.2
+-- the next delegation that is due may be taken away
+pub next_may : (journal : History) (state : State) (now : ℕ) (next : DelegationAt) → IsNextDue journal.lease now state.delegations (Some next)
+    → delegation_numbered_in next.state.number state.delegations ≡ Some next → IsRevocation journal state (end_of next now) (return_of next)
+next_may journal state now next is found = record { at = next; found = found; due = is.1; least = is.2; removal = refl }
 
 -- where no delegation is due, there is none to take away
-pub no_revocation : (journal : History) (state : State) (revoke : Revoke) (effect : Effect) → IsNextDue 0 journal.lease revoke.now state.delegations None → IsRevocation journal state revoke effect → ⊥
+pub no_revocation : (journal : History) (state : State) (revoke : Revoke) (effect : Effect) → NoneDue journal state revoke.now → IsRevocation journal state revoke effect → ⊥
 no_revocation journal state revoke effect none is =
-    let undue = (numbered_has (λ d. IsFalse (is_due_from 0 journal.lease revoke.now d)) revoke.number state.delegations is.at is.found none).0 in
-    let both : true ≡ false = sym is.due ∙ sym (due_from_none journal.lease revoke.now is.at.state) ∙ undue in
+    let undue = (numbered_has (λ d. IsFalse (is_due journal.lease revoke.now d)) revoke.number state.delegations is.at is.found none).0 in
+    let both : true ≡ false = sym is.due ∙ undue in
     absurd cc
 
--- the delegation that may be taken away is the next one
-pub revoked_is_next : (journal : History) (state : State) (revoke : Revoke) (effect : Effect) (next : DelegationAt) → IsNextDue 0 journal.lease revoke.now state.delegations (Some next) → IsRevocation journal state revoke effect → next.state.number ≡ revoke.number
-revoked_is_next journal state revoke effect next comes is =
-    let above : revoke.number ≤ next.state.number =
-    contained_has (IsNoneBefore journal revoke) next.node state.delegations next.state comes.0 is.least (sym (due_from_none journal.lease revoke.now next.state) ∙ comes.1) in
-    let found = numbered_has (λ d. IsTrue (is_due_from 0 journal.lease revoke.now d) → next.state.number ≤ d.number) revoke.number state.delegations is.at is.found comes.2 in
-    let below : next.state.number ≤ is.at.state.number = found.0 (due_from_none journal.lease revoke.now is.at.state ∙ is.due) in
-    omega (arith, above, below, eqb-true is.at.state.number revoke.number found.1)
+-- of two delegations that may be taken away at one moment, neither has the greater number
+pub revoked_is_next : (journal : History) (state : State) (revoke next : Revoke) (effect other : Effect) → next.now ≡ revoke.now → IsRevocation journal state next other → IsRevocation journal state revoke effect
+    → next.number ≡ revoke.number
+revoked_is_next journal state revoke next effect other same comes is =
+    let found = numbered_has (IsNoneBefore journal next) revoke.number state.delegations is.at is.found comes.least in
+    let below : next.number ≤ is.at.state.number = found.0 (ap (λ now. is_due journal.lease now is.at.state) same ∙ is.due) in
+    let first = numbered_has (IsNoneBefore journal revoke) next.number state.delegations comes.at comes.found is.least in
+    let above : revoke.number ≤ comes.at.state.number = first.0 (ap (λ now. is_due journal.lease now comes.at.state) (sym same) ∙ comes.due) in
+    omega (arith, below, above, eqb-true is.at.state.number revoke.number found.1, eqb-true comes.at.state.number next.number first.1)

@@ -276,11 +276,11 @@ counted_place : (b : Bool) (change : OwnerChange) (state : State) → HasOwnerPl
 counted_place true change state place = place
 counted_place false change state place = tt
 
-records_place : (b : Bool) (name : StateOwner) (state : State) → name ≡ open_owner (as_open_owner name) → IsFalse (is_known name state) → (b ≡ true → length state.owners < OWNER_LIMIT) → HasOwnerPlace (if b then Records (as_open_owner name) else Nothing) state
+records_place : (b : Bool) (name : StateOwner) (state : State) → name ≡ open_owner (as_open_owner name) → IsFalse (is_known name state) → (b ≡ true → length state.owners < OWNER_LIMIT) → HasOwnerPlace (if b then Records (as_open_owner name) false else Nothing) state
 records_place true name state is_open_one unknown place = (ap (λ n. is_known n state) (sym is_open_one) ∙ unknown, place refl)
 records_place false name state is_open_one unknown place = tt
 
-restarts_place : (b : Bool) (name : StateOwner) (state : State) → name ≡ open_owner (as_open_owner name) → IsTrue (is_known name state) → HasOwnerPlace (if b then Restarts (as_open_owner name) else Drops (as_open_owner name)) state
+restarts_place : (b : Bool) (name : StateOwner) (state : State) → name ≡ open_owner (as_open_owner name) → IsTrue (is_known name state) → HasOwnerPlace (if b then Restarts (as_open_owner name) false else Drops (as_open_owner name)) state
 restarts_place true name state is_open_one known = ap (λ n. is_known n state) (sym is_open_one) ∙ known
 restarts_place false name state is_open_one known = tt
 

@@ -25,8 +25,8 @@ abbrev pub IsPassage : Passage → StateOwner → State → Type 0
 IsPassage passages.Begins name state = IsFalse (is_known name state)
 IsPassage passage name state = IsTrue (is_known name state)
 
--- In this state, what was decided about the operation is what its rule says. Limit is returned only if the rule gives no
--- decision, and Memory only if it gives one.
+-- In this state, what was decided about the operation is what its rule says. Limit is returned only if the rule gives
+-- no decision, and Memory only if it gives one.
 abbrev pub Decides : (Option Decision → Type 0) → State → Op → Result Decision Shortage → Type 0
 Decides ruled state op (Ok decision) =
     ruled (Some decision) × IsSendable op decision.answer
@@ -59,7 +59,7 @@ abbrev pub HasOtherRefusal : Requester → Type 0
 HasOtherRefusal (Refused refusal) = refusal ≢ refusals.Resource
 HasOtherRefusal (Owner name seqid) = ⊤
 
--- the same of any refusal
+-- any refusal isn't NFS4ERR_RESOURCE, which would have no entry in the journal
 abbrev pub IsOther : {A : Type 0} → Result A Refusal → Type 0
 IsOther (Err refusal) = refusal ≢ refusals.Resource
 IsOther (Ok a) = ⊤

@@ -122,6 +122,6 @@ parts_of call = (request_of call.request.op call.request.filehandle, call.answer
 abbrev pub parts_seen : KeptCall → KeptRequest × OpResult
 parts_seen call = (request_of call.op.now call.filehandle, call.answer.now)
 
--- they are those of the call that the journal's entry with this number records
+-- the request and the answer are those of the call that the journal's entry with this number records
 abbrev pub IsCallAt : History → ℕ → KeptCall → Type 0
 IsCallAt journal number call = option_map parts_of (call_at journal number) ≡ Some (parts_seen call)

@@ -70,7 +70,7 @@ lending_conditions state passage args node kind =
     (delegations_of node state.delegations)
     ∷ []
 
--- this kind, if all of the conditions hold for it
+-- this kind of delegation, if all of the conditions hold for it
 abbrev pub if_all_hold : (DelegationKind → List Bool) → Option DelegationKind
     → Option DelegationKind
 if_all_hold conditions None = None

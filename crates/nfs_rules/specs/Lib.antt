@@ -1,3 +1,4 @@
+-- The rules of operations and entries, and what they are made of: sequence ids, stateids, conflicts, refusals.
 pub mod Stateids
 pub mod Refusing
 pub mod Newcomers

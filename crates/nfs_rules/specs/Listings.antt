@@ -33,7 +33,7 @@ pub record Ask : Type 0 where
   pub maxcount : ℕ
   pub mask : List ℕ
 
--- its arguments, where it goes on behind this cookie
+-- the arguments of the READDIR, where it goes on behind this cookie
 abbrev pub args_of : Ask → ℕ → Readdir
 args_of ask cookie = record {
   cookie = cookie;

@@ -1,5 +1,5 @@
--- Lock owners that a LOCK introduces (RFC 7530, sections 9.1.7 and 16.10.5): such a LOCK has a sequence id for the owner
--- of its stateid, and another one for the lock owner.
+-- Lock owners that a LOCK introduces (RFC 7530, sections 9.1.7 and 16.10.5): such a LOCK has a sequence id for the
+-- owner of its stateid, and another one for the lock owner.
 use Rattle.std.specs.Prelude.{ℕ, Bool, true, false, Option, Some, None, if◌then◌else◌}
 use Rattle.nfs_forms.specs.ClientId.{is_same_client}
 use Rattle.nfs_forms.specs.declared.client_id.ClientId.{ClientId}
@@ -20,7 +20,7 @@ pub data Newcomer : Type 0 where
   -- There is none, or the request isn't for its account: it is of another client than the owner of the stateid, or it
   -- is known and its sequence id isn't the next one.
   Nobody : Newcomer
-  -- it is known, and its sequence id is the next one
+  -- the lock owner is known, and its sequence id is the next one
   Known : LockOwner → Newcomer
   Unknown : LockOwner → Newcomer
 

@@ -169,9 +169,9 @@ abbrev pub owner_change_of : Passage → StateOwner → Newcomer → Status → 
 owner_change_of passages.Continues name newcomer status =
     if counts status then kept_with name newcomer status else Nothing
 owner_change_of passages.Begins name newcomer status =
-    if is_ok_status status then Records (as_open_owner name) else Nothing
+    if is_ok_status status then Records (as_open_owner name) false else Nothing
 owner_change_of passages.Restarts name newcomer status =
-    if is_ok_status status then Restarts (as_open_owner name) else Drops (as_open_owner name)
+    if is_ok_status status then Restarts (as_open_owner name) false else Drops (as_open_owner name)
 
 abbrev pub decision_of : Passage → StateOwner → Newcomer → Ruling → Decision
 decision_of passage name newcomer ruling = record {

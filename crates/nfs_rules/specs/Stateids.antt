@@ -16,8 +16,8 @@ use Rattle.nfs_owners.specs.StateOwner.{open_owner}
 use Rattle.nfs_locks.specs.AllLocks.{LockAt, lock_named_in}
 use Rattle.nfs_share.specs.AllOpens.{DelegationAt, OpenAt, delegation_named_in, named_in}
 
--- Why a stateid can't name a state: it is special; it is of another run of the server; its client number was never given
--- out; its client has no confirmed record, be it gone or never confirmed.
+-- Why a stateid can't name a state: it is special; it is of another run of the server; its client number was never
+-- given out; its client has no confirmed record, be it gone or never confirmed.
 abbrev pub before_state : ℕ → State → Stateid → List (Bool × Refusal)
 before_state epoch state id =
     (is_special id, refusals.BadStateId)
@@ -38,7 +38,7 @@ open_or_lock (Some at) lock = Some (AnOpen at)
 open_or_lock None (Some at) = Some (ALock at)
 open_or_lock None None = None
 
--- the same, given also the delegation that it names: no two states have one number
+-- the state that is found, given also the delegation that the stateid names: no two states have one number
 abbrev pub delegation_or : Option DelegationAt → Option Found → Option Found
 delegation_or (Some at) other = Some (ADelegation at)
 delegation_or None other = other
@@ -64,7 +64,7 @@ node_of (AnOpen at) = at.node
 node_of (ALock at) = at.node
 node_of (ADelegation at) = at.node
 
--- It isn't an open of an unconfirmed owner. A lock owner needs no confirmation, and a delegation has no owner.
+-- The state isn't an open of an unconfirmed owner. A lock owner needs no confirmation, and a delegation has no owner.
 abbrev pub has_confirmed_owner : State → Found → Bool
 has_confirmed_owner state (AnOpen at) = is_confirmed (open_owner at.state.owner) state.owners
 has_confirmed_owner state (ALock at) = true

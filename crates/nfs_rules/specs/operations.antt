@@ -75,7 +75,7 @@ IsPlain (ops.ReleaseLockowner args) journal state request decision =
     decision ≡ release.rule state args
 IsPlain op journal state request decision = decision ≡ None
 
--- the same of any operation, by what it names
+-- the rule of any operation decides so, by what the operation names
 abbrev pub IsRuledBy : Names → Op → History → State → Request → Option Decision → Type 0
 IsRuledBy (Opener owner seqid) op journal state request decision =
     IsSequenced journal state (requester_of_open state owner seqid) (own_of op journal state)

@@ -1,3 +1,5 @@
+//! What a rule decides: the answer, and the effect on the state.
+
 use nfs_state::Effect;
 use nfs_xdr::OpResult;
 

@@ -1,3 +1,5 @@
+//! What an operation demands of the state that its stateid names.
+
 ghost use Rattle.std.specs.Prelude.{◌≡◌};
 ghost use Rattle.nfs_rules.specs.Stateids.{any_open, any_state, confirmed_open, delegation, delegation_of, lock_state};
 

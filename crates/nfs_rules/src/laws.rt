@@ -1,3 +1,5 @@
+//! Laws on the rules: one decision at most, the verdict on a sequence id, and complete listings.
+
 ghost use Rattle.std.specs.Prelude.{◌≡◌};
 ghost use Rattle.nfs_rules.specs.Judging.{JudgedAsSequenced};
 ghost use Rattle.nfs_rules.specs.Listings.{EachChildIsListedOnce};
@@ -15,14 +17,15 @@ pub fn at_most_one_decision()
     at_most_one_report();
 }
 
-/// The law that the verdict of the stored owners on a request (`Owners::judge`, handed the call that the owner's entry in the
-/// journal records) leads to the one step that the rules take, where what is stored for each owner is what its entry has.
+/// The law that the verdict of the stored owners on a request (`Owners::judge`, handed the call that the owner's entry
+/// in the journal records) leads to the one step that the rules take, where what is stored for each owner is what its
+/// entry has.
 pub fn judged_as_sequenced()
     ensures { JudgedAsSequenced }
 {}
 
-/// The law that READDIR by READDIR, each from the last entry of the one before, gives each child of a directory once, and
-/// then its end, however many entries fit each time.
+/// The law that READDIR by READDIR, each from the last entry of the one before, gives each child of a directory once,
+/// and then its end, however many entries fit each time.
 pub fn each_child_is_listed_once()
     ensures { EachChildIsListedOnce }
 {}

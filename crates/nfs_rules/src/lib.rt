@@ -23,7 +23,7 @@ pub use demand::{Demand, Kinds};
 pub use entries::expire::{NotExpired, expire};
 pub use entries::forget::{NotForgotten, forget, next_idle};
 pub use entries::path::mark_path;
-pub use entries::revoke::revoke;
+pub use entries::revoke::{next_due, revoke};
 pub use laws::{
     at_most_one_decision, each_child_is_listed_once, judged_as_sequenced, limit_of_listings,
 };

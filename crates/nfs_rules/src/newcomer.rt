@@ -1,3 +1,5 @@
+//! Judges the lock owner that a LOCK introduces, whose sequence id has to be right, too.
+
 ghost use Rattle.std.specs.Prelude.{◌≡◌};
 ghost use Rattle.nfs_rules.specs.Finding.{newcomer_seen};
 ghost use Rattle.nfs_rules.specs.Newcomers.{has_turn, newcomer_by, newcomer_in, newcomer_of};
@@ -16,7 +18,7 @@ pub(crate) enum Newcomer<'a> {
     /// There is none, or the request isn't for its account: it is of another client than the owner of the stateid, or
     /// it is known and its sequence id isn't the next one.
     Nobody,
-    /// It is known, and its sequence id is the next one.
+    /// The lock owner is known, and its sequence id is the next one.
     Known(&'a LockOwner),
     Unknown(&'a LockOwner),
 }

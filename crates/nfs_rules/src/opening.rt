@@ -1,3 +1,5 @@
+//! What an OPEN opens, after its refusals were ruled out.
+
 use nfs_share::Share;
 
 /// What an OPEN opens, and for which share.

@@ -1,4 +1,5 @@
-// The operations that have an entry in the journal. Each has its own file, which decides the answer and the change.
+//! Decides each operation that has an entry in the journal; its own rule is in a file of its own.
+
 ghost use Rattle.std.specs.Prelude.{◌-◌, ◌^◌, ◌<◌, IsFalse, IsTrue};
 ghost use Rattle.nfs_rules.specs.operations.{IsPlain, IsRuled};
 ghost use Rattle.nfs_rules.specs.Deciding.{Decides};

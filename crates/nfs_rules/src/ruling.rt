@@ -1,3 +1,5 @@
+//! What the own rule of an operation with a sequence id decides.
+
 ghost use Rattle.std.specs.Prelude.{◌≡◌};
 ghost use Rattle.nfs_xdr.specs.OpResult.{refusal_of};
 

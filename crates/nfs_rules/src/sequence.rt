@@ -1,3 +1,5 @@
+//! Finds the owner whose sequence id a request has, and replays or refuses a request that isn't the next.
+
 ghost use Rattle.std.specs.Prelude.{◌≡◌, ◌≢◌, ◌&&◌, not, IfOk, IsTrue, OnErr, find, is_some, option_map};
 ghost use Rattle.nfs_rules.specs.Finding.{IsCallAt, call_at, found_seen, requester_seen, sequence_seen, stored_or_bad, target_seen};
 ghost use Rattle.nfs_rules.specs.Deciding.{HasAnswer, HasOtherRefusal, HasPassage, IsOther, IsSendableSequence};

@@ -1,3 +1,5 @@
+//! Finds the state that a stateid names, and judges whether an operation may use the state.
+
 ghost use Rattle.std.specs.Prelude.{◌≡◌, option_map};
 ghost use Rattle.nfs_owners.specs.StateOwner.{open_owner};
 ghost use Rattle.nfs_rules.specs.Finding.{delegation_by, delegation_or_refusal_seen, found_delegation_seen, found_or_refusal_seen, found_seen, lock_by, lock_or_refusal_seen, open_by, open_or_refusal_seen, target_seen};

@@ -1,3 +1,5 @@
+//! Decides whether a stateid allows READ, WRITE or a SETATTR of the size.
+
 ghost use Rattle.std.specs.Prelude.{◌≡◌};
 ghost use Rattle.std.specs.Option.{option_copied};
 ghost use Rattle.nfs_rules.specs.Finding.{found_seen};

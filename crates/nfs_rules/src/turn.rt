@@ -1,3 +1,5 @@
+//! What an operation's own rule is given: filehandle, passage, and the state that the stateid names.
+
 use crate::passage::Passage;
 use crate::stateids::Found;
 use nfs_xdr::Refusal;

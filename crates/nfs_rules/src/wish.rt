@@ -1,3 +1,5 @@
+//! What a SETATTR asks for, after its refusals were ruled out.
+
 use nfs_tree::Settable;
 
 /// Which attributes are to be set, and to which size, if to one.

@@ -37,8 +37,8 @@ abbrev pub is_ok : Status → Bool
 is_ok status.Ok = true
 is_ok s = false
 
--- What the service is asked: an operation, with the node of the current filehandle at that time; or to renew the lease of
--- a client.
+-- What the service is asked: an operation, with the node of the current filehandle at that time; or to renew the lease
+-- of a client.
 pub data Asked : Type 0 where
   Operation : Op → Option ℕ → Asked
   Renewal : ClientId → Asked
@@ -84,7 +84,8 @@ opnum_in (Unsupported o) = opnums.Unsupported o
 opnum_in (Illegal number) = opnums.Illegal
 
 -- An entry that the profile doesn't refuse, as each does with an operation without a rule. One that ends the list isn't
--- run. An operation is run only if there is room for any answer to it after the first `size` bytes of the reply's record.
+-- run. An operation is run only if there is room for any answer to it after the first `size` bytes of the reply's
+-- record.
 abbrev pub allowed : Exported → Filehandles → ℕ → ArgOp → Dispatch
 allowed export handles size (BadArgs o) =
     Known (stays handles (refusal_of o refusals.BadXdr))

@@ -8,7 +8,8 @@ use Rattle.nfs_state.specs.declared.request.Request.{Request}
 use Rattle.nfs_state.specs.Entries.{request_of}
 use Rattle.nfs_xdr.specs.declared.op_result.OpResult.{OpResult}
 
--- A question to a service: the request for an operation; or RENEW, that the lease of a client be renewed at this moment.
+-- A question to a service: the request for an operation; or RENEW, that the lease of a client be renewed at this
+-- moment.
 pub data Question : Type 0 where
   Operation : Request → Question
   Renewal : ℕ → ClientId → Question

@@ -54,7 +54,7 @@ AreTurns {D = D} {S = S} {C = C} device rules before carried (turn ∷ turns) af
 abbrev pub text_of : List Turn → List ℕ
 text_of turns = flat_map (λ turn. turn.piece) turns
 
--- those of the bytes that are no whole record yet after these turns
+-- the bytes that are no whole record yet after these turns
 abbrev pub rest_after : List ℕ → List Turn → List ℕ
 rest_after carried [] = carried
 rest_after carried (turn ∷ turns) = rest_after turn.rest turns

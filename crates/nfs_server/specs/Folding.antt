@@ -58,7 +58,7 @@ abbrev pub IsAnswered : {S : Type 0} → Asker S → Place S → ArgOp → Effec
 IsAnswered asker old op effect service =
     HasEffect asker old (dispatch asker.export old.handles old.size op) effect service
 
--- The same of an operation that the profile doesn't refuse.
+-- At this place the operation, which the profile doesn't refuse, has this effect, and leaves the service in this state.
 abbrev pub IsAllowed : {S : Type 0} → Asker S → Place S → ArgOp → Effect → S → Type 0
 IsAllowed asker old op effect service =
     HasEffect asker old (allowed asker.export old.handles old.size op) effect service

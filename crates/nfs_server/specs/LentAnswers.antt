@@ -24,9 +24,9 @@ abbrev pub names_live : Registry → Option ℕ → Bool
 names_live clients None = false
 names_live clients (Some number) = is_live number clients
 
--- How a core with the leases of its clients answers a question. Before an operation is judged it renews the lease of the
--- client that it names, whatever is answered; after it, the lease of a client that became live by it is opened, and that
--- of one that was replaced is retired. A renewal is answered NFS4_OK where the client is live.
+-- How a core with the leases of its clients answers a question. Before an operation is judged it renews the lease of
+-- the client that it names, whatever is answered; after it, the lease of a client that became live by it is opened, and
+-- that of one that was replaced is retired. A renewal is answered NFS4_OK where the client is live.
 abbrev pub IsGiven : LentCore → Question → OpResult → LentCore → Type 0
 IsGiven old (Operation request) answer new =
     let client = renewed_by old.core.journal.epoch request.op in

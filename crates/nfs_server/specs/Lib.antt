@@ -1,3 +1,4 @@
+-- What contracts say of a connection: its reads and writes, its calls, and what a service promises.
 pub mod Serves
 pub mod Answering
 pub mod Asking

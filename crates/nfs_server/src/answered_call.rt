@@ -1,3 +1,5 @@
+//! Answers one call, and holds its reply until the batch has ended, since nothing is written under the lock.
+
 ghost use Rattle.std.specs.Prelude.{◌≡◌, ◌+◌, ◌^◌, ◌∷◌, ◌++◌, ◌<◌, ◌≤◌, [], ℕ, IfOk, OnErr, OnOk, length, vec_capacity};
 ghost use Rattle.std.specs.VecDeque.{deque_capacity, deque_len};
 ghost use Rattle.nfs_rpc.specs.Reply.{IsWritable, written_record, written_reply};
@@ -172,8 +174,8 @@ impl AnsweredCall {
         }
     }
 
-    /// Writes the reply at the end of these bytes, which have room for it, and lets the call go. The list that its results
-    /// were in comes to these lists, to be used again, unless there is no room for it.
+    /// Writes the reply at the end of these bytes, which have room for it, and lets the call go. The list that its
+    /// results were in comes to these lists, to be used again, unless there is no room for it.
     pub(crate) fn write(self, out: &mut Vec<u8>, lists: &mut Vec<Vec<OpResult>>)
         requires { length out.old.items + length self ≤ vec_capacity out.old }
         ensures items { out.new.items ≡ out.old.items ++ self }

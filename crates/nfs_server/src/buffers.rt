@@ -1,3 +1,5 @@
+//! The memory of a connection, which the next connection of the same worker uses again.
+
 ghost use Rattle.std.specs.Prelude.{◌≡◌, ◌-◌, ◌^◌, ◌<◌, ◌↔◌, IsErrOf};
 ghost use Rattle.nfs_server.specs.Connection.{HasCourse, scene};
 ghost use Rattle.nfs_server.specs.Exchange.{rules};
@@ -10,8 +12,8 @@ use nfs_tree::{Export, Tree};
 use std::alloc::{AllocError, Global};
 use std::marker::Model;
 
-/// What a connection needs of memory beside its records: the bytes of one read, and the calls, replies and results of one
-/// batch. It is made once, and serves one connection after the other.
+/// What a connection needs of memory beside its records: the bytes of one read, and the calls, replies and results of
+/// one batch. It is made once, and serves one connection after the other.
 #[derive(Drop)]
 pub struct Buffers {
     piece: Vec<u8>,

@@ -1,3 +1,5 @@
+//! The clock that a connection reads before each call, as a trait.
+
 ghost use Rattle.std.specs.Prelude.{◌≡◌, ℕ};
 
 use nfs_core::Moment;

@@ -1,3 +1,5 @@
+//! Runs a COMPOUND: operation by operation, up to the first failure or the reply's size limit.
+
 ghost use Rattle.std.specs.Prelude.{◌≡◌, ◌+◌, ◌-◌, ◌^◌, ◌<◌, ◌≤◌, true, false, max, List, [], map, length, vec_capacity, IsOk, None, OnOk};
 ghost use Rattle.std.specs.List.{All, flat_map};
 ghost use Rattle.nfs_server.specs.Answering.{compound_outcome, compound_reply, head_size, is_ok, last_status, operations_of, opnum_in, request_status};
@@ -139,8 +141,8 @@ fn head_len(tag: &Bytes) -> usize
     ACCEPTED_LEN + 4 + 4 + len + padding_of(len) + 4
 }
 
-// What a COMPOUND asked for was answered: the status of the reply, the length of its record, and the operations that were
-// not run.
+// What a COMPOUND asked for was answered: the status of the reply, the length of its record, and the operations that
+// were not run.
 #[derive(Drop)]
 struct AnsweredRequest {
     status: Status,
@@ -197,8 +199,8 @@ fn refused(refusal: Refusal, head: usize) -> AnsweredRequest
     }
 }
 
-// Answers operations, one after the other, up to the first answer other than NFS4_OK. The results follow the first `head`
-// bytes of the reply's record. Returns the length of the record with them.
+// Answers operations, one after the other, up to the first answer other than NFS4_OK. The results follow the first
+// `head` bytes of the reply's record. Returns the length of the record with them.
 fn answer_operations<S: Service>(
     service: &mut S,
     context: &Context<'_>,
@@ -250,8 +252,8 @@ fn is_ok(answer: &OpResult) -> bool
     matches!(answer.status(), Status::Ok)
 }
 
-// Answers an entry of the list, whose result follows the first `size` bytes of the reply's record. What the profile answers
-// whatever the arguments are comes first, without any room; it ends the list.
+// Answers an entry of the list, whose result follows the first `size` bytes of the reply's record. What the profile
+// answers whatever the arguments are comes first, without any room; it ends the list.
 fn answer_one<S: Service>(
     service: &mut S,
     context: &Context<'_>,

@@ -1,4 +1,5 @@
-//! Laws that hold for every course of a connection, for the questions of a service, and for what is written to a device.
+//! Laws that hold for every course of a connection, for the questions of a service, and for what is written to a
+//! device.
 ghost use Rattle.std.specs.Prelude.{◌≡◌, ℕ, List, Option};
 ghost use Rattle.nfs_server.specs.CourseLaws.{AddsWritten, GainsEntries, HasBytes, IsOneText, TellsBytes};
 ghost use Rattle.nfs_server.specs.Device.{device_of_sink};

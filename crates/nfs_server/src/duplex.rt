@@ -1,3 +1,5 @@
+//! A connection's reads and writes as one device, so that contracts can speak of their order.
+
 ghost use Rattle.std.specs.Prelude.{◌≡◌, ℕ, ◌+◌, ◌-◌, ◌^◌, ◌<◌, ◌≤◌, length, take, IfOk, OnOk, OnErr};
 ghost use Rattle.nfs_server.specs.Device.{Device};
 

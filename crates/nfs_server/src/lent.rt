@@ -1,3 +1,5 @@
+//! The service of `once`: a core that one connection has for itself.
+
 ghost use Rattle.std.specs.Prelude.{◌≡◌, ◌↔◌, ◌≤◌, ◌^◌, ◌∷◌, [], IfErr, IfNone, IfOk, IfSome, IsFalse, None, Ok, OnErr, ℕ, refl};
 ghost use Rattle.nfs_core.specs.Events.{EndsNoClient, IsForgotten, IsNotEntered, IsNotForgottenFor, NoneIsIdle, entry_by};
 ghost use Rattle.nfs_core.specs.Server.{AreAlike, Enters, IsLawful};
@@ -60,9 +62,9 @@ impl Lent {
         core
     }
 
-    /// Removes each client whose lease is over at this moment, with all that it has. Then it revokes the delegations that
-    /// are due, and then forgets the open owners that may be forgotten, until none is left of both, or there is no room for
-    /// an entry.
+    /// Removes each client whose lease is over at this moment, with all that it has. Then it revokes the delegations
+    /// that are due, and then forgets the open owners that may be forgotten, until none is left of both, or there is no
+    /// room for an entry.
     pub fn sweep(&mut self, now: Moment) -> Swept
         ensures sweeps { Sweeps Happens now (leased_server self.old.core self.old.book) result
             (leased_server self.new.core self.new.book) }

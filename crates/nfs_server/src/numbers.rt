@@ -1,3 +1,5 @@
+//! States the limits on a connection as a law, so that a wrong constant fails the proof.
+
 ghost use Rattle.std.specs.Prelude.{◌≡◌, ◌^◌};
 
 use crate::connection::STREAM_LIMIT;

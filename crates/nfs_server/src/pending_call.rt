@@ -1,3 +1,5 @@
+//! A call that was read and waits for its batch, with memory for its results.
+
 ghost use Rattle.std.specs.Prelude.{◌≡◌, ◌≤◌, IfOk, length};
 ghost use Rattle.nfs_rpc.specs.RpcCall.{IsCall, IsCallWithinLimits};
 ghost use Rattle.nfs_rpc.specs.declared.records.TheConstants.{RECORD_LIMIT};
@@ -11,8 +13,8 @@ use nfs_xdr::OpResult;
 use std::alloc::{AllocError, Global};
 use std::marker::Model;
 
-/// A call that waits for its answer, with the record that it was read from, and for a COMPOUND an empty list with room for
-/// its results.
+/// A call that waits for its answer, with the record that it was read from, and for a COMPOUND an empty list with room
+/// for its results.
 #[derive(Drop)]
 pub(crate) struct PendingCall {
     message: Vec<u8>,

@@ -1,3 +1,5 @@
+//! Answers calls in batches, so that the lock is taken once for all calls that came together.
+
 ghost use Rattle.std.specs.Prelude.{◌≡◌, ◌≢◌, ◌+◌, ◌<◌, ◌≤◌, ◌++◌, [], ℕ, List, false, true, length, vec_capacity, IfOk, OnOk, OnErr};
 ghost use Rattle.std.specs.List.{AllByRecursion};
 ghost use Rattle.std.specs.VecDeque.{deque_capacity, deque_len};
@@ -28,8 +30,8 @@ pub(crate) const GATHER_LIMIT: usize = GATHER_ROOM - REPLY_LIMIT;
 /// The most bytes of replies that wait together.
 const GATHER_ROOM: usize = 524_288;
 
-/// Calls that wait for their answers, calls that were answered and whose replies aren't written yet, replies that wait to
-/// be sent together, and lists for the results of the next COMPOUNDs.
+/// Calls that wait for their answers, calls that were answered and whose replies aren't written yet, replies that wait
+/// to be sent together, and lists for the results of the next COMPOUNDs.
 #[derive(Drop)]
 pub(crate) struct Replies {
     alloc: Global,
@@ -55,7 +57,7 @@ impl Replies {
         }
     }
 
-    /// The same, with room for as many calls, replies and results as there may be.
+    /// No calls and no replies, with room for as many calls, replies and results as there may be.
     pub(crate) fn with_room(alloc: Global) -> Result<Replies, AllocError>
         ensures pending { IfOk result (λ replies. replies.pending.items ≡ []) }
         ensures answered { IfOk result (λ replies. replies.answered.items ≡ []) }
@@ -103,9 +105,9 @@ impl Replies {
         self.answered.clear();
     }
 
-    /// Reads the calls of records that are ready, and has the service answer the first of the pending ones in a batch. Their
-    /// replies are written, and the calls let go, once the batch has ended. Returns whether there were any. Where memory is
-    /// refused, those that were answered remain so, and the service wasn't asked for the others.
+    /// Reads the calls of records that are ready, and has the service answer the first of the pending ones in a batch.
+    /// Their replies are written, and the calls let go, once the batch has ended. Returns whether there were any. Where
+    /// memory is refused, those that were answered remain so, and the service wasn't asked for the others.
     pub(crate) fn answer_some<S: Service, C: Clock>(
         &mut self,
         records: &mut Records,
@@ -245,8 +247,8 @@ impl Replies {
         Ok(())
     }
 
-    // Whether a batch in which so many questions were asked, and with which so many bytes of replies wait, goes on with the
-    // next call.
+    // Whether a batch in which so many questions were asked, and with which so many bytes of replies wait, goes on with
+    // the next call.
     fn goes_on(&self, asked: usize, waiting: usize) -> bool
         requires few { asked ≤ BATCH_QUESTIONS }
         ensures goes { result ≡ goes_on self.now.pending.items asked waiting }

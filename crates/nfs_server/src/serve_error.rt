@@ -1,3 +1,5 @@
+//! Why a connection ended before its input did, with the numbers that tests compare.
+
 ghost use Rattle.std.specs.Prelude.{◌≡◌};
 ghost use Rattle.nfs_server.specs.ServeError.{number_of};
 

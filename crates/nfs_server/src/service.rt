@@ -1,3 +1,5 @@
+//! The trait of what answers operations on the state: a core of its own, or a core that threads share.
+
 ghost use Rattle.std.specs.Prelude.{◌≡◌, ◌+◌, ◌<◌, ◌≤◌, ℕ, IsTrue, IfSome, OnOk, length};
 ghost use Rattle.nfs_xdr.specs.Op.{opnum_of};
 ghost use Rattle.nfs_server.specs.Asking.{Operation, Question, Renewal};

@@ -1,3 +1,5 @@
+//! Joins a source and a sink into one device, such as standard input and output.
+
 use crate::{DeviceFailed, Duplex, Sink, Source};
 
 /// A source and a sink as one device.

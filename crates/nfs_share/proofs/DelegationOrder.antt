@@ -4,7 +4,7 @@ use Rattle.std.specs.Prelude.{Option, IsTrue, ◌==◌, ◌||◌, cond, filter, 
 use Rattle.std.specs.List.{AllByRecursion, Contains, list_any}
 use Rattle.std.proofs.lemmas.Bool.{cond_both, eqb-false, eqb-true, false_from_ne_true, false≢true, leb-false, leb-true, true_from_ne_false}
 use Rattle.std.proofs.lemmas.Map.Entries.{option_filter}
-use Rattle.nfs_share.specs.Delegations.{IsAboveLent, IsNextDueOf, StandInOrder, conflicts, is_due_from, with_recall, with_recalls}
+use Rattle.nfs_share.specs.Delegations.{IsAboveLent, IsNextDueOf, StandInOrder, conflicts, is_due, with_recall, with_recalls}
 use Rattle.nfs_share.specs.declared.delegation.Delegation.{Delegation}
 use Rattle.nfs_share.specs.declared.delegation.FileUse.{FileUse}
 use Rattle.nfs_share.proofs.EachElement.{all_map, all_push, all_weaken}
@@ -58,24 +58,24 @@ here d ds = (0, omega arith, refl)
 there : (d e : Delegation) (ds : List Delegation) → Contains ds e → Contains (d ∷ ds) e
 there d e ds h = (suc h.0, omega (arith, h.1), h.2)
 
-module _ (from lease now : ℕ) where
+module _ (lease now : ℕ) where
   abbrev is : Delegation → Bool
-  is d = is_due_from from lease now d
+  is d = is_due lease now d
 
   abbrev IsAbove : ℕ → Delegation → Type 0
   IsAbove number d = IsTrue (is d) → number ≤ d.number
 
   next_more : (d : Delegation) (ds : List Delegation) (next : Option Delegation) → AreAfter d.number ds → is d ≡ false
-      → IsNextDueOf from lease now ds next → IsNextDueOf from lease now (d ∷ ds) next
+      → IsNextDueOf lease now ds next → IsNextDueOf lease now (d ∷ ds) next
   next_more d ds None above undue none = (undue, none)
   next_more d ds (Some next) above undue least =
       (there d next ds least.0, least.1, (λ due. absurd (false≢true (sym undue ∙ due)), least.2))
 
   -- The first one that is due has the least number.
-  pub first_is_next : (ds : List Delegation) → StandInOrder ds → IsNextDueOf from lease now ds (find is ds)
+  pub first_is_next : (ds : List Delegation) → StandInOrder ds → IsNextDueOf lease now ds (find is ds)
   first_is_next [] h = tt
   first_is_next (d ∷ ds) h =
-      cond_both (is d) (Some d) (find is ds) (IsNextDueOf from lease now (d ∷ ds))
+      cond_both (is d) (Some d) (find is ds) (IsNextDueOf lease now (d ∷ ds))
       (λ due. (
         here d ds,
         due,

@@ -1,15 +1,14 @@
 -- The moment before which no delegation of a file was called back, and those that are due.
-use Rattle.std.proofs.Common.{◌≡◌, ℕ, zero, suc, ◌+◌, ◌-◌, ◌<◌, ◌≤◌, Bool, true, false, ◌&&◌, cond, List, [], ◌∷◌, ◌++◌, drop, get_or, length, filter, find, take, take_all, Option, Some, None, refl, sym, ap, ◌∙◌, subst, arith}
-use Rattle.std.specs.Prelude.{IsFalse, nat_le, nat_lt, slice_range}
+use Rattle.std.proofs.Common.{◌≡◌, ℕ, ◌+◌, ◌<◌, ◌≤◌, Bool, true, false, cond, List, [], ◌∷◌, ◌++◌, get_or, length, filter, take, Option, Some, None, refl, sym, ap, ◌∙◌, subst, arith}
+use Rattle.std.specs.Prelude.{IsFalse, nat_lt}
 use Rattle.std.specs.List.{AllByRecursion}
-use Rattle.std.proofs.lemmas.Bool.{cond_both, false_from_ne_true, leb-true, leb-false, ltb-true, ltb-false, true_from_ne_false}
-use Rattle.std.proofs.lemmas.List.{length-drop, take_more}
+use Rattle.std.proofs.lemmas.Bool.{cond_both, false_from_ne_true, ltb-true, ltb-false}
+use Rattle.std.proofs.lemmas.List.{take_more}
 use Rattle.nfs_rows.proofs.Each.{all_filter}
-use Rattle.nfs_share.specs.Delegations.{is_due, is_due_from, is_lease_before, lesser}
+use Rattle.nfs_share.specs.Delegations.{is_due, is_lease_before, lesser}
 use Rattle.nfs_share.specs.KeptDelegations.{AreNotBefore, IsNotBefore}
 use Rattle.nfs_share.specs.declared.delegation.Delegation.{Delegation}
 use Rattle.nfs_share.proofs.EachElement.{all_push, all_weaken}
-use Rattle.nfs_share.proofs.LentPlaces.{IsPoint}
 
 -- the earlier of two moments
 abbrev pub earlier : Option ℕ → Option ℕ → Option ℕ
@@ -49,11 +48,7 @@ pub none_left : (ds : List Delegation) → length ds ≡ 0 → AreNotBefore None
 none_left [] none = tt
 none_left (d ∷ ds) none = absurd (omega (arith, none))
 
-module _ (from lease now : ℕ) where
-  and_no : (b : Bool) → (b && false) ≡ false
-  and_no true = refl
-  and_no false = refl
-
+module _ (lease now : ℕ) where
   undue : (recalled first : Option ℕ) → is_lease_before lease now first ≡ false → IsNotBefore recalled first → is_lease_before lease now recalled ≡ false
   undue None first early h = refl
   undue (Some m) None early h = absurd h
@@ -62,28 +57,7 @@ module _ (from lease now : ℕ) where
 
   -- Where one called back first isn't due, none is.
   pub none_due : (first : Option ℕ) (ds : List Delegation) → is_lease_before lease now first ≡ false → AreNotBefore first ds
-      → AllByRecursion (λ d. IsFalse (is_due_from from lease now d)) ds
+      → AllByRecursion (λ d. IsFalse (is_due lease now d)) ds
   none_due first ds early h =
-      all_weaken (λ d. IsNotBefore d.recalled first) (λ d. IsFalse (is_due_from from lease now d))
-      (λ d is. ap (λ b. nat_le from d.number && b) (undue d.recalled first early is) ∙ and_no (nat_le from d.number)) ds h
-
-  -- from its place on each has no lower number
-  due_behind : (ds : List Delegation) (at : ℕ) → at ≤ length ds → IsPoint from ds at → find (is_due lease now) (drop at ds) ≡ find (is_due_from from lease now) ds
-  due_behind [] zero bound point = refl
-  due_behind [] (suc at) bound point = absurd (omega (arith, bound))
-  due_behind (d ∷ ds) zero bound point =
-      let least : nat_le from d.number ≡ true = true_from_ne_false (nat_le from d.number) (λ less. omega (arith, leb-false from d.number less, ltb-false d.number from (point.1 0 d (omega arith) (omega arith)))) in
-      let rest = due_behind ds zero (omega arith) ((λ k e low high. absurd (omega (arith, high))), (λ k e low high. point.1 (suc k) e (omega arith) (omega (arith, high)))) in
-      λ i. cond (sym least i && is_due lease now d) (Some d) (rest i)
-  due_behind (d ∷ ds) (suc at) bound point =
-      due_behind ds at (omega (arith, bound)) (
-        λ k e low high. point.0 (suc k) e (omega arith) (omega (arith, high)),
-        λ k e low high. point.1 (suc k) e (omega (arith, low)) (omega (arith, high)),
-      )
-      ∙ sym (ap (λ b. cond (b && is_due lease now d) (Some d) (find (is_due_from from lease now) ds))
-      (false_from_ne_true (nat_le from d.number) (λ more. omega (arith, leb-true from d.number more, ltb-true d.number from (point.0 0 d (omega arith) (omega arith))))))
-
-  pub due_in_rest : (ds : List Delegation) (at : ℕ) → at ≤ length ds → IsPoint from ds at → find (is_due lease now) (slice_range ds at (length ds)) ≡ find (is_due_from from lease now) ds
-  due_in_rest ds at bound point =
-      ap (find (is_due lease now)) (take_all (length ds - at) (drop at ds) (omega (arith, length-drop at ds)))
-      ∙ due_behind ds at bound point
+      all_weaken (λ d. IsNotBefore d.recalled first) (λ d. IsFalse (is_due lease now d))
+      (λ d is. undue d.recalled first early is) ds h

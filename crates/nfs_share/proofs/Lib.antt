@@ -7,6 +7,7 @@ pub mod OneFile
 pub mod AllOpens
 pub mod Indexed
 pub mod NextDue
+pub mod NextNumbered
 pub mod DelegationOrder
 pub mod ApartDelegations
 pub mod AtMostOne

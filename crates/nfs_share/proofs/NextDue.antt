@@ -5,37 +5,37 @@ use Rattle.std.specs.List.{AllByRecursion, Contains}
 use Rattle.std.proofs.lemmas.Bool.{cond_both, false≢true, ltb-true, ltb-false}
 use Rattle.std.proofs.lemmas.List.{take_more}
 use Rattle.nfs_share.specs.AllOpens.{DelegationAt, IsNextDue, delegations_of, lent_at, lesser_at}
-use Rattle.nfs_share.specs.Delegations.{IsNextDueOf, is_due_from}
+use Rattle.nfs_share.specs.Delegations.{IsNextDueOf, is_due}
 use Rattle.nfs_share.specs.declared.delegation.Delegation.{Delegation}
 use Rattle.nfs_share.proofs.EachElement.{all_push, all_weaken}
 
-module _ (from lease now : ℕ) where
+module _ (lease now : ℕ) where
   -- none of those seen is due
   abbrev AreUndue : List Delegation → Type 0
-  AreUndue seen = AllByRecursion (λ d. IsFalse (is_due_from from lease now d)) seen
+  AreUndue seen = AllByRecursion (λ d. IsFalse (is_due lease now d)) seen
 
   -- each of those seen that is due has no lesser number
   abbrev AreAbove : ℕ → List Delegation → Type 0
-  AreAbove number seen = AllByRecursion (λ d. IsTrue (is_due_from from lease now d) → number ≤ d.number) seen
+  AreAbove number seen = AllByRecursion (λ d. IsTrue (is_due lease now d) → number ≤ d.number) seen
 
   undue_above : (number : ℕ) (seen : List Delegation) → AreUndue seen → AreAbove number seen
   undue_above number seen none =
-      all_weaken (λ d. IsFalse (is_due_from from lease now d)) (λ d. IsTrue (is_due_from from lease now d) → number ≤ d.number)
+      all_weaken (λ d. IsFalse (is_due lease now d)) (λ d. IsTrue (is_due lease now d) → number ≤ d.number)
       (λ d undue due. absurd (false≢true (sym undue ∙ due))) seen none
 
   lower_above : (number lower : ℕ) (seen : List Delegation) → lower ≤ number → AreAbove number seen → AreAbove lower seen
   lower_above number lower seen below each =
-      all_weaken (λ d. IsTrue (is_due_from from lease now d) → number ≤ d.number) (λ d. IsTrue (is_due_from from lease now d) → lower ≤ d.number)
+      all_weaken (λ d. IsTrue (is_due lease now d) → number ≤ d.number) (λ d. IsTrue (is_due lease now d) → lower ≤ d.number)
       (λ d above due. omega (arith, above due, below)) seen each
 
   -- of the delegations of all files, this is the next one that is due among those of the files seen
   abbrev pub IsLeast : List (List Delegation) → List (List Delegation) → Option DelegationAt → Type 0
   IsLeast all seen None = AllByRecursion AreUndue seen
   IsLeast all seen (Some next) = Contains (delegations_of next.node all) next.state
-      × IsTrue (is_due_from from lease now next.state) × AllByRecursion (AreAbove next.state.number) seen
+      × IsTrue (is_due lease now next.state) × AllByRecursion (AreAbove next.state.number) seen
 
   file_more : (all seen : List (List Delegation)) (node : ℕ) (ds : List Delegation) (next : Option DelegationAt) (found : Option Delegation)
-      → delegations_of node all ≡ ds → IsNextDueOf from lease now ds found
+      → delegations_of node all ≡ ds → IsNextDueOf lease now ds found
       → IsLeast all seen next → IsLeast all (seen ++ ds ∷ []) (lesser_at next (lent_at node found))
   file_more all seen node ds None None is one none = all_push AreUndue seen ds none one
   file_more all seen node ds None (Some d) is one none =
@@ -60,12 +60,12 @@ module _ (from lease now : ℕ) where
 
   -- the loop comes by one more file
   pub file_at : (all : List (List Delegation)) (node : ℕ) (ds : List Delegation) (next new : Option DelegationAt) (found : Option Delegation) → node < length all
-      → ds ≡ get_or all node ds → delegations_of node all ≡ ds → IsNextDueOf from lease now ds found → new ≡ lesser_at next (lent_at node found)
+      → ds ≡ get_or all node ds → delegations_of node all ≡ ds → IsNextDueOf lease now ds found → new ≡ lesser_at next (lent_at node found)
       → IsLeast all (take node all) next → IsLeast all (take (node + 1) all) new
   file_at all node ds next new found below is there one new_is least =
       let seen : take (node + 1) all ≡ take node all ++ ds ∷ [] = take_more all node ds below ∙ ap (λ xs. take node all ++ xs ∷ []) (sym is) in
       subst (λ xs. IsLeast all xs new) (sym seen) (subst (IsLeast all (take node all ++ ds ∷ [])) (sym new_is) (file_more all (take node all) node ds next found there one least))
 
-  pub next_of_all : (all seen : List (List Delegation)) (next : Option DelegationAt) → seen ≡ all → IsLeast all seen next → IsNextDue from lease now all next
+  pub next_of_all : (all seen : List (List Delegation)) (next : Option DelegationAt) → seen ≡ all → IsLeast all seen next → IsNextDue lease now all next
   next_of_all all seen None end least = subst (AllByRecursion AreUndue) end least
   next_of_all all seen (Some next) end least = (least.0, least.1, subst (AllByRecursion (AreAbove next.state.number)) end least.2)

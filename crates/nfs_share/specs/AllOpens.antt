@@ -3,7 +3,7 @@ use Rattle.std.specs.Prelude.{◌<◌, ◌≤◌, ℕ, ◌+◌, Bool, List, [], 
 use Rattle.std.specs.List.{AllByRecursion, Contains, list_any}
 use Rattle.nfs_forms.specs.declared.open_owner.OpenOwner.{OpenOwner}
 use Rattle.nfs_forms.specs.declared.stateid.Stateid.{Stateid}
-use Rattle.nfs_share.specs.Delegations.{IsAboveLent, is_delegation_numbered, is_due_from, is_stateid_of_delegation, lesser}
+use Rattle.nfs_share.specs.Delegations.{IsAboveLent, is_delegation_numbered, is_due, is_stateid_of_delegation, lesser}
 use Rattle.nfs_share.specs.Opens.{FileOpens, IsAbove, is_stateid_of, open_named_by, open_of}
 use Rattle.nfs_share.specs.declared.delegation.Delegation.{Delegation}
 use Rattle.nfs_share.specs.declared.open_state.OpenState.{OpenState}
@@ -124,14 +124,14 @@ IsAboveAllLent number all = AllByRecursion (IsAboveLent number) all
 abbrev pub lesser_at : Option DelegationAt → Option DelegationAt → Option DelegationAt
 lesser_at a b = lesser (λ found. found.state.number) a b
 
--- Of the delegations that are due and have no number below `from`, this is one with the least; or there are none.
-abbrev pub IsNextDue : ℕ → ℕ → ℕ → List (List Delegation) → Option DelegationAt → Type 0
-IsNextDue from lease now all None =
-    AllByRecursion (AllByRecursion (λ d. IsFalse (is_due_from from lease now d))) all
-IsNextDue from lease now all (Some next) = Contains (delegations_of next.node all) next.state
-    × IsTrue (is_due_from from lease now next.state)
+-- Of the delegations that are due, this is one with the least number; or there are none.
+abbrev pub IsNextDue : ℕ → ℕ → List (List Delegation) → Option DelegationAt → Type 0
+IsNextDue lease now all None =
+    AllByRecursion (AllByRecursion (λ d. IsFalse (is_due lease now d))) all
+IsNextDue lease now all (Some next) = Contains (delegations_of next.node all) next.state
+    × IsTrue (is_due lease now next.state)
     × AllByRecursion (AllByRecursion (λ d.
-    IsTrue (is_due_from from lease now d) → next.state.number ≤ d.number)) all
+    IsTrue (is_due lease now d) → next.state.number ≤ d.number)) all
 
 -- a delegation of the node's file takes no memory
 abbrev pub HasLendingRoomAt : ℕ → List FileOpens → Type 0

@@ -12,8 +12,8 @@ use Rattle.nfs_share.specs.declared.delegation.FileUse.TheVariants as uses
 use Rattle.nfs_share.specs.declared.open_state.OpenState.{OpenState}
 use Rattle.nfs_share.specs.Opens.{is_of_client, share_of}
 
--- Which uses of a file a delegation of a kind is in the way of: another client's, and those by a special stateid, whoever
--- sends it.
+-- Which uses of a file a delegation of a kind is in the way of: another client's, and those by a special stateid,
+-- whoever sends it.
 --
 --                     open                                    read delegation   write delegation   READ   WRITE
 --   read delegation   where it may write, or denies reading   no                yes                no     yes
@@ -77,10 +77,6 @@ is_lease_before lease now (Some moment) = nat_lt (moment + lease) now
 abbrev pub is_due : ℕ → ℕ → Delegation → Bool
 is_due lease now d = is_lease_before lease now d.recalled
 
--- the delegation is due, and its number isn't below this one
-abbrev pub is_due_from : ℕ → ℕ → ℕ → Delegation → Bool
-is_due_from from lease now d = nat_le from d.number && is_due lease now d
-
 -- the delegation, called back at the moment if it wasn't before
 abbrev pub with_recall : ℕ → Delegation → Delegation
 with_recall moment d = if is_none d.recalled then record d { recalled = Some moment } else d
@@ -127,10 +123,9 @@ lesser number None b = b
 lesser number (Some a) None = Some a
 lesser number (Some a) (Some b) = if nat_lt (number b) (number a) then Some b else Some a
 
--- Of the delegations that are due and have no number below `from`, this is one with the least; or there are none.
-abbrev pub IsNextDueOf : ℕ → ℕ → ℕ → List Delegation → Option Delegation → Type 0
-IsNextDueOf from lease now ds None =
-    AllByRecursion (λ d. IsFalse (is_due_from from lease now d)) ds
-IsNextDueOf from lease now ds (Some next) = Contains ds next
-    × IsTrue (is_due_from from lease now next)
-    × AllByRecursion (λ d. IsTrue (is_due_from from lease now d) → next.number ≤ d.number) ds
+-- Of the delegations that are due, this is one with the least number; or there are none.
+abbrev pub IsNextDueOf : ℕ → ℕ → List Delegation → Option Delegation → Type 0
+IsNextDueOf lease now ds None = AllByRecursion (λ d. IsFalse (is_due lease now d)) ds
+IsNextDueOf lease now ds (Some next) = Contains ds next
+    × IsTrue (is_due lease now next)
+    × AllByRecursion (λ d. IsTrue (is_due lease now d) → next.number ≤ d.number) ds

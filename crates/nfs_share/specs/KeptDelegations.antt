@@ -29,7 +29,7 @@ IsNotBefore None first = ⊤
 IsNotBefore (Some moment) None = ⊥
 IsNotBefore (Some moment) (Some first) = first ≤ moment
 
--- none was called back before the first moment
+-- none of the delegations was called back before the first moment
 abbrev pub AreNotBefore : Option ℕ → List Delegation → Type 0
 AreNotBefore first ds = AllByRecursion (λ d. IsNotBefore d.recalled first) ds
 

@@ -61,7 +61,8 @@ abbrev pub mark_in : OpenState → Mark
 mark_in o = mark_of o.owner.client (bars_reading (share_of o))
 
 -- what is kept of the opens is so
-pub record IsTable (names : RandomState) (rows : RoomyRows OpenState) (counts : ShareCounts) (of_client : Tally) (room : ℕ) : Type 0 where
+pub record IsTable (names : RandomState) (rows : RoomyRows OpenState) (counts : ShareCounts)
+    (of_client : Tally) (room : ℕ) : Type 0 where
   pub kept : AreKept names rows.rows
   pub counts_are : counts ≡ counts_of (map share_of (opens_kept rows.rows))
   pub tally : IsTally of_client (map mark_in (opens_kept rows.rows))

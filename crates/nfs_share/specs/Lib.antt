@@ -1,3 +1,4 @@
+-- What contracts say of opens, share reservations and delegations.
 pub mod Modes
 pub mod Share
 pub mod Shares

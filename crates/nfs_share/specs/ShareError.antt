@@ -38,8 +38,8 @@ IsWhyNotOpened owner share file errors.Memory = IsFalse (is_refused owner share 
     ⊎ ((file.room ≡ 0) × (open_of owner file.opens ≡ None)))
 
 -- When each error answers that a client asks for a delegation: it would be in the way of another client's open; or else
--- the client has a delegation of the file; or else a delegation is in its way, and the error has all that are; or there is
--- no memory for the list of these, or for one more.
+-- the client has a delegation of the file; or else a delegation is in its way, and the error has all that are; or there
+-- is no memory for the list of these, or for one more.
 abbrev pub IsWhyNotLent : ClientId → DelegationKind → FileOpens → ShareError → Type 0
 IsWhyNotLent client kind file errors.Denied = IsTrue (bars client kind file.opens)
 IsWhyNotLent client kind file errors.Invalid = IsFalse (bars client kind file.opens)

@@ -37,9 +37,10 @@ is_same_key a b = nat_eq a.0 b.0 && nat_eq a.1 b.1
 abbrev pub key_of : ClientId → ℕ × ℕ
 key_of client = (client.epoch, client.number)
 
--- it has the count of each client's things, where there are some, and that of all
+-- the tally has the count of each client's things, where there are some, and that of all
 pub record IsTally (tally : Tally) (marks : List Mark) : Type 0 where
-  pub own : (client : ClientId) → get is_same_key tally.of_client (key_of client) ≡ entry_of (count_of (is_own client) marks)
+  pub own : (client : ClientId)
+      → get is_same_key tally.of_client (key_of client) ≡ entry_of (count_of (is_own client) marks)
   pub all : tally.all ≡ count_of (λ m. true) marks
 
 -- so many more clients take no memory

@@ -1,3 +1,5 @@
+//! Changes of single opens and delegations, which borrow only a part of a file's tables.
+
 ghost use Rattle.std.specs.Prelude.{◌≡◌, IfNone, IfSome, None, Some, find};
 ghost use Rattle.std.specs.Vec.{vec_capacity};
 ghost use Rattle.nfs_rows.specs.Rows.{is_numbered as is_row, value_in};
@@ -40,7 +42,8 @@ pub(crate) fn advance_in(opens: &mut Rows<OpenState>, number: u32)
     }
 }
 
-/// Downgrades the open with this number to the share, if there is one, and returns all that the open does and denies then.
+/// Downgrades the open with this number to the share, if there is one, and returns all that the open does and denies
+/// then.
 pub(crate) fn downgrade_in(opens: &mut Rows<OpenState>, number: u32, share: Share) -> Option<Share>
     ensures rows { opens.new ≡ record opens.old {
       rows = with_change number (after_downgrade share) opens.old.rows;

@@ -1,3 +1,5 @@
+//! Counts of things, and of those among them that are marked.
+
 ghost use Rattle.std.specs.Prelude.{◌≡◌, ◌+◌, ◌-◌, ◌<◌, ◌^◌, if◌then◌else◌, suc};
 
 /// How many things there are, and how many of them are marked.
@@ -8,10 +10,10 @@ pub struct Count {
 }
 
 impl Count {
-    /// Of nothing.
+    /// The count of nothing.
     pub const NONE: Count = Count { all: 0, marked: 0 };
 
-    /// With one thing more. There are fewer things than numbers.
+    /// The count with one thing more. There are fewer things than numbers.
     pub fn plus(self, marked: bool) -> Count
         ensures { self.all + 1 < 2 ^ 64 → self.marked + 1 < 2 ^ 64 → result ≡ record {
           all = suc self.all;
@@ -24,7 +26,7 @@ impl Count {
         }
     }
 
-    /// With one thing less.
+    /// The count with one thing less.
     pub fn less(self, marked: bool) -> Count
         ensures { result ≡ record {
           all = self.all - 1;
@@ -37,7 +39,7 @@ impl Count {
         }
     }
 
-    /// Of the things that aren't among the others.
+    /// The count of the things that aren't among the others.
     pub fn without(self, others: Count) -> Count
         ensures { result ≡ record {
           all = self.all - others.all;
@@ -51,7 +53,7 @@ impl Count {
     }
 }
 
-/// One more, if it is counted. There are fewer than numbers.
+/// The count with one more, if that is counted. There are fewer than numbers.
 pub fn raised(count: usize, counted: bool) -> usize
     ensures { count + 1 < 2 ^ 64 → result ≡ (if counted then suc count else count) }
 {
@@ -62,7 +64,7 @@ pub fn raised(count: usize, counted: bool) -> usize
     }
 }
 
-/// One less, if it was counted.
+/// The count with one less, if that was counted.
 pub fn lowered(count: usize, counted: bool) -> usize
     ensures { result ≡ (if counted then count - 1 else count) }
 {

@@ -1,3 +1,5 @@
+//! Delegations, with what conflicts with them and when they are revoked.
+
 ghost use Rattle.std.specs.Prelude.{◌≡◌};
 ghost use Rattle.nfs_share.specs.Delegations.{conflicts, delegation_stateid, first_delegation, is_due, is_in_way, is_lease_before, is_lent_to, is_of_user, is_stateid_of_delegation, with_recall};
 
@@ -20,7 +22,8 @@ pub enum FileUse {
     Open(ClientId, Share),
     /// The client has a delegation of it.
     Delegation(ClientId, DelegationKind),
-    /// It is read or written by a special stateid: one of the two modes. That is no client's (RFC 7530, section 9.1.4.3).
+    /// The file is read or written by a special stateid: one of the two modes. Such a use is no client's (RFC 7530,
+    /// section 9.1.4.3).
     Special(Modes),
 }
 

@@ -1,3 +1,5 @@
+//! The delegations of one file, with counts that answer most questions without a walk.
+
 ghost use Rattle.std.specs.Prelude.{◌≡◌, ◌≤◌, ◌<◌, ◌+◌, [], ◌∷◌, ◌++◌, ◌&&◌, IfOk, IsFalse, IsOk, OnErr, OnOk, filter, find, length, nat_le, nat_lt, not, true, false};
 ghost use Rattle.std.specs.Option.{option_copied};
 ghost use Rattle.std.specs.List.Sorted.{IsPartitionPoint};
@@ -14,8 +16,8 @@ use nfs_forms::{ClientId, Moment, Stateid};
 use std::alloc::{AllocError, Global};
 use std::marker::Model;
 
-/// The delegations of a file in the order in which they came, with what each client has of them, and a moment before which
-/// none was called back.
+/// The delegations of a file in the order in which they came, with what each client has of them, and a moment before
+/// which none was called back.
 #[derive(Drop)]
 pub struct DelegationTable {
     // In the order of their numbers.
@@ -91,14 +93,14 @@ impl DelegationTable {
         }
     }
 
-    /// Whether the client has one.
+    /// Whether the client has a delegation.
     pub fn has_client(&self, client: ClientId) -> bool
         ensures { result ≡ has_delegation client self.now.delegations }
     {
         self.holders.own(client).all > 0
     }
 
-    /// Whether one is in the way of this use of the file.
+    /// Whether a delegation is in the way of this use of the file.
     pub fn conflicts(&self, file_use: FileUse) -> bool
         ensures { result ≡ has_conflict file_use self.now.delegations }
     {
@@ -123,7 +125,7 @@ impl DelegationTable {
         }
     }
 
-    /// Those that are in the way of this use of the file.
+    /// The delegations that are in the way of this use of the file.
     pub fn conflicting(&self, file_use: FileUse) -> Result<Vec<Delegation>, AllocError>
         ensures ok { IfOk result (λ found. found.items
             ≡ filter (conflicts file_use) self.now.delegations) }
@@ -138,20 +140,19 @@ impl DelegationTable {
         Ok(found)
     }
 
-    /// Of those that are due and have no number below `from`, the one with the least, if there is one.
-    pub fn next_due(&self, from: u32, lease: u32, now: Moment) -> Option<Delegation>
-        ensures { IsNextDueOf from lease now self.now.delegations result }
+    /// Of those that are due, the one with the least number, if there is one.
+    pub fn next_due(&self, lease: u32, now: Moment) -> Option<Delegation>
+        ensures { IsNextDueOf lease now self.now.delegations result }
     {
         // Where one called back then isn't due, none is.
         if !is_lease_before(self.first_recall, lease, now) {
             return None;
         }
         // They stand in the order of their numbers.
-        let at = place_from(self.lent.as_slice(), from);
-        first_due(&self.lent.as_slice()[at..], lease, now)
+        first_due(self.lent.as_slice(), lease, now)
     }
 
-    /// Makes room, so that the next one takes no memory.
+    /// Makes room, so that the next delegation takes no memory.
     pub fn reserve(&mut self) -> Result<(), AllocError>
         ensures delegations { self.new.delegations ≡ self.old.delegations }
         ensures room { OnOk result (0 < self.new.room) }
@@ -168,7 +169,7 @@ impl DelegationTable {
         Ok(())
     }
 
-    /// Adds one, for which there has to be room, and whose number has to be above those of all.
+    /// Adds a delegation, for which there has to be room, and whose number has to be above those of all.
     pub fn lend(&mut self, client: ClientId, kind: DelegationKind, number: u32)
         requires room { 0 < self.old.room }
         requires newest { IsAboveLent number self.old.delegations }
@@ -189,7 +190,7 @@ impl DelegationTable {
         self.room -= 1;
     }
 
-    /// Calls back those that are in the way of this use of the file.
+    /// Recalls the delegations that are in the way of this use of the file.
     pub fn recall(&mut self, file_use: FileUse, moment: Moment)
         ensures { self.new ≡ record self.old {
           delegations = with_recalls file_use moment self.old.delegations;
@@ -202,7 +203,7 @@ impl DelegationTable {
         self.first_recall = first_recall_in(self.lent.as_slice());
     }
 
-    /// Removes the one with this number, if there is one.
+    /// Removes the delegation with this number, if there is one.
     pub fn give_back(&mut self, number: u32)
         ensures delegations { self.new.delegations
             ≡ without_lent (is_delegation_numbered number) self.old.delegations }
@@ -217,7 +218,7 @@ impl DelegationTable {
         self.first_recall = first_recall_left(self.lent.as_slice(), self.first_recall);
     }
 
-    /// Removes those of the client.
+    /// Removes the delegations of the client.
     pub fn remove_client(&mut self, client: ClientId)
         ensures delegations { self.new.delegations
             ≡ without_lent (is_lent_to client) self.old.delegations }

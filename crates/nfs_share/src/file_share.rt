@@ -1,7 +1,9 @@
+//! The opens and delegations of one file, as OPEN, OPEN_DOWNGRADE, CLOSE and DELEGRETURN change them.
+
 ghost use Rattle.std.specs.Prelude.{◌≡◌, ◌≤◌, ◌<◌, ◌+◌, ◌↔◌, IfErr, IfOk, IsErrOf, IsFalse, IsOk, IsTrue, OnErr, OnOk, Some, filter, find, length, nat_le, [], ◌∷◌, ◌++◌, option_map};
 ghost use Rattle.std.specs.List.{list_any};
 ghost use Rattle.std.specs.Option.{option_copied};
-ghost use Rattle.nfs_share.specs.Delegations.{IsAboveLent, IsNextDueOf, bars, can_delegate, conflicts, delegation_named_by, delegation_stateid, delegation_with_number, first_delegation, has_conflict, has_delegation, is_delegation_numbered, is_due_from, is_lent_to, is_stateid_of_delegation, with_recalls, without_lent};
+ghost use Rattle.nfs_share.specs.Delegations.{IsAboveLent, IsNextDueOf, bars, can_delegate, conflicts, delegation_named_by, delegation_stateid, delegation_with_number, first_delegation, has_conflict, has_delegation, is_delegation_numbered, is_lent_to, is_stateid_of_delegation, with_recalls, without_lent};
 ghost use Rattle.nfs_share.specs.Opens.{CanDowngrade, IsNewestFor, with_next_seqid, after_downgrade, is_denied, is_numbered, is_of, is_of_client, is_refused, is_stateid_of, open_named_by, open_with_number, open_of, owner_named, share_of, stateid_of, with_each, with_opening, without};
 ghost use Rattle.nfs_share.specs.ShareError.{IsHeldFor, IsWhyNotLent, IsWhyNotOpened};
 ghost use Rattle.nfs_share.specs.declared.delegation.FileUse.TheVariants as uses;
@@ -10,8 +12,8 @@ use crate::delegation_table::DelegationTable;
 use crate::open_table::OpenTable;
 use crate::{Delegation, DelegationKind, FileUse, Modes, OpenState, Share, ShareError};
 use nfs_forms::{ClientId, Moment, OpenOwner, Stateid};
+use nfs_rows::OwnerSeed;
 use std::alloc::{AllocError, Global};
-use std::hash::RandomState;
 use std::marker::Model;
 
 /// The opens of a file, each of which keeps others out by its share reservation (RFC 7530, section 9.9), and its
@@ -38,7 +40,7 @@ impl Model for FileShare {
 
 impl FileShare {
     /// A file without opens and delegations, taking no memory. Owners are found by hashes with this seed.
-    pub fn new(alloc: Global, names: RandomState) -> FileShare
+    pub fn new(alloc: Global, names: OwnerSeed) -> FileShare
         ensures opens { result.opens ≡ [] }
         ensures delegations { result.delegations ≡ [] }
     {
@@ -364,11 +366,11 @@ impl FileShare {
             && !self.conflicts(FileUse::Delegation(client, kind))
     }
 
-    /// Of the delegations that are due and have no number below `from`, the one with the least, if there is one.
-    pub fn next_due(&self, from: u32, lease: u32, now: Moment) -> Option<Delegation>
-        ensures { IsNextDueOf from lease now self.now.delegations result }
+    /// Of the delegations that are due, the one with the least number, if there is one.
+    pub fn next_due(&self, lease: u32, now: Moment) -> Option<Delegation>
+        ensures { IsNextDueOf lease now self.now.delegations result }
     {
-        self.delegations.next_due(from, lease, now)
+        self.delegations.next_due(lease, now)
     }
 
     /// Makes room for a delegation, so that the next one takes no memory.

@@ -1,3 +1,5 @@
+//! Laws that opens of a file stay compatible, and delegations apart from others' opens.
+
 ghost use Rattle.std.specs.Prelude.{ℕ, Bool, List, [], ◌∷◌, ◌++◌, IsFalse, IsTrue};
 ghost use Rattle.nfs_forms.specs.declared.open_owner.OpenOwner.{OpenOwner};
 ghost use Rattle.nfs_forms.specs.declared.client_id.ClientId.{ClientId};

@@ -1,3 +1,5 @@
+//! Sets of reading and writing, as share_access and share_deny have them.
+
 ghost use Rattle.std.specs.Prelude.{◌≡◌};
 
 /// Reading and writing: neither, one or both. An OPEN names so what it may do itself (share_access), and what it denies
@@ -11,7 +13,7 @@ pub struct Modes {
 impl Modes {
     ghost use Rattle.nfs_share.specs.Modes.{contains, meets, modes_of_number, union};
 
-    /// Neither (OPEN4_SHARE_DENY_NONE).
+    /// Neither reading nor writing (OPEN4_SHARE_DENY_NONE).
     pub const NONE: Modes = Modes {
         read: false,
         write: false,

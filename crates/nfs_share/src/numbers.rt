@@ -1,3 +1,5 @@
+//! Keeps the indexes from numbers of opens and delegations to nodes, and forgets removed ones if room is needed.
+
 ghost use Rattle.std.specs.Prelude.{◌≡◌, ◌+◌, ◌<◌, ◌≤◌, IsOk, OnOk, is_none, length};
 ghost use Rattle.std.specs.List.{list_any};
 ghost use Rattle.nfs_nodes.specs.Numbers.{StandFrom};
@@ -106,8 +108,8 @@ fn has_number_at(files: &[FileShare], node: u32, number: u32) -> bool
     }
 }
 
-/// Makes room for the number of one more delegation, where there are so many. If there is none, and most of the numbers are
-/// of delegations that there are no more, it forgets these first.
+/// Makes room for the number of one more delegation, where there are so many. If there is none, and most of the numbers
+/// are of delegations that there are no more, it forgets these first.
 pub(crate) fn reserve_delegation_number(
     files: &[FileShare],
     nodes: &mut Nodes,

@@ -1,3 +1,5 @@
+//! An open: the shares that one owner has of a file, with the stateid.
+
 use crate::{Share, Shares};
 use nfs_forms::{ClientId, OpenOwner, Stateid};
 

@@ -1,3 +1,5 @@
+//! The opens of one file, with counts of what they do and deny together.
+
 ghost use Rattle.std.specs.Prelude.{◌≡◌, ◌≤◌, ◌<◌, ◌+◌, ◌^◌, [], ◌∷◌, ◌++◌, IfNone, IsOk, List, None, OnErr, OnOk, OnSome, length, map, option_map};
 ghost use Rattle.std.specs.List.{list_any};
 ghost use Rattle.std.specs.Option.{option_copied};
@@ -15,9 +17,8 @@ use crate::share_counts::ShareCounts;
 use crate::tally::Tally;
 use crate::{DelegationKind, Modes, OpenState, Share};
 use nfs_forms::{ClientId, OpenOwner, Stateid};
-use nfs_rows::Rows;
+use nfs_rows::{OwnerSeed, Rows};
 use std::alloc::{AllocError, Global};
-use std::hash::RandomState;
 use std::marker::Model;
 
 /// The opens of a file, found by number and by owner, with what they do and deny together, and what each client has.
@@ -29,7 +30,7 @@ pub struct OpenTable {
     // Each client's opens; those are marked that are in a read delegation's way.
     of_client: Tally,
     // The seed of the hashes of the owners.
-    names: RandomState,
+    names: OwnerSeed,
     // How many additions were promised to take no memory.
     room: usize,
 }
@@ -46,7 +47,7 @@ impl Model for OpenTable {
 
 impl OpenTable {
     /// No opens, taking no memory. Owners are found by hashes with this seed.
-    pub fn new(alloc: Global, names: RandomState) -> OpenTable
+    pub fn new(alloc: Global, names: OwnerSeed) -> OpenTable
         ensures { result.opens ≡ [] }
     {
         OpenTable {

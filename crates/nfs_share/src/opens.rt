@@ -1,3 +1,5 @@
+//! The opens and delegations of all files, found by stateid without a walk over the files.
+
 ghost use Rattle.std.specs.Prelude.{◌≡◌, ◌<◌, ◌-◌, ℕ, [], ◌∷◌, ◌++◌, IfOk, IfSome, IsOk, OnOk, length, map, nat_lt, option_map, position, replicate};
 ghost use Rattle.std.specs.List.{list_any};
 ghost use Rattle.std.specs.Option.{option_copied};
@@ -10,8 +12,8 @@ use crate::numbers::{close_in, give_back_in, grant_in, reserve_delegation_number
 use crate::{Delegation, DelegationKind, FileShare, FileUse, Modes, OpenState, Share};
 use nfs_forms::{ClientId, Moment, OpenOwner, Stateid};
 use nfs_nodes::Nodes;
+use nfs_rows::OwnerSeed;
 use std::alloc::{AllocError, Global};
-use std::hash::RandomState;
 use std::marker::Model;
 
 /// The opens and the delegations of all files, by the numbers of their nodes. A node that there isn't has none, and a
@@ -23,7 +25,8 @@ pub struct Opens {
     nodes: Nodes,
     // How many opens there are.
     count: usize,
-    // The same of the delegations.
+    // The nodes of the delegations by their numbers, and of some that there are no more; and how many delegations there
+    // are.
     lent: Nodes,
     lent_count: usize,
 }
@@ -66,7 +69,7 @@ impl Model for Opens {
 
 impl Opens {
     /// No opens and no delegations of any of these nodes. Owners are found by hashes with this seed.
-    pub fn new(alloc: Global, nodes: u32, names: RandomState) -> Result<Opens, AllocError>
+    pub fn new(alloc: Global, nodes: u32, names: OwnerSeed) -> Result<Opens, AllocError>
         ensures opens { IfOk result (λ opens. opens_in opens ≡ replicate nodes []) }
         ensures delegations { IfOk result (λ opens. delegations_in opens ≡ replicate nodes []) }
     {
@@ -289,16 +292,6 @@ impl Opens {
         kept_at(node, file.delegation_named(stateid))
     }
 
-    /// The delegation with this number, if there is one.
-    pub fn delegation_numbered(&self, number: u32) -> Option<DelegationFound>
-        ensures { option_map delegation_seen result
-            ≡ delegation_numbered_in number (delegations_in self.now) }
-    {
-        let node = self.lent.find(number)?;
-        let file = self.files.get(node as usize)?;
-        lent_at(node, file.delegation_with_number(number))
-    }
-
     /// Whether the client has a delegation of the node's file.
     pub fn has_delegation(&self, node: u32, client: ClientId) -> bool
         ensures { result ≡ has_delegation client (delegations_of node (delegations_in self.now)) }
@@ -338,14 +331,17 @@ impl Opens {
         }
     }
 
-    /// Of the delegations that are due and have no number below `from`, the one with the least, of all files, if there is one.
-    pub fn next_due(&self, from: u32, lease: u32, now: Moment) -> Option<DelegationFound>
-        ensures { IsNextDue from lease now (delegations_in self.now)
+    /// Of the delegations of all files that are due, the delegation with the least number, if there is one. It is the
+    /// delegation that is found by its number.
+    pub fn next_due(&self, lease: u32, now: Moment) -> Option<DelegationFound>
+        ensures next { IsNextDue lease now (delegations_in self.now)
             (option_map delegation_seen result) }
+        ensures found { IfSome result (λ next. delegation_numbered_in next.state.number
+            (delegations_in self.now) ≡ Some (delegation_seen next)) }
     {
         let mut next = None;
         for node in 0..self.files.len() {
-            let due = self.files[node].next_due(from, lease, now);
+            let due = self.files[node].next_due(lease, now);
             next = lesser(next, lent_at(node as u32, due));
         }
         next

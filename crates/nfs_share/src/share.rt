@@ -1,3 +1,5 @@
+//! Share reservations, and which of them conflict.
+
 ghost use Rattle.std.specs.Prelude.{◌≡◌};
 
 use crate::Modes;

@@ -1,3 +1,5 @@
+//! Counts what some opens do and deny, so that a new open is compared with all of them at once.
+
 ghost use Rattle.std.specs.Prelude.{List, [], ◌≡◌, ◌+◌, ◌<◌, ◌^◌, ◌∷◌, length};
 ghost use Rattle.nfs_share.specs.ShareCounts.{counts_of};
 ghost use Rattle.nfs_share.specs.Shares.{union_of};

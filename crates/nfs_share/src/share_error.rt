@@ -1,3 +1,5 @@
+//! Why an open or a delegation isn't granted, or an open isn't downgraded.
+
 ghost use Rattle.std.specs.Prelude.{◌≡◌};
 ghost use Rattle.nfs_share.specs.ShareError.{number_of};
 ghost use Rattle.nfs_share.specs.declared.share_error.ShareError.TheVariants as errors;
@@ -9,8 +11,8 @@ use thiserror::Error;
 /// Why the opens and the delegations of a file weren't changed.
 #[derive(Debug, Drop, Error)]
 pub enum ShareError {
-    /// Another owner's open denies the access, or has access that would be denied; or a delegation would be in the way of
-    /// another client's open.
+    /// Another owner's open denies the access, or has access that would be denied; or a delegation would be in the way
+    /// of another client's open.
     #[error("an open of another owner stands against it (1)")]
     Denied,
     /// There is no such open, or its shares have no such union; or the client has a delegation of the file already.

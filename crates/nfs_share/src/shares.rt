@@ -1,3 +1,5 @@
+//! The different shares of an open's OPENs, which decide what OPEN_DOWNGRADE may keep.
+
 ghost use Rattle.std.specs.Prelude.{◌≡◌, ◌↔◌, IsTrue, [], ◌∷◌, filter};
 ghost use Rattle.nfs_share.specs.Share.{contains, is_same};
 ghost use Rattle.std.specs.List.{list_any};
@@ -31,7 +33,7 @@ impl Model for Shares {
 }
 
 impl Shares {
-    /// This share alone.
+    /// The shares of an open that has this share alone.
     pub fn of(share: Share) -> Shares
         ensures { result ≡ share ∷ [] }
     {

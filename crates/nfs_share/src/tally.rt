@@ -1,3 +1,5 @@
+//! How many opens or delegations each client has, so that others' are counted without a walk.
+
 ghost use Rattle.std.specs.Prelude.{◌≡◌, ◌⊎◌, ◌+◌, ◌<◌, ◌≤◌, ◌^◌, [], ◌∷◌, IsOk, IsSome, List, OnOk, cond, filter, length, not, true};
 ghost use Rattle.indexmap.specs.IndexMap.{get};
 ghost use Rattle.nfs_forms.specs.ClientId.{is_same_client};
@@ -64,7 +66,7 @@ impl Tally {
         self.of_client.reserve(1)
     }
 
-    /// The client has one more. There are fewer than numbers.
+    /// The client has one thing more. There are fewer things than numbers.
     pub fn add(&mut self, client: ClientId, marked: bool)
         requires { 0 < room_of self.old }
         ensures tally { (marks : List Mark) → IsTally self.old marks → length marks + 1 < 2 ^ 64
@@ -76,7 +78,7 @@ impl Tally {
         self.all = self.all.plus(marked);
     }
 
-    /// One that the client has is marked from now on, or isn't any more.
+    /// A thing of the client is marked from now on, or isn't marked any more.
     pub fn mark(&mut self, client: ClientId, was: bool, marked: bool)
         ensures tally { (marks : List Mark) → IsTally self.old (mark_of client was ∷ marks)
             → length marks + 1 < 2 ^ 64 → IsTally self.new (mark_of client marked ∷ marks) }
@@ -87,7 +89,7 @@ impl Tally {
         self.all = self.all.less(was).plus(marked);
     }
 
-    /// The client has one less.
+    /// The client has one thing less.
     pub fn remove(&mut self, client: ClientId, marked: bool)
         ensures tally { (marks : List Mark) → IsTally self.old (mark_of client marked ∷ marks)
             → IsTally self.new marks }
@@ -98,7 +100,7 @@ impl Tally {
         self.all = self.all.less(marked);
     }
 
-    /// The client has none.
+    /// The client has nothing.
     pub fn remove_client(&mut self, client: ClientId)
         ensures tally { (marks : List Mark) → IsTally self.old marks
             → IsTally self.new (filter (λ m. not (is_own client m)) marks) }

@@ -108,23 +108,23 @@ Agrees-change journal name number kept (o ∷ owners) is agrees = (
   Agrees-change journal name number kept owners is agrees.1,
 )
 
-Agrees-kept : (journal : History) (name : StateOwner) (number : ℕ) (kept : OwnerKind → Kept) (owners : List Owner) → IsEntryOf journal number kept → Agrees journal owners → Agrees journal (with_kept name number (summary_of (kept name.kind)) owners)
-Agrees-kept journal name number kept owners is agrees = by (is_known name owners)
+Agrees-kept : (journal : History) (name : StateOwner) (number : ℕ) (kept : OwnerKind → Kept) (confirmed : Bool) (owners : List Owner) → IsEntryOf journal number kept → Agrees journal owners → Agrees journal (with_kept name number (summary_of (kept name.kind)) confirmed owners)
+Agrees-kept journal name number kept confirmed owners is agrees = by (is_known name owners)
   where
-    by : (b : Bool) → Agrees journal (if b then map (λ o. if has_name name o then record o { state = with_request number (summary_of (kept name.kind)) o.state } else o) owners else owners ++ new_owner name number (summary_of (kept name.kind)) ∷ [])
+    by : (b : Bool) → Agrees journal (if b then map (λ o. if has_name name o then record o { state = with_request number (summary_of (kept name.kind)) o.state } else o) owners else owners ++ new_owner name number (summary_of (kept name.kind)) confirmed ∷ [])
     by true = Agrees-change journal name number kept owners is agrees
-    by false = Agrees-push journal owners (new_owner name number (summary_of (kept name.kind))) agrees (record { kept = kept name.kind; entry = is.entry name.kind; sendable = is.sendable name.kind; stored = refl; recorded = omega arith })
+    by false = Agrees-push journal owners (new_owner name number (summary_of (kept name.kind)) confirmed) agrees (record { kept = kept name.kind; entry = is.entry name.kind; sendable = is.sendable name.kind; stored = refl; recorded = omega arith })
 
 after_update : (journal : History) (change : OwnerChange) (number : ℕ) (kept : OwnerKind → Kept) (owners : List Owner) → IsEntryOf journal number kept → Agrees journal owners → Agrees journal (owners_after (update_of change kept) number owners)
 after_update journal owner_changes.Nothing number kept owners is agrees = agrees
-after_update journal (owner_changes.Keeps name) number kept owners is agrees = Agrees-kept journal name number kept owners is agrees
+after_update journal (owner_changes.Keeps name) number kept owners is agrees = Agrees-kept journal name number kept false owners is agrees
 after_update journal (owner_changes.KeepsBoth name newcomer) number kept owners is agrees =
-    Agrees-kept journal newcomer number kept (with_kept name number (summary_of (kept name.kind)) owners) is (Agrees-kept journal name number kept owners is agrees)
+    Agrees-kept journal newcomer number kept false (with_kept name number (summary_of (kept name.kind)) false owners) is (Agrees-kept journal name number kept false owners is agrees)
 after_update journal (owner_changes.Introduces name newcomer) number kept owners is agrees =
-    Agrees-kept journal newcomer number kept (with_kept name number (summary_of (kept name.kind)) owners) is (Agrees-kept journal name number kept owners is agrees)
-after_update journal (owner_changes.Records name) number kept owners is agrees = Agrees-kept journal (open_owner name) number kept owners is agrees
-after_update journal (owner_changes.Restarts name) number kept owners is agrees =
-    Agrees-kept journal (open_owner name) number kept (without_owner (open_owner name) owners) is (Agrees-without journal (open_owner name) owners agrees)
+    Agrees-kept journal newcomer number kept false (with_kept name number (summary_of (kept name.kind)) false owners) is (Agrees-kept journal name number kept false owners is agrees)
+after_update journal (owner_changes.Records name confirmed) number kept owners is agrees = Agrees-kept journal (open_owner name) number kept confirmed owners is agrees
+after_update journal (owner_changes.Restarts name confirmed) number kept owners is agrees =
+    Agrees-kept journal (open_owner name) number kept confirmed (without_owner (open_owner name) owners) is (Agrees-without journal (open_owner name) owners agrees)
 after_update journal (owner_changes.Drops name) number kept owners is agrees = Agrees-without journal (open_owner name) owners agrees
 
 -- after an entry that may be kept, the stored owners agree with the journal that ends with it

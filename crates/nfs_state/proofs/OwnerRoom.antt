@@ -65,8 +65,8 @@ update_room (owner_changes.KeepsBoth name newcomer) kept tables place room =
     (sym (known_alike name tables.owners.owners) ∙ place.0, can_keep newcomer tables place.1)
 update_room (owner_changes.Introduces name newcomer) kept tables place room =
     (sym (known_alike name tables.owners.owners) ∙ place.0, new_can_keep newcomer tables place.1 room)
-update_room (owner_changes.Records name) kept tables place room = new_can_keep (open_owner name) tables place room
-update_room (owner_changes.Restarts name) kept tables place room = (known_place (open_owner name) tables.owners.owners place, room)
+update_room (owner_changes.Records name confirmed) kept tables place room = new_can_keep (open_owner name) tables place room
+update_room (owner_changes.Restarts name confirmed) kept tables place room = (known_place (open_owner name) tables.owners.owners place, room)
 update_room (owner_changes.Drops name) kept tables place room = tt
 
 pub update_room_by : (change : OwnerChange) (found : Option (OwnerKind → Kept)) (tables : Tables) → HasOwnerPlace change (state_of tables) → HasOwnerRoom change tables → HasUpdateRoom (update_by change found) tables
@@ -146,7 +146,7 @@ given_without name old given = all_above_left (old.last_state + 1) (λ o. not (i
 
 pub given_after : (owner : OwnerChange) (number : ℕ) (old : State) → HasGivenNumbers old → HasGivenNumbers (with_owner_change owner number old)
 given_after owner_changes.Nothing number old given = given
-given_after (owner_changes.Restarts name) number old given = record { of_opens = given_without name old given; of_locks = given.of_locks; of_delegations = given.of_delegations }
+given_after (owner_changes.Restarts name confirmed) number old given = record { of_opens = given_without name old given; of_locks = given.of_locks; of_delegations = given.of_delegations }
 given_after (owner_changes.Drops name) number old given = record { of_opens = given_without name old given; of_locks = given.of_locks; of_delegations = given.of_delegations }
 given_after owner number old given = record { of_opens = given.of_opens; of_locks = given.of_locks; of_delegations = given.of_delegations }
 
@@ -160,9 +160,9 @@ known_after_change change name other (o ∷ owners) =
       | false ↦ λ i. has_name other o || rest i
     ]
 
-pub can_keep_beside : (name other : StateOwner) (number : ℕ) (kept : KeptSummary) (old new : RoomyOwners) → new.owners ≡ with_kept name number kept old.owners
+pub can_keep_beside : (name other : StateOwner) (number : ℕ) (kept : KeptSummary) (confirmed : Bool) (old new : RoomyOwners) → new.owners ≡ with_kept name number kept confirmed old.owners
     → (is_known name old.owners ≡ true → new.room ≡ old.room) → is_known name old.owners ≡ true → CanKeep other old → CanKeep other new
-can_keep_beside name other number kept old new is room known can =
+can_keep_beside name other number kept confirmed old new is room known can =
     let change = with_request number kept in
     let changed : new.owners ≡ with_change change name old.owners = is ∙ cond-true (is_known name old.owners) _ _ known in
     let same : is_known other new.owners ≡ is_known other old.owners = ap (is_known other) changed ∙ known_after_change change name other old.owners in

@@ -1,12 +1,12 @@
 -- Lists of pages, and blocks that come in the place of as many bytes.
-use Rattle.std.proofs.Common.{◌≡◌, ℕ, zero, suc, ◌+◌, ◌*◌, ◌-◌, ◌%◌, ◌<◌, ◌≤◌, true, List, [], ◌∷◌, ◌++◌, drop, get_or, length, set, take, refl, sym, ◌∙◌, ap, arith, append_assoc, inl, inr, length-append, length-drop}
+use Rattle.std.proofs.Common.{◌≡◌, ℕ, zero, suc, ◌+◌, ◌*◌, ◌-◌, ◌<◌, ◌≤◌, true, List, [], ◌∷◌, ◌++◌, drop, get_or, length, set, take, refl, sym, ◌∙◌, ap, arith, append_assoc, inl, inr, length-append, length-drop}
 use Rattle.std.specs.Prelude.{◌==◌, min, nat_le, replicate}
 use Rattle.std.specs.List.{concat}
 use Rattle.std.proofs.Math.Seq.{drop-append-add, take-add, take-append-add}
 use Rattle.std.proofs.lemmas.Bool.{and_parts, cases_lt, eqb-true, leb-true}
-use Rattle.std.proofs.lemmas.List.{append-nil, drop-append-le, drop-drop, drop-set, drop_all, drop_min, drop_more, get_or-append_right, get_or-drop, get_or-take, get_or_append_left, length-replicate, length-take, length-take-le, replicate-append-replicate, same_lists, take-append-drop, take-append-le, take-take, take_all, take_at, take_min, take_more}
-use Rattle.nfs_state.specs.Pages.{AreFilledUp, AreWhole, is_covered, is_shared, replaced, zero_page}
-use Rattle.nfs_state.specs.declared.pages.TheConstants.{PAGE_LEN, SHARED_LEN}
+use Rattle.std.proofs.lemmas.List.{append-nil, drop-append-le, drop-drop, drop_all, drop_more, get_or-append_right, get_or-drop, get_or-take, get_or_append_left, length-replicate, length-take, length-take-le, replicate-append-replicate, same_lists, take-append-drop, take-append-le, take-take, take_all, take_at, take_min}
+use Rattle.nfs_state.specs.Pages.{AreFilledUp, AreWhole, is_covered, replaced, zero_page}
+use Rattle.nfs_state.specs.declared.pages.TheConstants.{PAGE_LEN}
 
 -- Bytes in pages
 
@@ -17,10 +17,6 @@ concat-append (x ∷ xs) ys =
 
 pub concat_push : (xs : List (List ℕ)) (page : List ℕ) → concat (xs ++ page ∷ []) ≡ concat xs ++ page
 concat_push xs page = concat-append xs (page ∷ []) ∙ ap (λ last. concat xs ++ last) (append-nil page)
-
-pub concat_more : (pages : List (List ℕ)) (i : ℕ) (d : List ℕ) → i < length pages → concat (take (i + 1) pages) ≡ concat (take i pages) ++ get_or pages i d
-concat_more pages i d below =
-    ap concat (take_more pages i d below) ∙ concat_push (take i pages) (get_or pages i d)
 
 pub length-concat : (pages : List (List ℕ)) → AreWhole pages → length (concat pages) ≡ length pages * PAGE_LEN
 length-concat [] are = refl
@@ -59,29 +55,28 @@ whole_push [] page are whole = (whole, tt)
 whole_push (p ∷ pages) page are whole = (are.0, whole_push pages page are.1 whole)
 
 -- what the tests on pages tell
-pub shared_within : (offset len : ℕ) → is_shared offset len ≡ true → (0 < len) × (offset % PAGE_LEN + len ≤ PAGE_LEN)
-shared_within offset len is =
-    let both = and_parts (nat_le SHARED_LEN len) (nat_le len (PAGE_LEN - offset % PAGE_LEN)) is in
-    let some = leb-true SHARED_LEN len both.0 in
-    (omega (arith, some), omega (arith, some, leb-true len (PAGE_LEN - offset % PAGE_LEN) both.1))
-
 pub covered_whole : (at len : ℕ) → is_covered at len ≡ true → (at ≡ 0) × (PAGE_LEN ≤ len)
 covered_whole at len is =
     let both = and_parts (at == 0) (nat_le PAGE_LEN len) is in
     (eqb-true at 0 both.0, leb-true PAGE_LEN len both.1)
 
--- a part of one page
-pub part_of_page : (pages : List (List ℕ)) (n within offset len : ℕ) (d : List ℕ) → AreWhole pages → n < length pages → offset ≡ n * PAGE_LEN + within → within + len ≤ PAGE_LEN
-    → take len (drop within (get_or pages n d)) ≡ take len (drop offset (concat pages))
-part_of_page pages n within offset len d are below is short =
-    let page = get_or pages n d in
-    let rest = concat (drop (n + 1) pages) in
-    let whole = whole_at pages n d are below in
-    let cut : drop offset (concat pages) ≡ drop within page ++ rest =
-    ap (λ k. drop k (concat pages)) is ∙ sym (drop-drop within (n * PAGE_LEN) (concat pages))
-    ∙ ap (drop within) (drop-concat n pages are ∙ ap concat (drop_more pages n d below))
-    ∙ drop-append-le within page rest (omega (arith, whole, short)) in
-    sym (ap (take len) cut ∙ take-append-le len (drop within page) rest (omega (arith, length-drop within page, whole, short)))
+-- one page more, or what is left of it, in parts
+pub parts_more : (len number : ℕ) (pages parts : List (List ℕ)) (page part : List ℕ) → AreWhole pages → len ≤ length (concat pages) → number * PAGE_LEN < len
+    → concat parts ≡ take (min len (number * PAGE_LEN)) (concat pages) → page ≡ get_or pages number page → part ≡ take (min (len - number * PAGE_LEN) PAGE_LEN) (drop 0 page)
+    → concat (parts ++ part ∷ []) ≡ take (min len ((number + 1) * PAGE_LEN)) (concat pages)
+parts_more len number pages parts page part are within inside so_far is comes =
+    let all = concat pages in
+    let n = number * PAGE_LEN in
+    let here = min (len - n) PAGE_LEN in
+    let below : number < length pages = omega (arith, within, inside, length-concat pages are) in
+    let before : min len n ≡ n = omega (arith, inside) in
+    let sum : n + here ≡ min len ((number + 1) * PAGE_LEN) = omega (arith, inside) in
+    let shown : part ≡ take here (drop n all) =
+    comes ∙ ap (take here) (is ∙ sym (page_at pages number page are below)) ∙ take-take here PAGE_LEN (drop n all) (omega arith) in
+    concat_push parts part
+    ∙ (λ i. (so_far ∙ ap (λ k. take k all) before) i ++ shown i)
+    ∙ sym (take-add n here all)
+    ∙ ap (λ k. take k all) sum
 
 -- the zeros of one page more
 pub length-zero_page : length zero_page ≡ PAGE_LEN
@@ -108,7 +103,7 @@ zeros_more old now is =
     ∙ ap (λ (xs : List ℕ). old ++ xs) (replicate-append-replicate many PAGE_LEN 0)
     ∙ ap (λ k. old ++ replicate {A = ℕ} k 0) (zeros_count old now is)
 
--- A copy out of pages
+-- Parts of pages
 
 pub drop-append : (n : ℕ) (xs ys : List ℕ) → drop n (xs ++ ys) ≡ drop n xs ++ drop (n - length xs) ys
 drop-append zero xs ys =
@@ -132,21 +127,22 @@ take-append (suc n) (x ∷ xs) ys =
     let less : n - length xs ≡ suc n - length (x ∷ xs) = omega arith in
     ap (λ rest. x ∷ rest) (take-append n xs ys ∙ ap (λ k. take n xs ++ take k ys) less)
 
-pub copied_more : (len offset before : ℕ) (bytes done page : List ℕ) → bytes ≡ take len (drop offset done) → before ≡ offset - length done
-    → bytes ++ take (min (len - length bytes) (length (drop (min before (length page)) page))) (drop (min before (length page)) page)
-    ≡ take len (drop offset (done ++ page))
-copied_more len offset before bytes done page so_far left =
-    let rest = drop (offset - length done) page in
-    let here : drop (min before (length page)) page ≡ rest = drop_min before page ∙ ap (λ k. drop k page) left in
-    let wanted : len - length bytes ≡ len - length (drop offset done) =
-    omega (arith, ap length so_far, length-take len (drop offset done)) in
-    let part : take (min (len - length bytes) (length (drop (min before (length page)) page))) (drop (min before (length page)) page)
-    ≡ take (len - length (drop offset done)) rest =
-    take_min (len - length bytes) (drop (min before (length page)) page)
-    ∙ ap (take (len - length bytes)) here
-    ∙ ap (λ k. take k rest) wanted in
-    (λ i. so_far i ++ part i)
-    ∙ sym (ap (take len) (drop-append offset done page) ∙ take-append len (drop offset done) rest)
+-- the bytes from a place in a page on are a part of this page, and those that are left of the pages behind it
+pub pages_have : (pages : List (List ℕ)) (n within offset len : ℕ) (page : List ℕ) → AreWhole pages → n < length pages → offset ≡ n * PAGE_LEN + within → within < PAGE_LEN → page ≡ get_or pages n page
+    → take (min len (PAGE_LEN - within)) (drop within page) ++ take (len - min len (PAGE_LEN - within)) (concat (drop (n + 1) pages)) ≡ take len (drop offset (concat pages))
+pages_have pages n within offset len page are below is inside same =
+    let rest = concat (drop (n + 1) pages) in
+    let whole : length page ≡ PAGE_LEN = ap length same ∙ whole_at pages n page are below in
+    let many : length (drop within page) ≡ PAGE_LEN - within = length-drop within page ∙ ap (λ k. k - within) whole in
+    let cut : drop offset (concat pages) ≡ drop within page ++ rest =
+    ap (λ k. drop k (concat pages)) is ∙ sym (drop-drop within (n * PAGE_LEN) (concat pages))
+    ∙ ap (drop within) (drop-concat n pages are ∙ ap concat (drop_more pages n page below) ∙ ap (λ (xs : List ℕ). xs ++ rest) (sym same))
+    ∙ drop-append-le within page rest (omega (arith, whole, inside)) in
+    let first : take (min len (PAGE_LEN - within)) (drop within page) ≡ take len (drop within page) =
+    ap (λ k. take (min len k) (drop within page)) (sym many) ∙ take_min len (drop within page) in
+    let left : len - min len (PAGE_LEN - within) ≡ len - length (drop within page) = omega (arith, many) in
+    (λ i. first i ++ take (left i) rest)
+    ∙ sym (ap (take len) cut ∙ take-append len (drop within page) rest)
 
 -- A block in the place of as many bytes
 
@@ -303,31 +299,7 @@ pages_replaced first pages all are all_are =
     ∙ (λ i. concat-append (take first all) pages i ++ sym (drop-concat (first + length pages) all all_are) i)
     ∙ (λ i. sym (take-concat first all all_are) i ++ concat pages ++ drop (end i) (concat all))
 
-whole_take : (n : ℕ) (pages : List (List ℕ)) → AreWhole pages → AreWhole (take n pages)
-whole_take zero pages are = tt
-whole_take (suc n) [] are = tt
-whole_take (suc n) (p ∷ pages) are = (are.0, whole_take n pages are.1)
-
-whole_drop : (n : ℕ) (pages : List (List ℕ)) → AreWhole pages → AreWhole (drop n pages)
+pub whole_drop : (n : ℕ) (pages : List (List ℕ)) → AreWhole pages → AreWhole (drop n pages)
 whole_drop zero pages are = are
 whole_drop (suc n) [] are = tt
 whole_drop (suc n) (p ∷ pages) are = whole_drop n pages are.1
-
-whole_append : (xs ys : List (List ℕ)) → AreWhole xs → AreWhole ys → AreWhole (xs ++ ys)
-whole_append [] ys are also = also
-whole_append (p ∷ xs) ys are also = (are.0, whole_append xs ys are.1 also)
-
-pub whole_replaced : (first : ℕ) (pages all : List (List ℕ)) → AreWhole pages → AreWhole all → AreWhole (take first all ++ pages ++ drop (first + length pages) all)
-whole_replaced first pages all are all_are =
-    whole_append (take first all ++ pages) (drop (first + length pages) all)
-    (whole_append (take first all) pages (whole_take first all all_are) are)
-    (whole_drop (first + length pages) all all_are)
-
--- one element less to be put in its place
-pub put_one : (first : ℕ) (left : List (List ℕ)) (page : List ℕ) (all : List (List ℕ)) → first + length left < length all
-    → left ++ drop (first + length left) (set all (first + length left) page) ≡ (left ++ page ∷ []) ++ drop (first + length (left ++ page ∷ [])) all
-put_one first left page all below =
-    let at = first + length left in
-    let next : at + 1 ≡ first + length (left ++ page ∷ []) = omega (arith, length-append left (page ∷ [])) in
-    ap (λ rest. left ++ rest) (drop-set all at page below ∙ ap (λ k. page ∷ drop k all) next)
-    ∙ sym (append_assoc left (page ∷ []) (drop (first + length (left ++ page ∷ [])) all))

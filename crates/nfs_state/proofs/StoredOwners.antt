@@ -71,14 +71,14 @@ pub known_seen : (name : StateOwner) (owners : List Owner) → is_some (known.ow
 known_seen name [] = refl
 known_seen name (o ∷ owners) = grind (arith, known_seen name owners)
 
-pub kept_seen : (name : StateOwner) (number : ℕ) (kept : KeptSummary) (owners : List Owner) → is_known name owners ≡ true
-    → map known_owner (with_kept name number kept owners) ≡ known.with_kept_entry number name (map known_owner owners)
-kept_seen name number kept owners is =
+pub kept_seen : (name : StateOwner) (number : ℕ) (kept : KeptSummary) (confirmed : Bool) (owners : List Owner) → is_known name owners ≡ true
+    → map known_owner (with_kept name number kept confirmed owners) ≡ known.with_kept_entry number name (map known_owner owners)
+kept_seen name number kept confirmed owners is =
     rw is (change_seen (with_request number kept) (λ o. record o { kept_entry = number }) (λ o. refl) name owners)
 
-pub record_seen : (name : StateOwner) (number : ℕ) (kept : KeptSummary) (owners : List Owner) → is_known name owners ≡ false
-    → map known_owner (with_kept name number kept owners) ≡ known.with_record number name (map known_owner owners)
-record_seen name number kept owners none = rw none (map-append known_owner owners (new_owner name number kept ∷ []))
+pub record_seen : (name : StateOwner) (number : ℕ) (kept : KeptSummary) (confirmed : Bool) (owners : List Owner) → is_known name owners ≡ false
+    → map known_owner (with_kept name number kept confirmed owners) ≡ known.with_record number name confirmed (map known_owner owners)
+record_seen name number kept confirmed owners none = rw none (map-append known_owner owners (new_owner name number kept confirmed ∷ []))
 
 -- without its owner, a name isn't known
 pub unknown_without : (name : StateOwner) (owners : List Owner) → is_known name (without_owner name owners) ≡ false
@@ -126,15 +126,15 @@ kept_known : (old : Stored) (k : Keeping) (number : ℕ) (new : Stored) → new 
 kept_known old k number new is place =
     ap meaning is
     ∙ ap (λ (owners : List KnownOwner). record (meaning old) { owners = owners })
-    (kept_seen k.owner number k.kept old.owners (sym (known_seen k.owner old.owners) ∙ place))
+    (kept_seen k.owner number k.kept k.confirmed old.owners (sym (known_seen k.owner old.owners) ∙ place))
 
 kept_new : (old : Stored) (k : Keeping) (number : ℕ) (new : Stored) → new ≡ record old { owners = kept_by k number old.owners }
     → is_some (known.owner_of k.owner (map known_owner old.owners)) ≡ false
-    → meaning new ≡ record (meaning old) { owners = known.with_record number k.owner (map known_owner old.owners) }
+    → meaning new ≡ record (meaning old) { owners = known.with_record number k.owner k.confirmed (map known_owner old.owners) }
 kept_new old k number new is place =
     ap meaning is
     ∙ ap (λ (owners : List KnownOwner). record (meaning old) { owners = owners })
-    (record_seen k.owner number k.kept old.owners (sym (known_seen k.owner old.owners) ∙ place))
+    (record_seen k.owner number k.kept k.confirmed old.owners (sym (known_seen k.owner old.owners) ∙ place))
 
 -- what is stored, with an entry that is kept for an owner
 pub keeps_seen : (old new : Stored) (k : Keeping) (number : ℕ) → new ≡ record old { owners = kept_by k number old.owners }
@@ -147,11 +147,12 @@ keeps_seen old new k number is (changes.Keeps n) other update place =
     ∙ ap (λ m. record (meaning old) { owners = known.with_kept_entry number m (map known_owner old.owners) }) same
 keeps_seen old new k number is (changes.KeepsBoth n m) other update place = cc
 keeps_seen old new k number is (changes.Introduces n m) other update place = cc
-keeps_seen old new k number is (changes.Records n) other update place =
+keeps_seen old new k number is (changes.Records n confirmed) other update place =
     let same : k.owner ≡ open_owner n = search update in
+    let alike : k.confirmed ≡ confirmed = search update in
     kept_new old k number new is (ap (λ m. is_some (known.owner_of m (map known_owner old.owners))) same ∙ place.0)
-    ∙ ap (λ m. record (meaning old) { owners = known.with_record number m (map known_owner old.owners) }) same
-keeps_seen old new k number is (changes.Restarts n) other update place = cc
+    ∙ (λ i. record (meaning old) { owners = known.with_record number (same i) (alike i) (map known_owner old.owners) })
+keeps_seen old new k number is (changes.Restarts n confirmed) other update place = cc
 keeps_seen old new k number is (changes.Drops n) other update place = cc
 
 -- what is stored, with an entry that is kept for two owners
@@ -175,16 +176,17 @@ keeps_both_seen old middle new k j number first second (changes.KeepsBoth n m) o
 keeps_both_seen old middle new k j number first second (changes.Introduces n m) other update place =
     let one : k.owner ≡ n = search update in
     let two : j.owner ≡ m = search update in
+    let fresh : j.confirmed ≡ false = search update in
     let known_one = ap (λ o. is_some (known.owner_of o (map known_owner old.owners))) one ∙ place.0 in
     let seen = kept_known old k number middle first known_one in
     let owners : map known_owner middle.owners ≡ known.with_kept_entry number k.owner (map known_owner old.owners) = ap (λ (s : State). s.owners) seen in
     let unknown_two = ap (λ all. is_some (known.owner_of j.owner all)) owners ∙ known_beside k.owner j.owner number (map known_owner old.owners)
     ∙ ap (λ o. is_some (known.owner_of o (map known_owner old.owners))) two ∙ place.1.0 in
     kept_new middle j number new second unknown_two
-    ∙ ap (λ (s : State). record s { owners = known.with_record number j.owner s.owners }) seen
-    ∙ (λ i. record (meaning old) { owners = known.with_record number (two i) (known.with_kept_entry number (one i) (map known_owner old.owners)) })
-keeps_both_seen old middle new k j number first second (changes.Records n) other update place = cc
-keeps_both_seen old middle new k j number first second (changes.Restarts n) other update place = cc
+    ∙ ap (λ (s : State). record s { owners = known.with_record number j.owner j.confirmed s.owners }) seen
+    ∙ (λ i. record (meaning old) { owners = known.with_record number (two i) (fresh i) (known.with_kept_entry number (one i) (map known_owner old.owners)) })
+keeps_both_seen old middle new k j number first second (changes.Records n confirmed) other update place = cc
+keeps_both_seen old middle new k j number first second (changes.Restarts n confirmed) other update place = cc
 keeps_both_seen old middle new k j number first second (changes.Drops n) other update place = cc
 
 -- what is stored without an owner and its opens
@@ -204,29 +206,30 @@ drops_seen old new name number is changes.Nothing other update = cc
 drops_seen old new name number is (changes.Keeps n) other update = cc
 drops_seen old new name number is (changes.KeepsBoth n m) other update = cc
 drops_seen old new name number is (changes.Introduces n m) other update = cc
-drops_seen old new name number is (changes.Records n) other update = cc
-drops_seen old new name number is (changes.Restarts n) other update = cc
+drops_seen old new name number is (changes.Records n confirmed) other update = cc
+drops_seen old new name number is (changes.Restarts n confirmed) other update = cc
 drops_seen old new name number is (changes.Drops n) other update =
     let same : name ≡ n = search update in
     ap meaning is ∙ without_owner_seen old name ∙ ap (λ m. without m (meaning old)) same
 
-pub restarts_seen : (old removed : Stored) (name : OpenOwner) (number : ℕ) (kept : KeptSummary) (new : List Owner) → removed ≡ stored_without name old → new ≡ with_kept (open_owner name) number kept removed.owners
-    → (change : OwnerChange) (other : OwnerKind → Kept) → updates.Restarts name kept ≡ update_of change other
+pub restarts_seen : (old removed : Stored) (name : OpenOwner) (number : ℕ) (kept : KeptSummary) (confirmed : Bool) (new : List Owner) → removed ≡ stored_without name old → new ≡ with_kept (open_owner name) number kept confirmed removed.owners
+    → (change : OwnerChange) (other : OwnerKind → Kept) → updates.Restarts name kept confirmed ≡ update_of change other
     → meaning (record removed { owners = new }) ≡ with_owner_change change number (meaning old)
-restarts_seen old removed name number kept new removes is changes.Nothing other update = cc
-restarts_seen old removed name number kept new removes is (changes.Keeps n) other update = cc
-restarts_seen old removed name number kept new removes is (changes.KeepsBoth n m) other update = cc
-restarts_seen old removed name number kept new removes is (changes.Introduces n m) other update = cc
-restarts_seen old removed name number kept new removes is (changes.Records n) other update = cc
-restarts_seen old removed name number kept new removes is (changes.Drops n) other update = cc
-restarts_seen old removed name number kept new removes is (changes.Restarts n) other update =
+restarts_seen old removed name number kept confirmed new removes is changes.Nothing other update = cc
+restarts_seen old removed name number kept confirmed new removes is (changes.Keeps n) other update = cc
+restarts_seen old removed name number kept confirmed new removes is (changes.KeepsBoth n m) other update = cc
+restarts_seen old removed name number kept confirmed new removes is (changes.Introduces n m) other update = cc
+restarts_seen old removed name number kept confirmed new removes is (changes.Records n b) other update = cc
+restarts_seen old removed name number kept confirmed new removes is (changes.Drops n) other update = cc
+restarts_seen old removed name number kept confirmed new removes is (changes.Restarts n b) other update =
     let same : name ≡ n = search update in
+    let alike : confirmed ≡ b = search update in
     let owner = open_owner name in
     let unknown : is_known owner removed.owners ≡ false = ap (λ (s : Stored). is_known owner s.owners) removes ∙ unknown_without owner old.owners in
-    let recorded : State → State = λ s. record s { owners = known.with_record number owner s.owners } in
-    ap (λ (owners : List KnownOwner). record (meaning removed) { owners = owners }) (ap (map known_owner) is ∙ record_seen owner number kept removed.owners unknown)
+    let recorded : State → State = λ s. record s { owners = known.with_record number owner confirmed s.owners } in
+    ap (λ (owners : List KnownOwner). record (meaning removed) { owners = owners }) (ap (map known_owner) is ∙ record_seen owner number kept confirmed removed.owners unknown)
     ∙ ap recorded (ap meaning removes ∙ without_owner_seen old name)
-    ∙ ap (λ m. with_owner_change (changes.Restarts m) number (meaning old)) same
+    ∙ (λ i. with_owner_change (changes.Restarts (same i) (alike i)) number (meaning old))
 
 -- what is stored after an owner and its open are confirmed
 pub confirms_seen : (old : Stored) (node number : ℕ) (name : OpenOwner) (new : List Owner) (opened : List (List OpenState)) (lent : List (List Delegation)) → new ≡ with_confirmed (open_owner name) old.owners
@@ -290,11 +293,12 @@ introduces_place old name newcomer change introduces place =
     let place_here = subst (λ c. HasOwnerPlace c (meaning old)) introduces place in
     place_below newcomer old.owners place_here.1.1
 
-pub records_place : (old : Stored) (name : OpenOwner) (change : OwnerChange) → (change ≡ changes.Records name) ⊎ (change ≡ changes.Restarts name)
+pub records_place : (old : Stored) (name : OpenOwner) (change : OwnerChange)
+    → ((confirmed : Bool) × (change ≡ changes.Records name confirmed)) ⊎ ((confirmed : Bool) × (change ≡ changes.Restarts name confirmed))
     → HasOwnerPlace change (meaning old) → has_place (open_owner name) old.owners ≡ true
 records_place old name change (inl records) place =
-    let place_here = subst (λ c. HasOwnerPlace c (meaning old)) records place in
+    let place_here = subst (λ c. HasOwnerPlace c (meaning old)) records.1 place in
     place_below (open_owner name) old.owners place_here.1
 records_place old name change (inr restarts) place =
-    let place_here = subst (λ c. HasOwnerPlace c (meaning old)) restarts place in
+    let place_here = subst (λ c. HasOwnerPlace c (meaning old)) restarts.1 place in
     place_known (open_owner name) old.owners (sym (known_seen (open_owner name) old.owners) ∙ place_here)

@@ -1,5 +1,6 @@
--- What an entry of the journal changes in the state: first what it means for an owner, and then the operation's own change.
-use Rattle.std.specs.Prelude.{ℕ, ◌+◌, Bool, not, [], ◌∷◌, ◌++◌, filter, map, Option, Some, None, is_some, if◌then◌else◌}
+-- What an entry of the journal changes in the state: first what it means for an owner, and then the operation's own
+-- change.
+use Rattle.std.specs.Prelude.{ℕ, ◌+◌, Bool, false, not, [], ◌∷◌, ◌++◌, filter, map, Option, Some, None, is_some, if◌then◌else◌}
 use Rattle.nfs_forms.specs.ClientId.{is_same_client}
 use Rattle.nfs_forms.specs.OpenOwner.{is_same_owner}
 use Rattle.nfs_forms.specs.declared.client_id.ClientId.{ClientId}
@@ -44,12 +45,12 @@ with_owner_change (Keeps name) number old =
 with_owner_change (KeepsBoth name newcomer) number old =
     record old { owners = with_kept_entry number newcomer (with_kept_entry number name old.owners) }
 with_owner_change (Introduces name newcomer) number old =
-    record old { owners = with_record number newcomer (with_kept_entry number name old.owners) }
-with_owner_change (Records name) number old =
-    record old { owners = with_record number (open_owner name) old.owners }
-with_owner_change (Restarts name) number old =
+    record old { owners = with_record number newcomer false (with_kept_entry number name old.owners) }
+with_owner_change (Records name confirmed) number old =
+    record old { owners = with_record number (open_owner name) confirmed old.owners }
+with_owner_change (Restarts name confirmed) number old =
     let fresh = without name old in
-    record fresh { owners = with_record number (open_owner name) fresh.owners }
+    record fresh { owners = with_record number (open_owner name) confirmed fresh.owners }
 with_owner_change (Drops name) number old = without name old
 
 -- The state without the owners, the opens, the lock states and the delegations of a client that a confirmation

@@ -25,7 +25,7 @@ resource op = refusal_of (opnum_of op) Resource
 abbrev pub IsFilehandle : History → Option ℕ → Type 0
 IsFilehandle journal filehandle = IfSome filehandle (λ node. node < node_count journal.nodes)
 
--- the same as a test, where the tree has so many nodes
+-- the current filehandle, if there is one, is that of a node, as a test, where the tree has so many nodes
 abbrev pub is_filehandle : ℕ → Option ℕ → Bool
 is_filehandle nodes None = true
 is_filehandle nodes (Some node) = nat_lt node nodes

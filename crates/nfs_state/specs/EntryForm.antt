@@ -27,7 +27,8 @@ use Rattle.xdr.specs.Union.{switch}
 abbrev zero_only : {A : Type 0} → Bool → A → Option A
 zero_only is_zero value = if is_zero then Some value else None
 
-zero_by : {A : Type 0} (n : ℕ) (b : Bool) (value other : A) → (n == 0) ≡ b → zero_only b value ≡ Some other → (other ≡ value) × (0 ≡ n)
+zero_by : {A : Type 0} (n : ℕ) (b : Bool) (value other : A)
+    → (n == 0) ≡ b → zero_only b value ≡ Some other → (other ≡ value) × (0 ≡ n)
 zero_by n true value other is h = (cc, sym (eqb-true n 0 is))
 zero_by n false value other is h = absurd cc
 
@@ -42,7 +43,8 @@ abbrev pub words_of_principal : Principal → Bool × ℕ
 words_of_principal AuthNone = (false, 0)
 words_of_principal (AuthSys uid) = (true, uid)
 
-principal_from : (has_uid : Bool) (uid : ℕ) (p : Principal) → principal_of (has_uid, uid) ≡ Some p → words_of_principal p ≡ (has_uid, uid)
+principal_from : (has_uid : Bool) (uid : ℕ) (p : Principal)
+    → principal_of (has_uid, uid) ≡ Some p → words_of_principal p ≡ (has_uid, uid)
 principal_from true uid p h =
     let is : AuthSys uid ≡ p = cc in
     ap words_of_principal (sym is)
@@ -69,7 +71,8 @@ abbrev pub words_of_filehandle : Option ℕ → Bool × ℕ
 words_of_filehandle None = (false, 0)
 words_of_filehandle (Some node) = (true, node)
 
-filehandle_from : (is_present : Bool) (node : ℕ) (h : Option ℕ) → filehandle_of (is_present, node) ≡ Some h → words_of_filehandle h ≡ (is_present, node)
+filehandle_from : (is_present : Bool) (node : ℕ) (h : Option ℕ)
+    → filehandle_of (is_present, node) ≡ Some h → words_of_filehandle h ≡ (is_present, node)
 filehandle_from true node h e =
     let is : Some node ≡ h = cc in
     ap words_of_filehandle (sym is)

@@ -11,7 +11,7 @@ abbrev pub change_seen : FileChangeRef → FileChange
 change_seen (lent.Writes offset block) = Writes offset block.now
 change_seen (lent.Cuts size) = Cuts size
 
--- where the bytes end that it speaks of
+-- where the bytes end that the change speaks of
 abbrev pub end_of : FileChange → ℕ
 end_of (Writes offset block) = offset + length block
 end_of (Cuts size) = size

@@ -1,5 +1,5 @@
 -- What is kept for an owner, and that what is stored of it is what the owner's entry in the journal has.
-use Rattle.std.specs.Prelude.{◌≡◌, ◌≤◌, ℕ, List, Option, None, Some, option_and_then, option_map, slice_get}
+use Rattle.std.specs.Prelude.{◌≡◌, ◌≤◌, ℕ, Bool, false, List, Option, None, Some, option_and_then, option_map, slice_get}
 use Rattle.std.specs.List.{AllByRecursion}
 use Rattle.nfs_state.specs.Entries.{IsSendable, call_of}
 use Rattle.nfs_state.specs.State.{History}
@@ -29,8 +29,8 @@ abbrev pub lock_owner_seqid : Locker → ℕ
 lock_owner_seqid (lockers.New locker) = locker.lock_seqid
 lock_owner_seqid (lockers.Known locker) = locker.lock_seqid
 
--- Of an operation that goes by this sequence id, the one that an owner of this kind keeps: a LOCK that introduces a lock
--- owner has another one for that owner.
+-- Of an operation that goes by this sequence id, the one that an owner of this kind keeps: a LOCK that introduces a
+-- lock owner has another one for that owner.
 abbrev pub seqid_for : OwnerKind → Op → ℕ → ℕ
 seqid_for kinds.Lock (ops.Lock args) seqid = lock_owner_seqid args.locker
 seqid_for kind op seqid = seqid
@@ -43,7 +43,7 @@ kept_with call seqid kind = record {
   answer = call.answer;
 }
 
--- The same of any call, if it goes by a sequence id: nobody keeps another one.
+-- The request and the answer of a call, as they are kept, if the call goes by a sequence id: nobody keeps another call.
 abbrev pub kept_of : Call → Option (OwnerKind → Kept)
 kept_of call = option_map (kept_with call) (seqid_of call.request.op)
 
@@ -72,29 +72,33 @@ pub record IsKeptIn (journal : History) (o : Owner) : Type 0 where
 abbrev pub Agrees : History → List Owner → Type 0
 Agrees journal owners = AllByRecursion (IsKeptIn journal) owners
 
--- an owner, with what is stored of what owners of its kind keep
-abbrev pub keeping : StateOwner → (OwnerKind → Kept) → Keeping
-keeping owner kept = record { owner = owner; kept = summary_of (kept owner.kind) }
+-- an owner, confirmed or not if it becomes known, with what is stored of what owners of its kind keep
+abbrev pub keeping : StateOwner → Bool → (OwnerKind → Kept) → Keeping
+keeping owner confirmed kept =
+    record { owner = owner; kept = summary_of (kept owner.kind); confirmed = confirmed }
 
 -- what an entry means for the owners, by the request and the answer as owners of each kind keep them
 abbrev pub update_of : OwnerChange → (OwnerKind → Kept) → OwnerUpdate
 update_of changes.Nothing kept = updates.Nothing
-update_of (changes.Keeps owner) kept = updates.Keeps (keeping owner kept)
+update_of (changes.Keeps owner) kept = updates.Keeps (keeping owner false kept)
 update_of (changes.KeepsBoth owner newcomer) kept =
-    updates.KeepsBoth (keeping owner kept) (keeping newcomer kept)
+    updates.KeepsBoth (keeping owner false kept) (keeping newcomer false kept)
 update_of (changes.Introduces owner newcomer) kept =
-    updates.KeepsBoth (keeping owner kept) (keeping newcomer kept)
-update_of (changes.Records owner) kept = updates.Keeps (keeping (open_owner owner) kept)
-update_of (changes.Restarts owner) kept = updates.Restarts owner (summary_of (kept kinds.Open))
+    updates.KeepsBoth (keeping owner false kept) (keeping newcomer false kept)
+update_of (changes.Records owner confirmed) kept =
+    updates.Keeps (keeping (open_owner owner) confirmed kept)
+update_of (changes.Restarts owner confirmed) kept =
+    updates.Restarts owner (summary_of (kept kinds.Open)) confirmed
 update_of (changes.Drops owner) kept = updates.Drops owner
 
--- the same, if there is something to keep; an entry with nothing to keep means nothing for the owners
+-- what the entry means for the owners, if there is something to keep; an entry with nothing to keep means nothing for
+-- them
 abbrev pub update_by : OwnerChange → Option (OwnerKind → Kept) → OwnerUpdate
 update_by change None = updates.Nothing
 update_by change (Some kept) = update_of change kept
 
--- Owners may keep it as the change says: what is kept can be sent again, and an entry with nothing to keep means nothing
--- for them.
+-- Owners may keep it as the change says: what is kept can be sent again, and an entry with nothing to keep means
+-- nothing for them.
 abbrev pub CanBeKept : Option (OwnerKind → Kept) → OwnerChange → Type 0
 CanBeKept None change = change ≡ changes.Nothing
 CanBeKept (Some kept) change =
@@ -102,7 +106,8 @@ CanBeKept (Some kept) change =
 
 -- the owners after one keeps a request and an answer, in the entry with this number
 abbrev pub kept_by : Keeping → ℕ → List Owner → List Owner
-kept_by keeping number owners = with_kept keeping.owner number keeping.kept owners
+kept_by keeping number owners =
+    with_kept keeping.owner number keeping.kept keeping.confirmed owners
 
 -- the stored owners after an entry with this number
 abbrev pub owners_after : OwnerUpdate → ℕ → List Owner → List Owner
@@ -110,6 +115,6 @@ owners_after updates.Nothing number owners = owners
 owners_after (updates.Keeps keeping) number owners = kept_by keeping number owners
 owners_after (updates.KeepsBoth keeping newcomer) number owners =
     kept_by newcomer number (kept_by keeping number owners)
-owners_after (updates.Restarts owner kept) number owners =
-    with_kept (open_owner owner) number kept (without_owner (open_owner owner) owners)
+owners_after (updates.Restarts owner kept confirmed) number owners =
+    with_kept (open_owner owner) number kept confirmed (without_owner (open_owner owner) owners)
 owners_after (updates.Drops owner) number owners = without_owner (open_owner owner) owners

@@ -1,3 +1,4 @@
+-- What contracts say of the stored state, its changes, and the journal of entries.
 pub mod Owners
 pub mod Pages
 pub mod FileChange

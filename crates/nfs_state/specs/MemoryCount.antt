@@ -17,8 +17,8 @@ use Rattle.nfs_forms.specs.declared.status.Status.TheVariants as statuses
 use Rattle.nfs_operations.specs.declared.readdir.DirectoryEntry.{DirectoryEntry}
 use Rattle.nfs_state.specs.declared.entry.Entry.{Entry}
 use Rattle.nfs_state.specs.declared.entry.Entry.TheVariants as entries
-use Rattle.nfs_state.specs.Pages.{is_covered, is_shared}
-use Rattle.nfs_state.specs.declared.memory_count.TheConstants.{ENTRY_LEN, LISTED_LEN}
+use Rattle.nfs_state.specs.Pages.{is_covered, pages_of}
+use Rattle.nfs_state.specs.declared.memory_count.TheConstants.{ENTRY_LEN, LISTED_LEN, PART_LEN}
 use Rattle.nfs_state.specs.declared.pages.TheConstants.{PAGE_LEN}
 use Rattle.nfs_tree.specs.Setting.{settable_of, size_set}
 use Rattle.nfs_tree.specs.declared.settable.Settable.{Settable}
@@ -72,9 +72,9 @@ op_len (ops.Write args) = length args.bytes
 op_len (ops.ReleaseLockowner args) = length args.owner.name
 op_len op = 0
 
--- what a READ takes for so many bytes from the offset on: a copy, unless they are a part of a page that they share
+-- what a READ takes for so many bytes from the offset on: a part of each of their pages, and nothing of the page itself
 abbrev pub read_len : ℕ → ℕ → ℕ
-read_len offset len = if is_shared offset len then 0 else len
+read_len offset len = if len == 0 then 0 else pages_of offset len * PART_LEN
 
 -- The pages that a WRITE of so many bytes at the offset makes: the first that it touches, and the last, if that is
 -- another one. Of those that it covers whole none is made.
@@ -133,8 +133,8 @@ abbrev pub listing_len : OpResult → ℕ
 listing_len (results.Readdir (answers.Done listing)) = sum_by listed_len listing.entries
 listing_len result = 0
 
--- what comes of the operation: what a READ copies, the pages that a WRITE or a SETATTR makes, and the entries that a
--- READDIR lists
+-- what comes of the operation: the parts that a READ gives, the pages that a WRITE or a SETATTR makes, and the entries
+-- that a READDIR lists
 abbrev pub outcome_len : Op → OpResult → ℕ
 outcome_len (ops.Read args) result = given_len args.offset result
 outcome_len (ops.Readdir args) result = listing_len result

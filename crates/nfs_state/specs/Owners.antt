@@ -27,12 +27,12 @@ confirmed_if_known (Some o) = o.confirmed
 abbrev pub is_confirmed : StateOwner → List KnownOwner → Bool
 is_confirmed name owners = confirmed_if_known (owner_of name owners)
 
--- the entry with this number records an owner, whose name nobody has: it is unconfirmed
-abbrev pub with_record : ℕ → StateOwner → List KnownOwner → List KnownOwner
-with_record number name owners =
+-- the entry with this number records an owner, whose name nobody has, confirmed or not
+abbrev pub with_record : ℕ → StateOwner → Bool → List KnownOwner → List KnownOwner
+with_record number name confirmed owners =
     owners ++ record {
       name = name;
-      confirmed = false;
+      confirmed = confirmed;
       recording_entry = number;
       kept_entry = number;
     } ∷ []

@@ -1,7 +1,8 @@
 -- The bytes of a file in pages of PAGE_LEN bytes each, of which the last may be filled up with zeros.
 use Rattle.std.specs.Prelude.{ℕ, ◌≡◌, ◌+◌, ◌-◌, ◌*◌, ◌/◌, ◌%◌, ◌==◌, Bool, ◌&&◌, nat_le, List, ◌++◌, drop, length, replicate, take}
+use Rattle.std.specs.Int.{div_ceil}
 use Rattle.std.specs.List.{AllByRecursion}
-use Rattle.nfs_state.specs.declared.pages.TheConstants.{PAGE_LEN, SHARED_LEN}
+use Rattle.nfs_state.specs.declared.pages.TheConstants.{PAGE_LEN}
 
 -- each of these pages has all of its bytes
 abbrev pub AreWhole : List (List ℕ) → Type 0
@@ -11,9 +12,9 @@ AreWhole pages = AllByRecursion (λ page. length page ≡ PAGE_LEN) pages
 abbrev pub page_start : ℕ → ℕ
 page_start offset = offset / PAGE_LEN * PAGE_LEN
 
--- so many bytes, from the offset on, are a part of a page that they share: they stand in one page, and aren't few
-abbrev pub is_shared : ℕ → ℕ → Bool
-is_shared offset len = nat_le SHARED_LEN len && nat_le len (PAGE_LEN - offset % PAGE_LEN)
+-- how many pages have some of so many bytes from the offset on, if there are any
+abbrev pub pages_of : ℕ → ℕ → ℕ
+pages_of offset len = div_ceil (offset % PAGE_LEN + len) PAGE_LEN
 
 -- so many bytes cover a page whole if they come into it at this place
 abbrev pub is_covered : ℕ → ℕ → Bool

@@ -77,7 +77,7 @@ HasUpdateRoom (updates.Keeps keeping) tables = CanKeep keeping.owner tables.owne
 HasUpdateRoom (updates.KeepsBoth keeping newcomer) tables =
     IsTrue (owners.is_known keeping.owner tables.owners.owners)
     × CanKeep newcomer.owner tables.owners
-HasUpdateRoom (updates.Restarts name kept) tables =
+HasUpdateRoom (updates.Restarts name kept confirmed) tables =
     IsTrue (has_place (open_owner name) tables.owners.owners) × (0 < tables.owners.room)
 HasUpdateRoom (updates.Drops name) tables = ⊤
 
@@ -104,14 +104,15 @@ HasOwnerPlace (owner_changes.KeepsBoth name newcomer) state =
     IsTrue (is_known name state) × IsTrue (is_known newcomer state)
 HasOwnerPlace (owner_changes.Introduces name newcomer) state =
     IsTrue (is_known name state) × IsNewcomer newcomer state
-HasOwnerPlace (owner_changes.Records name) state = IsNewcomer (open_owner name) state
-HasOwnerPlace (owner_changes.Restarts name) state = IsTrue (is_known (open_owner name) state)
+HasOwnerPlace (owner_changes.Records name confirmed) state = IsNewcomer (open_owner name) state
+HasOwnerPlace (owner_changes.Restarts name confirmed) state =
+    IsTrue (is_known (open_owner name) state)
 HasOwnerPlace (owner_changes.Drops name) state = ⊤
 
--- The numbers that the change gives are left: a client number of a newcomer's slot, a confirm value, and state numbers, two
--- for an OPEN; a client's record that it adds fits those that are there, the runs of a lock state aren't too many after
--- it, and the bytes that it writes, or a size that it sets, end within the limit of a file. (How many states there may
--- be is judged by the rules.)
+-- The numbers that the change gives are left: a client number of a newcomer's slot, a confirm value, and state numbers,
+-- two for an OPEN; a client's record that it adds fits those that are there, the runs of a lock state aren't too many
+-- after it, and the bytes that it writes, or a size that it sets, end within the limit of a file. (How many states
+-- there may be is judged by the rules.)
 abbrev pub IsWithinLimits : Change → State → Type 0
 IsWithinLimits (changes.Clients change) state =
     HasNumbersFor change state.clients × FitsRecords change state.clients

@@ -18,17 +18,17 @@ use Rattle.nfs_tree.specs.Tree.{node_count, text_of}
 
 pub record State : Type 0 where
   pub clients : Registry
-  -- in the order in which they were recorded
+  -- the owners in the order in which they were recorded
   pub owners : List KnownOwner
-  -- those of each node, by its number, in the order in which they came
+  -- the opens of each node, by its number, in the order in which they came
   pub opens : List (List OpenState)
-  -- those of each node, as the opens are
+  -- the lock states of each node, as the opens are
   pub locks : List (List ByteLocks)
-  -- those of each node, as the opens are
+  -- the delegations of each node, as the opens are
   pub delegations : List (List Delegation)
   -- the number that was given to a state last; 0 before the first
   pub last_state : ℕ
-  -- ordered by the numbers of their nodes
+  -- the files, ordered by the numbers of their nodes
   pub files : List FileState
 
 -- the file of the node with this number before any client changes it, if the node has a text

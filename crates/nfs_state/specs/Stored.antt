@@ -13,17 +13,17 @@ use Rattle.nfs_tree.specs.Tree.{node_count}
 
 pub record Stored : Type 0 where
   pub clients : Registry
-  -- each with what is stored of the request that is kept for it
+  -- the owners, each with what is stored of the request that is kept for it
   pub owners : List Owner
-  -- those of each node, by its number
+  -- the opens of each node, by its number
   pub opens : List (List OpenState)
-  -- those of each node, by its number
+  -- the lock states of each node, by its number
   pub locks : List (List StoredLock)
-  -- those of each node, by its number
+  -- the delegations of each node, by its number
   pub delegations : List (List Delegation)
   -- the number that was given to a state last
   pub last_state : ℕ
-  -- ordered by the numbers of their nodes
+  -- the files, ordered by the numbers of their nodes
   pub files : List FileState
 
 -- an owner without what is kept for it, which its entry has

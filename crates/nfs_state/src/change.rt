@@ -1,3 +1,5 @@
+//! The changes that rules decide, as values, so that deciding and changing are apart.
+
 use nfs_forms::{LockOwner, Moment};
 use nfs_locks::FirstLock;
 use nfs_owners::{ClientChange, LiveChange, PathMark};
@@ -32,7 +34,7 @@ pub enum Change {
         node: u32,
         number: u32,
     },
-    /// These bytes come into the node's file at this offset. They are shared with the entry's WRITE.
+    /// These bytes, which the entry's WRITE shares, come into the node's file at this offset.
     Writes {
         node: u32,
         offset: u64,
@@ -90,7 +92,7 @@ impl Change {
     ghost use Rattle.std.specs.Prelude.{◌≡◌};
     ghost use Rattle.nfs_state.specs.LiveChange.{live_change_of};
 
-    /// Who comes to be live by the change, or is live no longer.
+    /// Which client becomes live by the change, or is live no longer.
     pub fn live(&self) -> LiveChange
         ensures { result ≡ live_change_of self.now }
     {

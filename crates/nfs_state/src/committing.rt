@@ -1,3 +1,5 @@
+//! Commits an entry: takes all memory first, then changes the tables and the journal.
+
 ghost use Rattle.std.specs.Prelude.{◌≡◌, ◌<◌, ◌≤◌, IfErr, IfOk, IsOk, OnErr, OnOk, length};
 ghost use Rattle.nfs_owners.specs.Owners.{AreBefore};
 ghost use Rattle.nfs_state.specs.Changes.{after};

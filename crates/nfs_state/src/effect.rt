@@ -1,3 +1,5 @@
+//! What an entry does to the state: a change, and what the entry means for its owners.
+
 ghost use Rattle.std.specs.Prelude.{◌≡◌, ◌↔◌, IsTrue};
 ghost use Rattle.nfs_state.specs.Changes.{change_alone};
 ghost use Rattle.nfs_state.specs.LiveChange.{live_change_of};
@@ -23,7 +25,7 @@ impl Effect {
         }
     }
 
-    /// Whether it changes nothing.
+    /// Whether the effect changes nothing.
     pub(crate) fn is_nothing(&self) -> bool
         ensures { IsTrue result ↔ (self.now ≡ change_alone Change.Nothing) }
     {
@@ -36,7 +38,7 @@ impl Effect {
         )
     }
 
-    /// Who comes to be live by the effect, or is live no longer.
+    /// Which client becomes live by the effect, or is live no longer.
     pub fn live(&self) -> LiveChange
         ensures { result ≡ live_change_of self.now.change }
     {

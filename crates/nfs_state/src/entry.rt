@@ -1,3 +1,5 @@
+//! Entries of the journal: calls with their replies, and events without a call.
+
 ghost use Rattle.std.specs.Prelude.{◌≡◌, IfOk};
 ghost use Rattle.nfs_owners.specs.Kept.{summary_of};
 ghost use Rattle.nfs_state.specs.Kept.{kept_with, lock_owner_seqid, seqid_for};

@@ -1,3 +1,5 @@
+//! The kinds of entries, with their numbers in a journal's file.
+
 ghost use Rattle.nfs_state.specs.EntryForm as forms;
 ghost use Rattle.xdr.specs.Reading.{Answers};
 

@@ -1,3 +1,5 @@
+//! Changes of a file's bytes, by WRITE and SETATTR.
+
 ghost use Rattle.std.specs.Prelude.{◌≡◌, ◌↔◌, ◌≤◌, IfOk, IsTrue};
 ghost use Rattle.nfs_state.specs.FileChange.{change_seen, end_of};
 ghost use Rattle.nfs_tree.specs.declared.tree.TheConstants.{TEXT_LIMIT};
@@ -27,7 +29,7 @@ pub(crate) enum FileChangeRef<'a> {
 }
 
 impl FileChange {
-    /// Whether it is this change.
+    /// Whether the change is the other one.
     pub(crate) fn is(&self, other: FileChangeRef<'_>) -> bool
         ensures { IsTrue result ↔ (self.now ≡ change_seen other.entry) }
     {
@@ -46,7 +48,7 @@ impl FileChange {
 }
 
 impl FileChangeRef<'_> {
-    /// Where the bytes end that it speaks of.
+    /// Where the bytes end that the change speaks of.
     pub(crate) fn end(self) -> usize
         requires { end_of (change_seen self) ≤ TEXT_LIMIT }
         ensures { result ≡ end_of (change_seen self.entry) }

@@ -1,3 +1,5 @@
+//! The journal: what the server was started with, and each entry since then.
+
 ghost use Rattle.std.specs.Prelude.{◌≡◌, ◌<◌, ◌≤◌, [], nat_le, length, slice_get, IsOk, IsTrue, OnOk};
 ghost use Rattle.std.specs.Option.{option_copied};
 ghost use Rattle.nfs_state.specs.Entries.{with_entry};
@@ -115,8 +117,8 @@ impl Journal {
         self.entries.get(number)
     }
 
-    /// The entries from this number on, up to the end of their piece, of which each has `PIECE_LEN`: none only where none
-    /// is left.
+    /// The entries from this number on, up to the end of their piece, of which each has `PIECE_LEN`: none only where
+    /// none is left.
     pub fn piece_from(&self, number: usize) -> &[Entry]
         ensures { result.now ≡ piece_from number self.now.history.entries }
     {
@@ -153,16 +155,16 @@ impl Journal {
         number
     }
 
-    /// From now on a call is refused, as where memory is, whose entry would bring the count of the entries' memory above so
-    /// many bytes.
+    /// From now on a call is refused, as where memory is, whose entry would bring the count of the entries' memory
+    /// above so many bytes.
     pub fn set_memory_limit(&mut self, limit: u64)
         ensures { self.new ≡ self.old }
     {
         self.memory.set_limit(limit);
     }
 
-    /// How many bytes the entries count: each 320, and those of the names, owners, ids, addresses, masks and attributes of
-    /// its operation, and what a WRITE writes or a READ gives.
+    /// How many bytes the entries count: each 320, and those of the names, owners, ids, addresses, masks and attributes
+    /// of its operation, and what a WRITE writes or a READ gives.
     pub fn memory(&self) -> u64 {
         self.memory.len()
     }

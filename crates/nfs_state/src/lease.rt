@@ -1,3 +1,5 @@
+//! Says when a lease is over.
+
 ghost use Rattle.std.specs.Prelude.{◌≡◌};
 ghost use Rattle.nfs_state.specs.Lease.{is_over};
 

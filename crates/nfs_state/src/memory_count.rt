@@ -1,9 +1,12 @@
-ghost use Rattle.std.specs.Prelude.{◌≡◌, ◌+◌, ◌-◌, ◌^◌, ◌<◌, ◌≤◌, ◌⊎◌, IsFalse, IsTrue, min};
+//! Counts the memory of the journal's entries, which `--memory` bounds.
+
+ghost use Rattle.std.specs.Prelude.{◌≡◌, ◌+◌, ◌-◌, ◌/◌, ◌^◌, ◌<◌, ◌≤◌, ◌⊎◌, IsFalse, IsTrue, min};
 ghost use Rattle.std.specs.List.{sum_by};
 ghost use Rattle.nfs_state.specs.MemoryCount.{IsNoCall, attributes_len, claim_len, create_len, cut_len, end_len, entry_len, how_len, kept_len, listed_len, listing_len, locker_len, given_len, made_len, mask_len, op_len, outcome_len, read_len, size_of, write_len};
+ghost use Rattle.nfs_state.specs.Pages.{pages_of};
 
 use crate::Entry;
-use crate::pages::{PAGE_LEN, is_covered, is_shared};
+use crate::pages::{PAGE_LEN, is_covered};
 use nfs_forms::{Answer, Bitmap, Claim, CreateHow, Fattr, Locker, OpenHow, Status};
 use nfs_operations::readdir::DirectoryEntry;
 use nfs_tree::Settable;
@@ -15,6 +18,9 @@ pub const ENTRY_LEN: u64 = 320;
 /// How many bytes an entry of a listing counts beside its name and attributes.
 pub const LISTED_LEN: u64 = 160;
 
+/// How many bytes a part of a page counts that an answer has.
+pub const PART_LEN: u64 = 32;
+
 /// How much memory the entries of a journal are counted to take, and how much they may.
 #[derive(Drop)]
 pub(crate) struct MemoryCount {
@@ -24,7 +30,7 @@ pub(crate) struct MemoryCount {
 }
 
 impl MemoryCount {
-    /// Nothing, and no bound.
+    /// A count of nothing, without a bound.
     pub(crate) fn new() -> MemoryCount
         ensures { (result.len ≡ 0) × (result.limit ≡ 2 ^ 64 - 1) }
     {
@@ -183,8 +189,8 @@ fn mask_len(mask: &Bitmap) -> u64
     (mask.as_slice().len() as u64).saturating_mul(4)
 }
 
-// What comes of the operation: what a READ copies, the pages that a WRITE or a SETATTR makes, and the entries that a
-// READDIR lists.
+// What comes of the operation: the parts that a READ gives, the pages that a WRITE or a SETATTR makes, and the entries
+// that a READDIR lists.
 fn outcome_len(op: &Op, answer: &OpResult) -> u64
     ensures { result ≡ min (outcome_len op.now answer.now) (2 ^ 64 - 1) }
 {
@@ -202,9 +208,7 @@ fn given_len(offset: u64, answer: &OpResult) -> u64
     ensures { result ≡ given_len offset answer.now }
 {
     match answer {
-        OpResult::Read(Answer::Done(given)) => {
-            read_len(offset, given.bytes.as_slice().len() as u64)
-        }
+        OpResult::Read(Answer::Done(given)) => read_len(offset, given.bytes.len() as u64),
         _ => 0,
     }
 }
@@ -281,15 +285,24 @@ fn listed_len(entry: &DirectoryEntry) -> u64
         .saturating_add(attributes_len(&entry.attributes))
 }
 
-// What a READ takes for so many bytes from the offset on: a copy, unless they are a part of a page that they share.
+// What a READ takes for so many bytes from the offset on: a part of each of their pages.
 fn read_len(offset: u64, len: u64) -> u64
     ensures { result ≡ read_len offset len }
 {
-    if is_shared(offset as usize, len as usize) {
+    if len == 0 {
         0
     } else {
-        len
+        pages_of(offset, len) * PART_LEN
     }
+}
+
+// How many pages have some of so many bytes from the offset on, if there are any.
+fn pages_of(offset: u64, len: u64) -> u64
+    ensures value { result ≡ pages_of offset len }
+    ensures few { result ≤ len / PAGE_LEN + 2 }
+{
+    let page = PAGE_LEN as u64;
+    len / page + (offset % page + len % page).div_ceil(page)
 }
 
 // What a WRITE of so many bytes at the offset takes for the file.

@@ -1,3 +1,5 @@
+//! The error if the system gives no random bytes for a seed.
+
 use thiserror::Error;
 
 /// The system gave no random bytes for a seed.

@@ -1,3 +1,5 @@
+//! What an entry means for its owners, with what is stored of the entry's request.
+
 ghost use Rattle.std.specs.Prelude.{◌≡◌};
 ghost use Rattle.nfs_state.specs.Kept.{kept_in, kept_with, update_by, update_of};
 
@@ -12,10 +14,11 @@ pub(crate) enum OwnerUpdate {
     Nothing,
     /// This owner keeps the request and the answer, and is recorded if it isn't known.
     Keeps(Keeping),
-    /// These two do.
+    /// Both owners keep the request and the answer.
     KeepsBoth(Keeping, Keeping),
-    /// This owner is dropped with its opens, becomes known anew, and keeps the request and the answer.
-    Restarts(OpenOwner, KeptSummary),
+    /// This owner is dropped with its opens, becomes known anew, confirmed or not, and keeps the request and the
+    /// answer.
+    Restarts(OpenOwner, KeptSummary, bool),
     /// This owner is dropped with its opens.
     Drops(OpenOwner),
 }
@@ -25,6 +28,8 @@ pub(crate) enum OwnerUpdate {
 pub(crate) struct Keeping {
     pub owner: StateOwner,
     pub kept: KeptSummary,
+    /// Whether the owner is confirmed, if it becomes known by the request.
+    pub confirmed: bool,
 }
 
 impl OwnerUpdate {
@@ -49,18 +54,18 @@ impl OwnerUpdate {
     {
         match change {
             OwnerChange::Nothing => OwnerUpdate::Nothing,
-            OwnerChange::Keeps(owner) => OwnerUpdate::Keeps(Keeping::of(owner, call, seqid)),
+            OwnerChange::Keeps(owner) => OwnerUpdate::Keeps(Keeping::of(owner, false, call, seqid)),
             OwnerChange::KeepsBoth(owner, newcomer) | OwnerChange::Introduces(owner, newcomer) => {
                 OwnerUpdate::KeepsBoth(
-                    Keeping::of(owner, call, seqid),
-                    Keeping::of(newcomer, call, seqid),
+                    Keeping::of(owner, false, call, seqid),
+                    Keeping::of(newcomer, false, call, seqid),
                 )
             }
-            OwnerChange::Records(owner) => {
-                OwnerUpdate::Keeps(Keeping::of(StateOwner::of_open(owner), call, seqid))
+            OwnerChange::Records { owner, confirmed } => {
+                OwnerUpdate::Keeps(Keeping::of(StateOwner::of_open(owner), confirmed, call, seqid))
             }
-            OwnerChange::Restarts(owner) => {
-                OwnerUpdate::Restarts(owner, call.kept(seqid, OwnerKind::Open))
+            OwnerChange::Restarts { owner, confirmed } => {
+                OwnerUpdate::Restarts(owner, call.kept(seqid, OwnerKind::Open), confirmed)
             }
             OwnerChange::Drops(owner) => OwnerUpdate::Drops(owner),
         }
@@ -70,11 +75,15 @@ impl OwnerUpdate {
 impl Keeping {
     ghost use Rattle.nfs_state.specs.Kept.{keeping};
 
-    // The owner, with what is stored of the call, which goes by this sequence id.
-    fn of(owner: StateOwner, call: &Call, seqid: u32) -> Keeping
-        ensures { result ≡ keeping owner (kept_with call.now seqid) }
+    // The owner, confirmed or not if it becomes known, with what is stored of the call, which goes by this sequence id.
+    fn of(owner: StateOwner, confirmed: bool, call: &Call, seqid: u32) -> Keeping
+        ensures { result ≡ keeping owner confirmed (kept_with call.now seqid) }
     {
         let kept = call.kept(seqid, owner.kind);
-        Keeping { owner, kept }
+        Keeping {
+            owner,
+            kept,
+            confirmed,
+        }
     }
 }

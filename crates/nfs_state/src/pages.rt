@@ -1,16 +1,15 @@
+//! A file's bytes in pages, so that READ and WRITE needn't copy them.
+
 ghost use Rattle.std.specs.Prelude.{◌≡◌, ◌≢◌, ◌%◌, ◌+◌, ◌-◌, ◌*◌, ◌≤◌, ◌<◌, ◌^◌, ◌++◌, [], IfOk, OnOk, drop, length, take};
 ghost use Rattle.std.specs.List.{concat};
-ghost use Rattle.nfs_state.specs.Pages.{AreFilledUp, AreWhole, is_covered, is_shared, page_start, replaced, zero_page};
+ghost use Rattle.nfs_state.specs.Pages.{AreFilledUp, AreWhole, is_covered, page_start, replaced, zero_page};
 
 use std::alloc::{AllocError, Global};
 use std::marker::Model;
-use xdr::SharedBytes;
+use xdr::{ByteParts, SharedBytes};
 
 /// How many bytes a page has.
 pub(crate) const PAGE_LEN: usize = 4_096;
-
-/// The fewest bytes of a page that share its memory: fewer are copied, so that they don't keep the page.
-pub(crate) const SHARED_LEN: usize = 2_048;
 
 /// Bytes in pages, from which they can be read without a copy. A page is never written: another one comes in its place.
 /// Contracts see the list of the bytes.
@@ -51,21 +50,23 @@ impl Pages {
         Ok(())
     }
 
-    /// So many of the bytes, from the offset on: a part of a page where they stand in one, unless they are few.
-    pub(crate) fn part(
+    /// So many of the bytes, from the offset on, in parts of their pages. The list of these alone takes memory.
+    pub(crate) fn parts(
         &self,
         alloc: Global,
         offset: usize,
         len: usize,
-    ) -> Result<SharedBytes, AllocError>
-        requires { offset + len ≤ length self.now }
+    ) -> Result<ByteParts, AllocError>
+        requires first { offset < length self.now }
+        requires within { offset + len ≤ length self.now }
         ensures { IfOk result (λ b. b ≡ take len (drop offset self.now)) }
     {
-        if is_shared(offset, len) {
-            self.pages[offset / PAGE_LEN].part(offset % PAGE_LEN, len)
-        } else {
-            SharedBytes::new(copy_of(alloc, &self.pages, offset, len)?)
-        }
+        let (number, at) = (offset / PAGE_LEN, offset % PAGE_LEN);
+        let in_first = len.min(PAGE_LEN - at);
+        let first = self.pages[number].part(at, in_first)?;
+        let (_, behind) = self.pages.as_slice().split_at(number + 1);
+        let rest = parts_of(alloc, behind, len - in_first)?;
+        ByteParts::new(len, first, rest)
     }
 
     /// The pages that come in the place of those from that of the offset on, where the block does in the place of the
@@ -177,14 +178,6 @@ impl Pages {
     }
 }
 
-/// Whether so many bytes, from the offset on, are a part of a page that they share: they stand in one page, and aren't
-/// few.
-pub(crate) fn is_shared(offset: usize, len: usize) -> bool
-    ensures { result ≡ is_shared offset len }
-{
-    len >= SHARED_LEN && len <= PAGE_LEN - offset % PAGE_LEN
-}
-
 /// Whether so many bytes cover a page whole if they come into it at this place.
 pub(crate) fn is_covered(at: usize, len: usize) -> bool
     ensures { result ≡ is_covered at len }
@@ -216,25 +209,23 @@ fn add_zeros(
     Ok(())
 }
 
-// A copy of so many of the bytes in these pages, from the offset on.
-fn copy_of(
+// So many of the bytes in these pages, in parts of them.
+fn parts_of(
     alloc: Global,
     pages: &[SharedBytes],
-    offset: usize,
     len: usize,
-) -> Result<Vec<u8>, AllocError>
-    ensures { IfOk result (λ v. v.items ≡ take len (drop offset (concat pages.now))) }
+) -> Result<Vec<SharedBytes>, AllocError>
+    requires whole { AreWhole pages.now }
+    requires within { len ≤ length (concat pages.now) }
+    ensures { IfOk result (λ parts. concat parts.items ≡ take len (concat pages.now)) }
 {
-    let mut bytes = Vec::with_capacity(alloc, len)?;
-    let mut before = offset;
-    for page in pages {
-        let page = page.as_slice();
-        let (_, rest) = page.split_at(before.min(page.len()));
-        let (part, _) = rest.split_at((len - bytes.len()).min(rest.len()));
-        bytes.extend_from_slice(part)?;
-        before = before.saturating_sub(page.len());
+    let count = len.div_ceil(PAGE_LEN);
+    let mut parts = Vec::with_capacity(alloc, count)?;
+    for number in 0..count {
+        let left = len - number * PAGE_LEN;
+        parts.push(pages[number].part(0, left.min(PAGE_LEN))?)?;
     }
-    Ok(bytes)
+    Ok(parts)
 }
 
 // A copy of the page, with other bytes in the place of as many of its own.

@@ -1,3 +1,5 @@
+//! A list that grows without moving its items, for journals of a million entries.
+
 ghost use Rattle.std.specs.Prelude.{◌≡◌, ◌+◌, ◌*◌, ◌-◌, ◌^◌, ◌<◌, ◌≤◌, [], ◌∷◌, ◌++◌, IsOk, OnOk, drop, length, slice_get, take};
 ghost use Rattle.std.specs.Option.{option_copied};
 ghost use Rattle.nfs_state.specs.PieceList.{piece_from};
@@ -10,8 +12,8 @@ use std::mem;
 /// How many items a piece has.
 pub const PIECE_LEN: usize = 4_096;
 
-/// A list in pieces. Each has the memory for all of its items when it is begun, so that where the list grows, no item is
-/// moved, and no more is asked for than a piece takes.
+/// A list in pieces. Each has the memory for all of its items when it is begun, so that where the list grows, no item
+/// is moved, and no more is asked for than a piece takes.
 #[derive(Drop)]
 pub struct PieceList<T> {
     // The pieces that have all of their items.

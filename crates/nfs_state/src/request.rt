@@ -1,3 +1,5 @@
+//! Requests, as rules decide them and the journal records them.
+
 ghost use Rattle.std.specs.Prelude.{◌≡◌, IfOk};
 ghost use Rattle.nfs_state.specs.Entries.{is_filehandle};
 

@@ -1,5 +1,7 @@
+//! The seeds of the hashes by which clients' and owners' names are found.
+
 use crate::no_random_seed::NoRandomSeed;
-use std::hash::RandomState;
+use nfs_rows::{IdSeed, OwnerSeed};
 use std::random::RandomSource;
 
 /// What the hashes of names are keyed by, so that clients, who choose the names, can't make hashes meet. What is stored
@@ -7,15 +9,15 @@ use std::random::RandomSource;
 #[derive(Clone, Copy, Debug)]
 pub struct Seeds {
     /// For the names of owners.
-    pub owners: RandomState,
+    pub owners: OwnerSeed,
     /// For the ids of clients.
-    pub ids: RandomState,
+    pub ids: IdSeed,
 }
 
 impl Seeds {
-    /// Seeds of random bytes of this source. Fails if it gives none.
+    /// Seeds of random bytes of this source, each drawn by a call of its own. Fails if it gives none.
     pub fn new(rt: &impl RandomSource) -> Result<Seeds, NoRandomSeed> {
-        let (Ok(owners), Ok(ids)) = (RandomState::new(rt), RandomState::new(rt)) else {
+        let (Ok(owners), Ok(ids)) = (OwnerSeed::new(rt), IdSeed::new(rt)) else {
             return Err(NoRandomSeed);
         };
         Ok(Seeds { owners, ids })

@@ -1,3 +1,5 @@
+//! A call that only contracts can see, so that a receipt names an entry without a copy of it.
+
 ghost use Rattle.std.specs.Prelude.{◌≡◌};
 ghost use Rattle.nfs_state.specs.declared.entry.Call.{Call};
 ghost use base.Fml.{ftrue};

@@ -1,3 +1,5 @@
+//! Why an operation is answered NFS4ERR_RESOURCE.
+
 ghost use Rattle.std.specs.Prelude.{◌≡◌};
 
 use nfs_owners::OwnersError;

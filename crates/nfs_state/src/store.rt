@@ -1,3 +1,5 @@
+//! Tables and journal together, which the rules read.
+
 use crate::journal::Journal;
 use crate::tables::Tables;
 

@@ -1,4 +1,6 @@
-ghost use Rattle.std.specs.Prelude.{◌≡◌, ◌↔◌, ◌<◌, ◌≤◌, ◌+◌, ◌-◌, ◌^◌, ◌==◌, IfOk, IsOk, IsTrue, OnOk, Some, length, take};
+//! A file's bytes, size and change attribute, as READ, WRITE and SETATTR use them.
+
+ghost use Rattle.std.specs.Prelude.{◌≡◌, ◌↔◌, ◌<◌, ◌≤◌, ◌+◌, ◌-◌, ◌^◌, ◌==◌, IfOk, IsOk, IsTrue, OnOk, Some, [], length, take};
 ghost use Rattle.nfs_tree.specs.declared.tree.TheConstants.{TEXT_LIMIT};
 ghost use Rattle.nfs_state.specs.FileChange.{ComesWith, change_seen, end_of};
 ghost use Rattle.nfs_state.specs.Files.{after_change, after_cut, after_write, first_file, read_of};
@@ -9,7 +11,7 @@ use crate::pages::Pages;
 use nfs_tree::TEXT_LIMIT;
 use std::alloc::{AllocError, Global};
 use std::marker::Model;
-use xdr::SharedBytes;
+use xdr::{ByteParts, SharedBytes};
 
 /// A file as it is now (RFC 7530, section 5.8.1). Contracts also see the change for which there is room.
 #[derive(Drop)]
@@ -67,7 +69,7 @@ impl StoredFile {
         })
     }
 
-    /// Whether it is the file of this node in the tree.
+    /// Whether the file is that of this node in the tree.
     pub fn is_of(&self, node: u32) -> bool
         ensures { result ≡ (self.now.file.node == node) }
     {
@@ -90,22 +92,23 @@ impl StoredFile {
 
     /// READ (RFC 7530, section 16.23): whether nothing comes after what it gives, and at most so many bytes from the
     /// offset on, and never more than `TEXT_LIMIT`.
-    pub fn read(
+    pub(crate) fn read(
         &self,
         alloc: Global,
+        zeros: &SharedBytes,
         offset: u64,
         count: u32,
-    ) -> Result<(bool, SharedBytes), AllocError>
+    ) -> Result<(bool, ByteParts), AllocError>
         ensures { IfOk result (λ given. (given.0, given.1)
             ≡ read_of self.now.file.bytes offset count) }
     {
         if offset >= self.size as u64 {
-            return Ok((true, SharedBytes::copy_of(alloc, &[])?));
+            return Ok((true, no_bytes(zeros)?));
         }
         let offset = offset as usize;
         let left = self.size - offset;
         let len = (count as usize).min(TEXT_LIMIT).min(left);
-        Ok((len == left, self.pages.part(alloc, offset, len)?))
+        Ok((len == left, self.pages.parts(alloc, offset, len)?))
     }
 
     // Whether there is room for this change.
@@ -177,6 +180,13 @@ impl StoredFile {
         self.size = size;
         self.change += 1;
     }
+}
+
+/// No bytes, which takes no memory: it is a part of the zeros.
+pub(crate) fn no_bytes(zeros: &SharedBytes) -> Result<ByteParts, AllocError>
+    ensures { IfOk result (λ bytes. bytes ≡ []) }
+{
+    Ok(ByteParts::of_one(zeros.part(0, 0)?))
 }
 
 // The text in pages, and zeros behind it.

@@ -1,3 +1,5 @@
+//! The files of the tree as they are now.
+
 ghost use Rattle.std.specs.Prelude.{◌≡◌, ◌≤◌, ◌+◌, [], IfOk, IsOk, OnOk, find, length, map, option_map, if◌then◌else◌, ◌==◌, ◌<◌, ◌^◌, ◌-◌, ◌≢◌};
 ghost use Rattle.std.specs.Option.{option_copied};
 ghost use Rattle.nfs_state.specs.FileChange.{change_seen, end_of};
@@ -9,10 +11,11 @@ ghost use Rattle.nfs_tree.specs.declared.tree.TheConstants.{TEXT_LIMIT};
 use crate::StoredFile;
 use crate::file_change::{FileChange, FileChangeRef};
 use crate::pages::zero_page;
+use crate::stored_file::no_bytes;
 use nfs_tree::Tree;
 use std::alloc::{AllocError, Global};
 use std::marker::Model;
-use xdr::SharedBytes;
+use xdr::{ByteParts, SharedBytes};
 
 /// The files as they are now, in the order of their nodes' numbers.
 #[derive(Drop)]
@@ -53,28 +56,28 @@ impl StoredFiles {
         self.roomy_file(node)
     }
 
-    // The same file, of which contracts also see how much room it has.
+    // The file of a node, if the node is a file; contracts also see how much room it has.
     fn roomy_file(&self, node: u32) -> Option<&StoredFile>
         ensures { option_copied result ≡ find (λ f. f.file.node == node) self.now }
     {
         self.files.iter().find(|file| file.is_of(node))
     }
 
-    /// READ of the node's file (RFC 7530, section 16.23): whether nothing comes after what it gives, and at most so many
-    /// bytes from the offset on, and never more than `TEXT_LIMIT`. A directory has no bytes.
+    /// READ of the node's file (RFC 7530, section 16.23): whether nothing comes after what it gives, and at most so
+    /// many bytes from the offset on, and never more than `TEXT_LIMIT`. A directory has no bytes.
     pub fn read(
         &self,
         alloc: Global,
         node: u32,
         offset: u64,
         count: u32,
-    ) -> Result<(bool, SharedBytes), AllocError>
+    ) -> Result<(bool, ByteParts), AllocError>
         ensures { IfOk result (λ given. (given.0, given.1)
             ≡ read_of (bytes_of (file_of (files_in self.now) node)) offset count) }
     {
         match self.find(node) {
-            Some(file) => file.read(alloc, offset, count),
-            None => Ok((true, SharedBytes::copy_of(alloc, &[])?)),
+            Some(file) => file.read(alloc, &self.zeros, offset, count),
+            None => Ok((true, no_bytes(&self.zeros)?)),
         }
     }
 

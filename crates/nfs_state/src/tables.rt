@@ -1,3 +1,5 @@
+//! All that the server stores besides the journal, and how each change alters it.
+
 ghost use Rattle.std.specs.Prelude.{ℕ, ◌≡◌, ◌<◌, ◌≤◌, ◌+◌, ◌-◌, ◌^◌, IfErr, IfOk, IsOk, IsTrue, OnOk, Some, map};
 
 use crate::change::Change;
@@ -208,7 +210,7 @@ impl Tables {
             | OwnerChange::KeepsBoth(_, _)
             | OwnerChange::Drops(_) => Ok(()),
             OwnerChange::Introduces(_, newcomer) => Ok(self.owners.reserve(newcomer.as_ref())?),
-            OwnerChange::Records(owner) | OwnerChange::Restarts(owner) => {
+            OwnerChange::Records { owner, .. } | OwnerChange::Restarts { owner, .. } => {
                 Ok(self.owners.reserve(OwnerRef::of_open(owner))?)
             }
         }
@@ -236,9 +238,10 @@ impl Tables {
                 self.keep(keeping, number);
                 self.keep(newcomer, number);
             }
-            OwnerUpdate::Restarts(owner, kept) => {
+            OwnerUpdate::Restarts(owner, kept, confirmed) => {
                 self.remove_owner(&owner);
-                self.owners.keep(StateOwner::of_open(owner), number, kept);
+                self.owners
+                    .keep(StateOwner::of_open(owner), number, kept, confirmed);
             }
             OwnerUpdate::Drops(owner) => self.remove_owner(&owner),
         }
@@ -259,7 +262,8 @@ impl Tables {
         ensures before { IsTrue (is_known keeping.owner self.old.owners.owners)
             → AreBefore number self.new.owners.owners }
     {
-        self.owners.keep(keeping.owner, number, keeping.kept);
+        self.owners
+            .keep(keeping.owner, number, keeping.kept, keeping.confirmed);
     }
 
     // Forgets the owner, and frees its opens.

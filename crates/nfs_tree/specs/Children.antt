@@ -27,7 +27,7 @@ abbrev pub children_after : List Node → ℕ → ℕ → List ℕ
 children_after nodes directory cookie =
     filter (λ child. nat_lt cookie (cookie_of child)) (children_of nodes directory)
 
--- the same, found in one pass over the nodes, which are numbered from `number` on
+-- the children behind a cookie, found in one pass over the nodes, which are numbered from `number` on
 abbrev pub listed : ℕ → Node → ℕ → ℕ → List ℕ
 listed number node directory cookie =
     if (node.parent == directory) && nat_lt cookie (cookie_of number) then number ∷ [] else []

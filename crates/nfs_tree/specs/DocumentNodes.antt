@@ -1,5 +1,5 @@
--- Which lists of nodes are those of some document. A document's directories come first, then its files. Each path brings
--- the directories on it that are missing, so after a file a directory comes only on the way to another file.
+-- Which lists of nodes are those of some document. A document's directories come first, then its files. Each path
+-- brings the directories on it that are missing, so after a file a directory comes only on the way to another file.
 use Rattle.std.specs.Prelude.{ℕ, zero, suc, ◌-◌, ◌==◌, nat_le, nat_lt, Bool, true, not, ◌&&◌, ◌||◌, if◌then◌else◌, List, [], ◌∷◌, ◌++◌, length, slice_get, Option, Some, None, Result, Ok, Err, is_none}
 use Rattle.std.specs.Str.{is_utf8}
 use Rattle.nfs_tree.specs.declared.node.Node.{Node}

@@ -1,3 +1,4 @@
+-- What contracts say of the exported files, and the rules of the operations that need only these.
 pub mod Tree
 pub mod Attributes
 pub mod Setting

@@ -19,7 +19,8 @@ number_of_delegations delegation.All = 2
 abbrev pub all_delegations : List Delegations
 all_delegations = delegation.None ∷ delegation.Read ∷ delegation.All ∷ []
 
-pub known_delegations : (d : Delegations) → find (λ v. number_of_delegations v == number_of_delegations d) all_delegations ≡ Some d
+pub known_delegations : (d : Delegations)
+    → find (λ v. number_of_delegations v == number_of_delegations d) all_delegations ≡ Some d
 known_delegations delegation.None = refl
 known_delegations d = refl
 
@@ -34,7 +35,8 @@ number_of_callbacks callback.Assume = 1
 abbrev pub all_callbacks : List Callbacks
 all_callbacks = callback.Probe ∷ callback.Assume ∷ []
 
-pub known_callbacks : (c : Callbacks) → find (λ v. number_of_callbacks v == number_of_callbacks c) all_callbacks ≡ Some c
+pub known_callbacks : (c : Callbacks)
+    → find (λ v. number_of_callbacks v == number_of_callbacks c) all_callbacks ≡ Some c
 known_callbacks callback.Probe = refl
 known_callbacks c = refl
 
@@ -49,7 +51,8 @@ number_of_close_locks locks.Refuse = 1
 abbrev pub all_close_locks : List CloseLocks
 all_close_locks = locks.Free ∷ locks.Refuse ∷ []
 
-pub known_close_locks : (c : CloseLocks) → find (λ v. number_of_close_locks v == number_of_close_locks c) all_close_locks ≡ Some c
+pub known_close_locks : (c : CloseLocks)
+    → find (λ v. number_of_close_locks v == number_of_close_locks c) all_close_locks ≡ Some c
 known_close_locks locks.Free = refl
 known_close_locks c = refl
 

@@ -1,5 +1,5 @@
--- The attributes that SETATTR sets (RFC 7530, section 16.32): of those that are supported, the size of a file and the
--- time of its last change, under the profile for clients.
+-- What SETATTR sets under the profile "clients" (RFC 7530, section 16.32): the size of a file, and the time of its last
+-- change.
 use Rattle.std.specs.Prelude.{ℕ, ◌+◌, ◌==◌, Bool, true, false, not, ◌&&◌, if◌then◌else◌, List, [], ◌∷◌, drop, length, bit_and, Option, Some, None, Result, Ok, Err}
 use Rattle.std.specs.List.{list_all}
 use Rattle.nfs_forms.specs.declared.status.Refusal.{Refusal}
@@ -19,8 +19,8 @@ abbrev pub are_among : Words → Words → Bool
 are_among asked known = (bit_and asked.first known.first == asked.first)
     && (bit_and asked.second known.second == asked.second)
 
--- those that aren't only to be read; of them, those of which this server keeps who may do what with a file, and whose
--- it is
+-- the bits of attributes that a client may write and this server leaves as they are: who may do what with a file, and
+-- whose the file is
 abbrev pub fixed_bits : ℕ
 fixed_bits = word_of (attributes.Mode ∷ attributes.Owner ∷ attributes.OwnerGroup ∷ [])
 

@@ -22,7 +22,8 @@ pub mod Putrootfh
 pub mod Restorefh
 pub mod Savefh
 
--- The effect of an operation that needs only what is exported and the filehandles. Other operations have no effect here.
+-- The effect of an operation that needs only what is exported and the filehandles. Other operations have no effect
+-- here.
 abbrev pub effect_of : Exported → Filehandles → Op → Option Effect
 effect_of export old (ops.Access requested) = Some (access export old requested)
 effect_of export old (ops.Commit args) = Some (commit export old)

@@ -1,3 +1,5 @@
+//! Attributes by number: which of them each profile has, and their bits in a bitmap.
+
 ghost use Rattle.std.specs.Prelude.{◌≡◌, IfOk, IsOk, get_or};
 ghost use Rattle.nfs_tree.specs.Attributes.{bit_of, common, first_attributes, is_readable, mask_of, readable, second_attributes, supported, words_of};
 
@@ -44,7 +46,7 @@ pub enum Attribute {
     TimeModifySet = 54,
 }
 
-/// Those that can be read under the profile "plain", in increasing order of their numbers.
+/// The attributes that can be read under the profile "plain", in increasing order of their numbers.
 const PLAIN_ATTRIBUTES: [Attribute; 14] = [
     Attribute::SupportedAttrs,
     Attribute::Type,
@@ -62,7 +64,7 @@ const PLAIN_ATTRIBUTES: [Attribute; 14] = [
     Attribute::Fileid,
 ];
 
-/// Those that can be read under the profile "clients": in the first word of a bitmap.
+/// The attributes that can be read under the profile "clients", in the first word of a bitmap.
 const FIRST_ATTRIBUTES: [Attribute; 21] = [
     Attribute::SupportedAttrs,
     Attribute::Type,
@@ -87,7 +89,7 @@ const FIRST_ATTRIBUTES: [Attribute; 21] = [
     Attribute::Maxwrite,
 ];
 
-/// And in the second.
+/// The attributes that can be read under the profile "clients", in the second word of a bitmap.
 const SECOND_ATTRIBUTES: [Attribute; 11] = [
     Attribute::Mode,
     Attribute::Numlinks,
@@ -195,7 +197,7 @@ impl Profile {
         }
     }
 
-    /// These attributes in increasing order of their numbers: those in the first word of a bitmap.
+    /// The attributes in the first word of a bitmap that can be read, in increasing order of their numbers.
     pub(crate) fn first_attributes(self) -> &'static [Attribute]
         ensures { result.now ≡ first_attributes self }
     {
@@ -205,7 +207,7 @@ impl Profile {
         }
     }
 
-    /// And those in the second.
+    /// The attributes in the second word of a bitmap that can be read, in increasing order of their numbers.
     pub(crate) fn second_attributes(self) -> &'static [Attribute]
         ensures { result.now ≡ second_attributes self }
     {

@@ -1,3 +1,5 @@
+//! Makes a tree of a TOML document, or says which entry of the document is wrong.
+
 ghost use Rattle.std.specs.Prelude.{◌≡◌, ◌≤◌, ◌<◌, ◌+◌, ◌^◌, IfErr, IfOk, OnOk, Ok, if◌then◌else◌, length};
 ghost use Rattle.nfs_tree.specs.declared.node.NodeKind.TheVariants.{Directory};
 ghost use Rattle.nfs_tree.specs.Building.{FailsToMake, Makes, add_entry, chain, is_too_many, tree_of, way};

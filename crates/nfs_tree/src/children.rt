@@ -1,3 +1,5 @@
+//! What READDIR asks of a tree: the children of a directory, in order, by cookies.
+
 ghost use Rattle.std.specs.Prelude.{◌≡◌, ◌≤◌, ◌-◌, ◌++◌, IfOk, OnOk, length};
 ghost use Rattle.std.specs.Option.{option_copied};
 ghost use Rattle.nfs_tree.specs.Children.{children_after, cookie_of, is_cookie, listed, listed_from, name_of};
@@ -61,7 +63,7 @@ impl Tree {
     }
 }
 
-// The same children among these nodes.
+// The children of a directory behind a cookie, among these nodes.
 fn children_among(
     alloc: Global,
     nodes: &[Node],

@@ -1,3 +1,5 @@
+//! Reads the TOML document that `--tree` names, and refuses keys that it doesn't know.
+
 ghost use Rattle.std.specs.Prelude.{◌≡◌, ◌∷◌, [], codes, map, option_map};
 ghost use Rattle.std.specs.List.{list_any};
 ghost use Rattle.std.specs.Str.{bytes_eq};

@@ -1,3 +1,5 @@
+//! What is served without state: the tree, its profile, and the number of the server's run.
+
 ghost use Rattle.std.specs.Prelude.{◌≡◌};
 ghost use Rattle.nfs_tree.specs.Exports.{verifier_of};
 

@@ -1,3 +1,5 @@
+//! The current and the saved filehandle of a COMPOUND, as nodes.
+
 ghost use Rattle.std.specs.Prelude.{◌≡◌, ◌<◌, IfSome, option_map};
 ghost use Rattle.nfs_tree.specs.Filehandles.{AreNodes, claimed_name, handles_after, no_filehandles, object_named};
 ghost use Rattle.nfs_tree.specs.Tree.{node_count};

@@ -1,5 +1,5 @@
-//! The server's files: a tree of directories and files with their initial texts, read from a TOML document; the
-//! filehandles and attributes of its nodes; and the operations that need only these.
+//! The server's files: a tree of directories and files with their initial texts, read from a TOML document. Filehandles
+//! and attributes of its nodes, and the operations that need only these, are here, too.
 #![tactic(auto)]
 
 mod attribute;

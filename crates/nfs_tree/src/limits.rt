@@ -1,3 +1,5 @@
+//! States the numbers of this crate as a law, so that a wrong constant fails the proof.
+
 ghost use Rattle.std.specs.Prelude.{◌≡◌};
 ghost use Rattle.nfs_tree.specs.Attributes.{readable, supported};
 ghost use Rattle.nfs_tree.specs.declared.profile.Profile.TheVariants as profiles;

@@ -1,3 +1,5 @@
+//! Nodes of a tree, and their bytes in a journal's file.
+
 ghost use Rattle.std.specs.Prelude.{◌≡◌};
 ghost use Rattle.nfs_tree.specs.NodeForm as forms;
 ghost use Rattle.nfs_tree.specs.NodeForm.{kind_arm, kind_case, named_text};

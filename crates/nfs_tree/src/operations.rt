@@ -1,4 +1,5 @@
-// The operations that need only what is exported and the filehandles, one file each.
+//! Runs the operations that need only the exported files and the filehandles; each is in a file of its own.
+
 ghost use Rattle.std.specs.Prelude.{◌≡◌, ◌≤◌, IsTrue, Some, length};
 ghost use Rattle.nfs_tree.specs.Exports.{export_seen};
 ghost use Rattle.nfs_tree.specs.Filehandles.{AreNodes};

@@ -1,3 +1,5 @@
+//! Splits the paths of a document into names, and says which names are valid.
+
 ghost use Rattle.std.specs.Prelude.{◌≡◌, IfOk};
 ghost use Rattle.std.specs.List.{list_all};
 ghost use Rattle.nfs_tree.specs.Building.{Names, PathsAreJoinedNames, names_of, pieces};

@@ -1,3 +1,5 @@
+//! What a tree's document can choose besides files: delegations, callbacks, CLOSE under locks, and the profile.
+
 ghost use Rattle.nfs_tree.specs.PolicyForm as forms;
 ghost use Rattle.xdr.specs.Reading.{Answers};
 
@@ -17,18 +19,18 @@ pub enum Delegations {
 /// What the server assumes about the path to a client's callbacks before it has used the path.
 #[derive(Clone, Copy, PartialEq, Eq)]
 pub enum Callbacks {
-    /// Nothing: it tests the path first.
+    /// The server assumes nothing: it tests the path first.
     Probe,
-    /// It assumes that the path works.
+    /// The server assumes that the path works.
     Assume,
 }
 
 /// What CLOSE does where a lock state of the open holds a byte (RFC 7530, section 16.2).
 #[derive(Clone, Copy, PartialEq, Eq)]
 pub enum CloseLocks {
-    /// It frees the bytes.
+    /// CLOSE frees the bytes.
     Free,
-    /// It refuses, with NFS4ERR_LOCKS_HELD.
+    /// CLOSE is refused with NFS4ERR_LOCKS_HELD.
     Refuse,
 }
 

@@ -1,3 +1,5 @@
+//! The two profiles, and which operations each refuses.
+
 ghost use Rattle.std.specs.Prelude.{◌≡◌};
 ghost use Rattle.nfs_tree.specs.Profiles.{has_entry, refusal};
 

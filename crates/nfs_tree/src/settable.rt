@@ -1,3 +1,5 @@
+//! What a SETATTR sets: a file's size, and the time of its last change if that is the server's time.
+
 ghost use Rattle.std.specs.Prelude.{◌≡◌, ◌==◌, drop};
 ghost use Rattle.std.specs.List.{list_all};
 ghost use Rattle.nfs_tree.specs.Setting.{are_among, client_time_at, mask_set, settable_of, size_at, size_set, time_at};
@@ -29,9 +31,9 @@ pub struct Settable {
 /// How a time is set (settime4).
 #[derive(Clone, Copy, PartialEq, Eq)]
 pub enum SetTime {
-    /// To the server's.
+    /// To the server's time.
     Server,
-    /// To one that the client says.
+    /// To the time that the client says.
     Client,
 }
 

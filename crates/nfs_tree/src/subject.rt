@@ -1,3 +1,5 @@
+//! Computes the attribute values of GETATTR and READDIR.
+
 ghost use Rattle.std.specs.Prelude.{◌≡◌, ◌++◌, IfOk, OnOk, codes};
 ghost use Rattle.nfs_tree.specs.Attributes.{attributes_of, mode_of, of_file, value_requested, value_of, values_in, values_of, written_supported, written_time};
 ghost use Rattle.nfs_tree.specs.Tree.{handle_of};
@@ -60,7 +62,7 @@ impl Subject {
         if self.is_directory { 0 } else { number }
     }
 
-    // Who may do what with the node.
+    // The node's mode: who may do what with it.
     fn mode(self) -> u32
         ensures { result ≡ mode_of self }
     {

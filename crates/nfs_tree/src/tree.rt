@@ -1,3 +1,5 @@
+//! The exported files and directories, which no operation adds or removes.
+
 ghost use Rattle.std.specs.Prelude.{◌≡◌, ◌<◌, ◌≤◌, ◌+◌, ℕ, true, Some, IfOk, IfSome, OnSome, option_map, position};
 ghost use Rattle.std.specs.Option.{option_copied};
 ghost use Rattle.nfs_tree.specs.Tree.{child, handle_of, is_child, is_directory, node_at, node_count, node_of, resolution, text_of};

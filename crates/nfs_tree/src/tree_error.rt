@@ -1,3 +1,5 @@
+//! Why a document describes no tree, with the number that the fault's line has.
+
 ghost use Rattle.std.specs.Prelude.{◌≡◌};
 ghost use Rattle.nfs_tree.specs.Building.{number_of};
 ghost use Rattle.nfs_tree.specs.declared.tree_error.TreeError.TheVariants as errors;

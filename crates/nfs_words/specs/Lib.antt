@@ -1,3 +1,4 @@
+-- What contracts say of lease words: steps on a word, what a seat knows, and the table's rules.
 pub mod Calls
 pub mod Deeds
 pub mod Desk

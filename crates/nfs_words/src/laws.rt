@@ -1,3 +1,5 @@
+//! Laws of the lease words for the crates above: what all seats' events say of the words.
+
 ghost use Rattle.nfs_words.specs.Rules.{AnswersAlone, RulesHold};
 
 /// The law that the table's rule, which holds between any two steps, says of the words and of all seats what `Rules`

@@ -1,3 +1,5 @@
+//! Lets the sweep use lease words as a lease table, by the keeper's seat.
+
 ghost use Rattle.std.specs.Prelude.{◌≡◌, true};
 ghost use Rattle.std.specs.Arc.{arc_value};
 ghost use Rattle.nfs_words.specs.Calls.{FitsTable};

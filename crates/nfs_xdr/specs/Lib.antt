@@ -1,3 +1,4 @@
+-- Operations and their results as XDR forms, by one list of operations.
 pub mod Opnum
 pub mod Op
 pub mod OpResult

@@ -1,3 +1,5 @@
+//! Entries of a COMPOUND's list, of which the first that can't be run ends the list.
+
 ghost use Rattle.std.specs.Prelude.{◌≡◌, IfOk};
 ghost use Rattle.nfs_xdr.specs.ArgOp as arg_ops;
 ghost use Rattle.nfs_xdr.specs.ArgOp.{IsEncodedAt, arg_op_at, arg_op_of, or_bad_arguments};

@@ -1,3 +1,5 @@
+//! Reads the arguments of COMPOUND, and writes its results.
+
 ghost use Rattle.std.specs.Prelude.{◌≡◌, ◌⊎◌, IfOk, OnErr, IsErrOf, IsOk};
 ghost use Rattle.nfs_xdr.specs.declared.compound.Compound.{Compound};
 ghost use Rattle.nfs_xdr.specs.Compound.{IsCompound, OneCompoundIsEncoded, OneOperationIsEncoded, compound_at, compound_result, head, operations_at, request_at};

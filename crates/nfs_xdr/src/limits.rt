@@ -1,3 +1,5 @@
+//! States the limit on a COMPOUND's operations as a law, so that a wrong constant fails the proof.
+
 ghost use Rattle.std.specs.Prelude.{◌≡◌};
 
 use crate::compound::OPERATION_LIMIT;

@@ -1,3 +1,5 @@
+//! Operations with their arguments, as one type by the list of operations in `opnum`.
+
 ghost use Rattle.std.specs.Prelude.{◌≡◌};
 ghost use Rattle.nfs_xdr.specs.Op as ops;
 ghost use Rattle.nfs_xdr.specs.Op.{op_case, opnum_of};

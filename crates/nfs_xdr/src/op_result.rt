@@ -1,3 +1,5 @@
+//! Results of operations, as one type by the list of operations in `opnum`.
+
 ghost use Rattle.std.specs.Prelude.{◌≡◌, ◌≤◌, length};
 ghost use Rattle.nfs_xdr.specs.OpResult as results;
 ghost use Rattle.nfs_xdr.specs.declared.opnum.Opnum.TheVariants as opnums;

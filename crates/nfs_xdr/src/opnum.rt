@@ -87,7 +87,7 @@ impl Unsupported {
     }
 }
 
-/// Those of them that would change a directory.
+/// The operations that this server doesn't implement and that would change a directory.
 #[derive(Clone, Copy, PartialEq, Eq)]
 pub enum DirectoryChange {
     Create,

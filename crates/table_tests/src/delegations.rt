@@ -4,9 +4,9 @@ ghost use Rattle.std.specs.Prelude.{◌+◌};
 ghost use Rattle.nfs_share.specs.Delegations.{IsAboveLent};
 
 use nfs_forms::{ClientId, Stateid};
+use nfs_rows::OwnerSeed;
 use nfs_share::{Delegation, DelegationKind, FileShare, Modes, Share, ShareError};
 use std::alloc::AllocError;
-use std::hash::RandomState;
 use std::process::Abort;
 use std::test::Fail;
 
@@ -61,12 +61,12 @@ fn conflicts_of(
     }
 }
 
-/// Two clients are lent the file for reading: both delegations are in the way of a third client that would write, and of
-/// the first client's writing that of the second alone; nothing is in the way of reading. So a delegation for writing
-/// isn't given, and tells of both.
+/// Two clients are lent the file for reading: both delegations are in the way of a third client that would write, and
+/// of the first client's writing that of the second alone; nothing is in the way of reading. So a delegation for
+/// writing isn't given, and tells of both.
 #[test]
 fn lends_to_two_readers(rt: HostRuntime) -> Result<(), Fail> {
-    let mut file = FileShare::new(rt.alloc(), RandomState::new(&rt)?);
+    let mut file = FileShare::new(rt.alloc(), OwnerSeed::new(&rt)?);
     lend_in_turn(&rt, &mut file)
 }
 

@@ -5,9 +5,9 @@ ghost use Rattle.nfs_share.specs.Opens.{IsAbove};
 
 use crate::names::name_of;
 use nfs_forms::{ClientId, OpenOwner, Stateid};
+use nfs_rows::OwnerSeed;
 use nfs_share::{FileShare, Modes, Share, ShareError};
 use std::alloc::{AllocError, Global};
-use std::hash::RandomState;
 use std::process::Abort;
 use std::test::Fail;
 
@@ -68,7 +68,7 @@ fn downgrade(file: &mut FileShare, number: u32, share: Share) -> Result<Stateid,
 /// downgrade that open to the first.
 #[test]
 fn opens_and_downgrades(rt: HostRuntime) -> Result<(), Fail> {
-    let mut file = FileShare::new(rt.alloc(), RandomState::new(&rt)?);
+    let mut file = FileShare::new(rt.alloc(), OwnerSeed::new(&rt)?);
     downgrades_in_turn(&rt, rt.alloc(), &mut file)
 }
 

@@ -45,8 +45,8 @@ fn introduction(alloc: Global, id: &[u8]) -> Option<Op>
     Some(Op::Setclientid(arguments))
 }
 
-/// A core that no client has come to, with lease words in which a worker renews behind the sweep's back; none where memory
-/// was refused.
+/// A core that no client has come to, with lease words in which a worker renews behind the sweep's back; none where
+/// memory was refused.
 fn start(alloc: Global, seeds: Seeds) -> Option<LeasedCore<Renewing>> {
     let tree = Tree::from_toml(alloc, "file = [{ path = \"a\" }]").ok()?;
     let Ok(book) = Renewing::new(alloc, 90) else {
@@ -58,10 +58,10 @@ fn start(alloc: Global, seeds: Seeds) -> Option<LeasedCore<Renewing>> {
     Some(LeasedCore::new(core, book))
 }
 
-/// The same, asked for once more where memory was refused.
-fn started(alloc: Global, seeds: Seeds) -> Option<LeasedCore<Renewing>> {
-    match start(alloc, seeds) {
-        None => start(alloc, seeds),
+/// A core as `start` makes it, which is tried a second time if memory was refused.
+fn started(alloc: Global, seeds: &Seeds) -> Option<LeasedCore<Renewing>> {
+    match start(alloc, *seeds) {
+        None => start(alloc, *seeds),
         some => some,
     }
 }
@@ -145,7 +145,8 @@ fn change(rt: &impl Abort, leased: &mut LeasedCore<Renewing>) {
 
 #[test]
 fn a_renewal_between_look_and_close(rt: HostRuntime) -> Result<(), Fail> {
-    let mut leased = started(rt.alloc(), Seeds::new(&rt)?).ok_or("a core")?;
+    let seeds = Seeds::new(&rt)?;
+    let mut leased = started(rt.alloc(), &seeds).ok_or("a core")?;
     let end = come_and_change(&rt, rt.alloc(), &mut leased);
     drop(leased);
     end

@@ -2,3 +2,4 @@ pub mod ReadingLists
 pub mod WritingLists
 pub mod ReadingChains
 pub mod MeasuringChains
+pub mod PartLists

@@ -1,3 +1,4 @@
+-- Proofs that what is read and encoded by a form agrees with its layout, part by part.
 pub mod Reads
 pub mod Spells
 pub mod Lists

@@ -1,3 +1,5 @@
+//! Opaque data of which a few bytes take no memory.
+
 ghost use Rattle.std.specs.Prelude.{◌≡◌, ◌==◌, ◌++◌, [], IfOk, OnErr, OnOk};
 ghost use Rattle.xdr.specs.Writing.{written_u32, written_u64};
 
@@ -9,8 +11,8 @@ use std::marker::Model;
 /// The greatest length of bytes that can be written: it has to fit in four bytes.
 pub const NO_LIMIT: u32 = u32::MAX;
 
-/// Owned bytes (opaque<>), which can be written if there are at most `NO_LIMIT` of them. Contracts see the list of them.
-/// Up to `IN_PLACE` that are copied or added take no memory of the allocator.
+/// Owned bytes (opaque<>), which can be written if there are at most `NO_LIMIT` of them. Contracts see the list of
+/// them. Up to `IN_PLACE` that are copied or added take no memory of the allocator.
 #[derive(Drop)]
 pub struct BytesInPlace<const IN_PLACE: usize> {
     items: SmallVec<u8, IN_PLACE>,

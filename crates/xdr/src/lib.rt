@@ -2,6 +2,7 @@
 #![tactic(auto)]
 
 mod basic;
+mod byte_parts;
 mod bytes;
 mod chain;
 mod fields;
@@ -18,6 +19,7 @@ pub use basic::{
     padding_of, read_constant, read_fixed, read_flag, read_opaque, read_opaque_bytes, read_u32,
     read_u64, write_fixed, write_flag, write_opaque, write_u32, write_u64,
 };
+pub use byte_parts::ByteParts;
 pub use bytes::{Bytes, BytesInPlace, NO_LIMIT};
 pub use chain::{chain_len, read_chain, write_chain};
 pub use fields::{write_five, write_four, write_three, write_two};

@@ -1,8 +1,10 @@
+//! The trait of values that know their encoded length, so that a reply's size is checked beforehand.
+
 ghost use Rattle.std.specs.Prelude.{◌≡◌, ◌≤◌, ◌^◌, length};
 ghost use Rattle.xdr.specs.Form.{Form};
 
 use crate::basic::padding_of;
-use crate::{BytesInPlace, Opaque, SharedBytes, Wire};
+use crate::{ByteParts, BytesInPlace, Opaque, SharedBytes, Wire};
 
 /// A type whose values know how many bytes they take when written.
 pub trait Measure: Wire {
@@ -44,6 +46,14 @@ impl Measure for SharedBytes {
     #[tactic(auto, unfolding(crate::specs::Writing::written_opaque, crate::specs::Writing::written_number))]
     fn written_len(&self) -> usize {
         let len = self.as_slice().len();
+        4 + len + padding_of(len)
+    }
+}
+
+impl Measure for ByteParts {
+    #[tactic(auto, unfolding(crate::specs::Writing::written_opaque, crate::specs::Writing::written_number))]
+    fn written_len(&self) -> usize {
+        let len = self.len();
         4 + len + padding_of(len)
     }
 }

@@ -1,3 +1,5 @@
+//! Opaque data with a limit on its length.
+
 ghost use Rattle.std.specs.Prelude.{◌≡◌, ◌==◌, ◌≤◌, ◌<◌, ◌⊎◌, ◌↔◌, Err, IfOk, IsOk, length};
 
 use crate::WireError;

@@ -1,3 +1,5 @@
+//! Lists of values, of which contracts see only the values.
+
 ghost use Rattle.std.specs.Prelude.{◌≡◌};
 
 use std::marker::Model;

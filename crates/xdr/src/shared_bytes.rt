@@ -1,3 +1,5 @@
+//! Opaque data that several values share, so that large READs and WRITEs aren't copied.
+
 ghost use Rattle.std.specs.Prelude.{◌≡◌, ◌+◌, ◌≤◌, IfOk, drop, length, take};
 
 use std::alloc::{AllocError, Global};
@@ -8,9 +10,9 @@ use std::sync::ArcSlice;
 /// are. They can be written if there are at most `NO_LIMIT` of them. Contracts see the list of them.
 #[derive(Drop)]
 pub struct SharedBytes {
-    // Those that are shared.
+    // The bytes that are shared.
     all: ArcSlice<u8>,
-    // Where in them these begin, and how many these are.
+    // Where in the shared bytes this value's begin, and how many these are.
     start: usize,
     len: usize,
 }

@@ -1,3 +1,5 @@
+//! The trait of types that are read and written by an XDR form.
+
 ghost use Rattle.std.specs.Prelude.{◌≡◌, ◌++◌, ℕ, List, length};
 ghost use Rattle.xdr.specs.Form as forms;
 ghost use Rattle.xdr.specs.Form.{Form, ◌and◌};
@@ -11,7 +13,7 @@ use crate::basic::{
 };
 use crate::fields::write_two;
 use crate::many::{read_many, write_many};
-use crate::{BytesInPlace, Opaque, Sequence, SharedBytes, WireError};
+use crate::{ByteParts, BytesInPlace, Opaque, Sequence, SharedBytes, WireError};
 use std::alloc::Global;
 
 /// A type that has a form on the wire, by which it is read and written.
@@ -119,6 +121,19 @@ impl Wire for SharedBytes {
 
     fn write(&self, out: &mut Vec<u8>) -> Result<(), WireError> {
         write_opaque(out, self.as_slice(), crate::NO_LIMIT)
+    }
+}
+
+impl Wire for ByteParts {
+    ghost form = { forms.opaque NO_LIMIT };
+
+    fn read(alloc: Global, bytes: &[u8]) -> Result<(ByteParts, &[u8]), WireError> {
+        let (value, rest) = read_opaque(bytes, crate::NO_LIMIT)?;
+        Ok((ByteParts::copy_of(alloc, value)?, rest))
+    }
+
+    fn write(&self, out: &mut Vec<u8>) -> Result<(), WireError> {
+        self.write_to(out)
     }
 }
 

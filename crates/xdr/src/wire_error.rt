@@ -1,3 +1,5 @@
+//! Why bytes can't be read or a value can't be written.
+
 ghost use Rattle.std.specs.Prelude.{◌≡◌};
 ghost use Rattle.xdr.specs.WireError.{number_of};
 ghost use Rattle.xdr.specs.declared.wire_error.WireError.TheVariants as errors;

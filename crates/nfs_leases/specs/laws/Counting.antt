@@ -1,5 +1,5 @@
--- How many clients a sweep ends, how many delegations it revokes, how many open owners it forgets, and how many entries it
--- makes.
+-- How many clients a sweep ends, how many delegations it revokes, how many open owners it forgets, and how many entries
+-- it makes.
 use Rattle.std.proofs.Common.{◌≡◌, ℕ, ◌+◌, List, [], ◌∷◌, ◌++◌, length, refl, ap, arith, length-append}
 use Rattle.std.proofs.lemmas.List.{length-map}
 use Rattle.nfs_core.specs.Events.{expire_of}
@@ -47,11 +47,12 @@ expired_tally now swept (t ∷ visits) =
 pub revoked_entries : (now : ℕ) (numbers : List ℕ) → length (revocations now numbers) ≡ length numbers
 revoked_entries now numbers = length-map numbers _
 
--- and each owner that is forgotten
+-- each owner that is forgotten has its entry
 pub forgotten_entries : (now : ℕ) (owners : List OpenOwner) → length (forgettings now owners) ≡ length owners
 forgotten_entries now owners = length-map owners _
 
--- A sweep that is counted so makes as many entries as clients ended, delegations were revoked and owners were forgotten.
+-- A sweep that is counted so makes as many entries as clients ended, delegations were revoked and owners were
+-- forgotten.
 pub sweep_tally : (now : ℕ) (visits : List Visit) (numbers : List ℕ) (owners : List OpenOwner) (swept : Swept)
     → swept ≡ record (tally none_swept visits) {
       revoked = length numbers;

@@ -41,15 +41,15 @@ keeps_lease old (Retire client) new h =
 open_generation : (p : Place) (g : ℕ) → shows_open (lease_in p g) ≡ true → p.generation ≡ g
 open_generation p g h = grind (arith, nat_tests)
 
--- one that was opened isn't of a later generation
+-- a lease that was opened isn't of a later generation
 opened_generation : (p : Place) (g : ℕ) → shows_opened (lease_in p g) ≡ true → g ≤ p.generation
 opened_generation p g h = grind (arith, nat_tests)
 
--- one that wasn't isn't of an earlier generation
+-- a lease that wasn't opened isn't of an earlier generation
 vacant_generation : (p : Place) (g : ℕ) → shows_opened (lease_in p g) ≡ false → p.generation ≤ g
 vacant_generation p g h = grind (arith, nat_tests)
 
--- one of an earlier generation has ended
+-- a lease of an earlier generation has ended
 earlier_closed : (p : Place) (g : ℕ) → nat_lt g p.generation ≡ true → lease_in p g ≡ lease_state.Closed
 earlier_closed p g h = grind (arith, nat_tests)
 
@@ -95,7 +95,8 @@ module _ (f : LeaseState → Bool) (book : PlainBook) (client : ℕ) (state : Le
   -- by the slot of q: the client's lease is another one, those of earlier generations of its slot have ended
   by_slot : (q : ℕ) (b : Bool) → (slot_of q == slot_of client) ≡ b
       → (place_of book client).generation ≤ generation_of client
-      → f (lease_in (cond b (record { generation = generation_of client; lease = state }) (place_of book q)) (generation_of q))
+      → f (lease_in (cond b (record { generation = generation_of client; lease = state }) (place_of book q))
+      (generation_of q))
       ≡ cond (b && (generation_of q == generation_of client)) (f state)
       (cond (b && nat_lt (generation_of q) (generation_of client)) (f lease_state.Closed) (f (lease_of book q)))
   by_slot q true is last =
@@ -115,12 +116,13 @@ module _ (f : LeaseState → Bool) (book : PlainBook) (client : ℕ) (state : Le
       ≡ cond (q == client) (f state) (cond (is_earlier q client) (f lease_state.Closed) (f (lease_of book q)))
   tested_after q low last =
       ap (λ (p : Place). f (lease_in p (generation_of q)))
-      (place_after book.places (slot_of client) (record { generation = generation_of client; lease = state }) (slot_of q) low)
+      (place_after book.places (slot_of client)
+      (record { generation = generation_of client; lease = state }) (slot_of q) low)
       ∙ by_slot q (slot_of q == slot_of client) refl last
       ∙ ap (λ (b : Bool). cond b (f state) (cond (is_earlier q client) (f lease_state.Closed) (f (lease_of book q))))
       (sym (same_number q client))
 
-  -- and where the client's lease was the last that was opened, or retired
+  -- a test on the lease of the client q, if the client's lease was the last of its slot that was opened or retired
   tested_same : (q : ℕ) → slot_of client < length book.places
       → (place_of book client).generation ≡ generation_of client
       → f (lease_of (with_lease book client state) q) ≡ cond (q == client) (f state) (f (lease_of book q))
@@ -135,12 +137,14 @@ module _ (f : LeaseState → Bool) (book : PlainBook) (client : ℕ) (state : Le
           ap (λ (slot : ℕ). lease_in (slice_index_or book.places slot empty_place) (generation_of q)) slots
           ∙ earlier_closed (place_of book client) (generation_of q) less
 
-      by_earlier : (b : Bool) → is_earlier q client ≡ b → cond b (f lease_state.Closed) (f (lease_of book q)) ≡ f (lease_of book q)
+      by_earlier : (b : Bool) → is_earlier q client ≡ b
+          → cond b (f lease_state.Closed) (f (lease_of book q)) ≡ f (lease_of book q)
       by_earlier true is = ap f (sym (closed is))
       by_earlier false is = refl
 
 -- a test that says of one client what it said before
-tested_alike : (was : Bool) (q client : ℕ) (test : ℕ → Bool) → test client ≡ was → cond (q == client) was (test q) ≡ test q
+tested_alike : (was : Bool) (q client : ℕ) (test : ℕ → Bool)
+    → test client ≡ was → cond (q == client) was (test q) ≡ test q
 tested_alike was q client test is = by_same (q == client) refl
   where
     by_same : (b : Bool) → (q == client) ≡ b → cond b was (test q) ≡ test q

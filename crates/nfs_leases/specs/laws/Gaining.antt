@@ -53,7 +53,8 @@ gains_more more others old mid new h k = record {
 }
 
 -- the last part of a sweep
-pub gains_of_forgettings : (halted : Option CoreError) (now : ℕ) (owners : List OpenOwner) (stopped : Option CoreError) (old new : Server)
+pub gains_of_forgettings : (halted : Option CoreError) (now : ℕ)
+    (owners : List OpenOwner) (stopped : Option CoreError) (old new : Server)
     → ForgetsUnless halted now owners stopped old new → Gains (forgettings now owners) old new
 gains_of_forgettings (Some error) now owners stopped old new forgets =
     subst (λ (os : List OpenOwner). Gains (forgettings now os) old new) (sym forgets.0)
@@ -65,6 +66,7 @@ pub gains_of_sweep : {Book : Type 0} (happens : Book → BookEvent → Book → 
     (swept : Swept) (new : LeasedServer Book) (sweeps : Sweeps happens now old swept new)
     → Gains (entries_of_sweep now sweeps.visits sweeps.numbers sweeps.owners) old.core new.core
 gains_of_sweep happens now old swept new sweeps =
-    let forgets = gains_of_forgettings sweeps.halted now sweeps.owners swept.stopped sweeps.revoked new.core sweeps.forgets in
+    let forgets =
+    gains_of_forgettings sweeps.halted now sweeps.owners swept.stopped sweeps.revoked new.core sweeps.forgets in
     gains_more _ _ old.core sweeps.ended new.core sweeps.ends.entries
     (gains_more _ _ sweeps.ended sweeps.revoked new.core sweeps.revokes.entries forgets)

@@ -1,3 +1,5 @@
+//! What SETCLIENTID and SETCLIENTID_CONFIRM change, decided before anything is changed.
+
 use crate::{ClientRecord, LiveChange};
 use nfs_xdr::ClientId;
 
@@ -5,8 +7,8 @@ use nfs_xdr::ClientId;
 #[derive(Drop)]
 pub enum ClientChange {
     Nothing,
-    /// Adds this unconfirmed record, with the next number of a slot and the next confirm value. An unconfirmed record of
-    /// the slot gives way.
+    /// Adds this unconfirmed record, with the next number of a slot and the next confirm value. An unconfirmed record
+    /// of the slot gives way.
     Arrives(ClientRecord),
     /// Adds this unconfirmed record, with the clientid that its client has and the next confirm value.
     Updates(ClientRecord),
@@ -22,7 +24,7 @@ impl ClientChange {
     ghost use Rattle.std.specs.Prelude.{◌≡◌};
     ghost use Rattle.nfs_owners.specs.LiveChange.{live_change};
 
-    /// Who comes to be live by the change, or is live no longer.
+    /// Which client becomes live by the change, or is live no longer.
     pub fn live(&self) -> LiveChange
         ensures { result ≡ live_change self.now }
     {

@@ -1,3 +1,5 @@
+//! The rule of SETCLIENTID_CONFIRM.
+
 ghost use Rattle.std.specs.Prelude.{◌≡◌, IfOk, IsTrue, OnErr};
 ghost use Rattle.std.specs.Option.{option_copied};
 ghost use Rattle.nfs_owners.specs.ClientRoom.{FitsRecords, HasNumbersFor, adds_record};

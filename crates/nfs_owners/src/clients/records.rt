@@ -1,3 +1,5 @@
+//! Records of clients, found by id and by client number.
+
 ghost use Rattle.std.specs.Prelude.{◌≡◌, ◌<◌, [], ◌∷◌, ◌++◌, Bool, List, IsOk, IsFalse, OnOk, filter, find, length, map};
 ghost use Rattle.std.specs.List.{IsDistinct, list_any};
 ghost use Rattle.std.specs.Option.{option_copied};
@@ -10,20 +12,19 @@ ghost use Rattle.nfs_owners.specs.Registry.{after_mark, is_of, is_of_client, tak
 
 use crate::{ClientRecord, PathMark};
 use indexmap::IndexMap;
-use nfs_rows::{Iter, Rows, hash_of};
+use nfs_rows::{IdSeed, Iter, Rows};
 use std::alloc::{AllocError, Global};
-use std::hash::RandomState;
 use std::marker::Model;
 
-/// Clients' records of one kind, in the order in which they were added. No two have one id, nor one client. They are found
-/// by both.
+/// Clients' records of one kind, in the order in which they were added. No two have one id, nor one client. They are
+/// found by both.
 #[derive(Drop)]
 pub struct Records {
     rows: Rows<ClientRecord>,
     /// The number of the row with a client's record, by the client's number.
     by_client: IndexMap<u32, u64>,
     /// By these the ids are hashed.
-    ids: RandomState,
+    ids: IdSeed,
     /// The number that was given to a row last; 0 before the first.
     newest: u64,
     /// How many additions were promised to take no memory.
@@ -46,7 +47,7 @@ impl Model for Records {
 
 impl Records {
     /// No records, taking no memory.
-    pub fn new(alloc: Global, ids: RandomState) -> Records
+    pub fn new(alloc: Global, ids: IdSeed) -> Records
         ensures { result.records ≡ [] }
     {
         Records {
@@ -73,7 +74,7 @@ impl Records {
         if self.rows.is_empty() {
             return None;
         }
-        let hash = hash_of(self.ids, 0, 0, id);
+        let hash = self.ids.hash(id);
         self.of_hash(hash, id)
     }
 
@@ -104,8 +105,8 @@ impl Records {
         self.rows.iter()
     }
 
-    /// The least client number above this one that a record has which passes the test, if there is one. It looks at each
-    /// record once.
+    /// The least client number above this one that a record has which passes the test, if there is one. It looks at
+    /// each record once.
     pub fn next_client<F: Fn(&ClientRecord) -> bool>(&self, after: u32, test: F) -> Option<u32>
         requires { F.IsAlwaysCallable test }
         ensures { (p : ClientRecord → Bool) → AnswersAs F.Fn test p
@@ -146,7 +147,7 @@ impl Records {
         ensures { self.new.records ≡ without_id newcomer.id self.old.records ++ newcomer ∷ [] }
     {
         let id = newcomer.id.as_slice();
-        let hash = hash_of(self.ids, 0, 0, id);
+        let hash = self.ids.hash(id);
         self.remove_hash(hash, id);
         self.push(hash, newcomer);
     }
@@ -176,7 +177,7 @@ impl Records {
         match self.of_client(number) {
             Some(record) if record.is_of(id) => self.remove_client(number),
             _ => {
-                let hash = hash_of(self.ids, 0, 0, id);
+                let hash = self.ids.hash(id);
                 self.remove_hash(hash, id);
             }
         }

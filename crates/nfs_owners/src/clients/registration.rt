@@ -1,3 +1,5 @@
+//! The rule of SETCLIENTID.
+
 ghost use Rattle.std.specs.Prelude.{◌≡◌, ℕ, ◌-◌, ◌^◌, ◌<◌, ◌↔◌, false, true, None, Some, IfOk, IsErrOf};
 ghost use Rattle.nfs_forms.specs.declared.answer.Answer.TheVariants.{ClidInUse};
 ghost use Rattle.nfs_owners.specs.Registration.{Arrival, Update, registration, registration_by, unconfirmed_record};

@@ -47,8 +47,8 @@ abbrev pub IsNoneBefore : History → State → ℕ → ℕ → KnownOwner → T
 IsNoneBefore journal state now entry o =
     IsTrue (is_idle journal state now o) → entry ≤ o.recording_entry
 
--- In this state, after this journal, the owner may be forgotten, with this effect: of those that may be, the least entry
--- recorded it.
+-- In this state, after this journal, the owner may be forgotten, with this effect: of those that may be, the least
+-- entry recorded it.
 pub record IsForgetting (journal : History) (state : State) (forget : Forget)
     (effect : Effect) : Type 0 where
   pub owner : KnownOwner
@@ -72,7 +72,7 @@ abbrev pub NoneIdle : History → State → ℕ → Type 0
 NoneIdle journal state now =
     AllByRecursion (λ o. IsFalse (is_idle journal state now o)) state.owners
 
--- none may that an entry before this one recorded
+-- no owner may be forgotten at this moment that an entry before this one recorded
 abbrev pub NoneIdleBefore : ℕ → History → State → ℕ → Type 0
 NoneIdleBefore entry journal state now =
     AllByRecursion

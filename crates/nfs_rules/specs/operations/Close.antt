@@ -32,8 +32,8 @@ unless_held policies.Free state at = Ok at
 unless_held policies.Refuse state at =
     if holds_under at.state.number (locks_of at.node state.locks) then Err LocksHeld else Ok at
 
--- The rule of CLOSE under the current filehandle: the stateid has to name an open of a confirmed owner there. Then it is
--- NFS4ERR_LOCKS_HELD where the policy is to refuse and a lock state under the open holds a byte.
+-- The rule of CLOSE under the current filehandle: the stateid has to name an open of a confirmed owner there. Then it
+-- is NFS4ERR_LOCKS_HELD where the policy is to refuse and a lock state under the open holds a byte.
 abbrev pub own : History → State → Close → Own
 own journal state args request node passage ruling =
     ruling ≡ Some (closing

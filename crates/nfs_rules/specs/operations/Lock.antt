@@ -71,9 +71,9 @@ locking_of_state args at = refused_if args.reclaim refusals.NoGrace (record {
   state = Some at.state;
 })
 
--- What a LOCK under this filehandle is to hold, or the first refusal. A new lock owner comes with an open's stateid, one
--- that has a lock state of the file with that one's. Nothing can be reclaimed, since the server keeps no state from one
--- run to the next: NFS4ERR_NO_GRACE.
+-- What a LOCK under this filehandle is to hold, or the first refusal. A new lock owner comes with an open's stateid,
+-- one that has a lock state of the file with that one's. Nothing can be reclaimed, since the server keeps no state from
+-- one run to the next: NFS4ERR_NO_GRACE.
 abbrev pub locking_of : History → State → ℕ → Lock → Locker → Result Locking Refusal
 locking_of journal state node args (lockers.New locker) =
     verdict (confirmed_open node) journal.epoch state locker.open_stateid >>= as_open >>= λ at.

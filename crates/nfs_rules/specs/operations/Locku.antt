@@ -20,8 +20,8 @@ use Rattle.nfs_xdr.specs.declared.op_result.OpResult.TheVariants as results
 abbrev pub refusal_of : Refusal → Ruling
 refusal_of refusal = record { answer = results.Locku (Refused refusal); change = Nothing }
 
--- NFS4ERR_INVAL for an offset and a length that name no bytes. Otherwise the lock state holds none of the bytes, whether
--- it held them or not, and its stateid comes back with the next seqid; no ruling if its runs would be too many.
+-- NFS4ERR_INVAL for an offset and a length that name no bytes. Otherwise the lock state holds none of the bytes,
+-- whether it held them or not, and its stateid comes back with the next seqid; no ruling if its runs would be too many.
 abbrev pub unlocking : State → LockAt → Option Range → Option Ruling
 unlocking state at None = Some (refusal_of Inval)
 unlocking state at (Some range) =
@@ -37,8 +37,8 @@ IsUnlock state args (Ok at) ruling =
     (range : Option Range) × IsRangeOf args.offset args.length range
     × (ruling ≡ unlocking state at range)
 
--- The rule of LOCKU under the current filehandle: the stateid has to name a lock state there. The type of the lock isn't
--- used.
+-- The rule of LOCKU under the current filehandle: the stateid has to name a lock state there. The type of the lock
+-- isn't used.
 abbrev pub own : History → State → Locku → Own
 own journal state args request node passage ruling =
     IsUnlock state args

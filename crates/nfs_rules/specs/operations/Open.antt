@@ -164,7 +164,7 @@ granted state passage owner o kind = record {
   change = Opens o.node owner o.share kind;
 }
 
--- the same, or `None` if a limit would be exceeded
+-- what is decided of such an OPEN, or `None` if a limit would be exceeded
 abbrev pub granted_within : State → Passage → OpenOwner → Opening → Option DelegationKind
     → Option Ruling
 granted_within state passage owner o kind =

@@ -1,5 +1,5 @@
-//! The end of what is kept for an open owner that has no open, and whose last request that counted is older than a lease
-//! (RFC 7530, section 9.1.10).
+//! The end of what is kept for an open owner that has no open, and whose last request that counted is older than a
+//! lease (RFC 7530, section 9.1.10).
 
 ghost use Rattle.std.specs.Prelude.{◌≡◌, ◌&&◌, Err, IfNone, IfOk, IfSome, Some, find};
 ghost use Rattle.std.specs.Option.{option_copied};
@@ -20,7 +20,7 @@ use std::alloc::Global;
 /// Why an owner isn't forgotten.
 #[derive(Clone, Copy, PartialEq, Eq)]
 pub enum NotForgotten {
-    /// It isn't the next one that may be.
+    /// The owner isn't the next one that may be forgotten.
     NotDue,
     /// Memory ran out.
     Memory,

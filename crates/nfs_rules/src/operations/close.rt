@@ -1,3 +1,5 @@
+//! CLOSE: frees an open with its lock states, or refuses if locked bytes are held under the open.
+
 ghost use Rattle.std.specs.Prelude.{◌≡◌, Ok, if◌then◌else◌, Err};
 ghost use Rattle.nfs_state.specs.Room.{state_of};
 ghost use Rattle.nfs_state.specs.State.{History};

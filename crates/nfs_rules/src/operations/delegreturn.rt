@@ -1,3 +1,5 @@
+//! DELEGRETURN: the client returns a delegation.
+
 ghost use Rattle.std.specs.Prelude.{◌≡◌};
 ghost use Rattle.nfs_rules.specs.Deciding.{Decides};
 ghost use Rattle.nfs_rules.specs.Finding.{delegation_or_refusal_seen};

@@ -1,3 +1,5 @@
+//! GETATTR: the attributes of a node, with the size that its file has now.
+
 ghost use Rattle.std.specs.Prelude.{◌≡◌, IfOk};
 ghost use Rattle.nfs_rules.specs.operations.Getattr.{attributes, rule, subject_of};
 ghost use Rattle.nfs_rules.specs.Deciding.{Decides};

@@ -1,3 +1,5 @@
+//! LOCK: an owner gains bytes, by a lock state that it has or gets.
+
 ghost use Rattle.std.specs.Prelude.{◌≡◌, ◌≤◌, ◌<◌, ◌-◌, ◌^◌, ◌&&◌, length, true};
 ghost use Rattle.std.specs.Option.{option_copied};
 ghost use Rattle.nfs_locks.specs.LockFound.{lock_found_seen};

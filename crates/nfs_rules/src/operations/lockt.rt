@@ -1,3 +1,5 @@
+//! LOCKT: which lock a LOCK would conflict with.
+
 ghost use Rattle.std.specs.Prelude.{◌≡◌, IfOk, Ok, OnErr, Some};
 ghost use Rattle.nfs_rules.specs.Deciding.{Decides};
 ghost use Rattle.nfs_rules.specs.declared.decision.Decision.{Decision};

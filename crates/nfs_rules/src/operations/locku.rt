@@ -1,3 +1,5 @@
+//! LOCKU: an owner gives up bytes.
+
 ghost use Rattle.std.specs.Prelude.{◌≡◌, Some};
 ghost use Rattle.nfs_locks.specs.LockFound.{lock_found_seen};
 ghost use Rattle.nfs_operations.specs.declared.locku.Locku.{Locku};

@@ -1,3 +1,5 @@
+//! OPEN_CONFIRM: confirms an owner by its open.
+
 ghost use Rattle.nfs_state.specs.Room.{state_of};
 ghost use Rattle.nfs_state.specs.State.{History};
 ghost use Rattle.nfs_state.specs.declared.request.Request.{Request};

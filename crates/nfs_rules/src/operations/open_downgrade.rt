@@ -1,3 +1,5 @@
+//! OPEN_DOWNGRADE: an open keeps some of its shares.
+
 ghost use Rattle.std.specs.Prelude.{Ok};
 ghost use Rattle.nfs_state.specs.Room.{state_of};
 ghost use Rattle.nfs_state.specs.State.{History};

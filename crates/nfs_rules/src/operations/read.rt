@@ -1,3 +1,5 @@
+//! READ: bytes of a file, by a stateid that allows it.
+
 ghost use Rattle.std.specs.Prelude.{◌≡◌, IfOk};
 ghost use Rattle.nfs_rules.specs.Deciding.{Decides};
 ghost use Rattle.nfs_rules.specs.operations.Read.{answer_of, rule};

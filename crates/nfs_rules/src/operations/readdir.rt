@@ -1,3 +1,5 @@
+//! READDIR: as many entries of a directory as fit into the answer.
+
 ghost use Rattle.std.specs.Prelude.{◌≡◌, ◌≤◌, IfOk, length, map};
 ghost use Rattle.nfs_operations.specs.Readdir.{entry};
 ghost use Rattle.nfs_rules.specs.Deciding.{Decides};

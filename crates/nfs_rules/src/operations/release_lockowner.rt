@@ -1,3 +1,5 @@
+//! RELEASE_LOCKOWNER: forgets a lock owner that holds no bytes.
+
 ghost use Rattle.std.specs.Prelude.{◌≡◌};
 ghost use Rattle.nfs_rules.specs.Deciding.{Decides};
 ghost use Rattle.nfs_rules.specs.operations.ReleaseLockowner.{refusal_of, rule};

@@ -23,8 +23,8 @@ use nfs_state::{Change, Effect, OwnerChange, Request, Shortage, Store};
 use nfs_xdr::{Op, OpResult, Refusal, Status};
 use std::alloc::{AllocError, Global};
 
-/// Decides a sequenced operation of this requester, whose stateid, if it has one, names this target: the filehandle, the
-/// owner and its sequence id come before the operation's own rule.
+/// Decides a sequenced operation of this requester, whose stateid, if it has one, names this target: the filehandle,
+/// the owner and its sequence id come before the operation's own rule.
 pub(super) fn decide(
     alloc: Global,
     store: &Store,
@@ -142,10 +142,14 @@ fn owner_change_of(
 {
     Ok(match passage {
         Passage::Continues if counts(status) => kept_with(alloc, name, newcomer, status)?,
-        Passage::Begins if status == Status::Ok => OwnerChange::Records(name.to_open_owner(alloc)?),
-        Passage::Restarts if status == Status::Ok => OwnerChange::Restarts(name.to_open_owner(
-            alloc,
-        )?),
+        Passage::Begins if status == Status::Ok => OwnerChange::Records {
+            owner: name.to_open_owner(alloc)?,
+            confirmed: false,
+        },
+        Passage::Restarts if status == Status::Ok => OwnerChange::Restarts {
+            owner: name.to_open_owner(alloc)?,
+            confirmed: false,
+        },
         Passage::Restarts => OwnerChange::Drops(name.to_open_owner(alloc)?),
         _ => OwnerChange::Nothing,
     })

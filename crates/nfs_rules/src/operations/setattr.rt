@@ -1,3 +1,5 @@
+//! SETATTR: sets a file's size, by a stateid that allows it.
+
 ghost use Rattle.std.specs.Prelude.{◌≡◌};
 ghost use Rattle.nfs_rules.specs.Deciding.{Decides};
 ghost use Rattle.nfs_rules.specs.operations.Setattr.{rule, set, size_for, wish_of};

@@ -1,3 +1,5 @@
+//! SETCLIENTID: introduces a client, by the rule of `nfs_owners`.
+
 ghost use Rattle.std.specs.Prelude.{◌≡◌, ◌-◌, ◌^◌, ◌<◌};
 ghost use Rattle.nfs_rules.specs.operations.Setclientid.{rule};
 ghost use Rattle.nfs_rules.specs.Deciding.{Decides};

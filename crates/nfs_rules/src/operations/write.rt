@@ -1,3 +1,5 @@
+//! WRITE: puts bytes into a file, by a stateid that allows it.
+
 ghost use Rattle.std.specs.Prelude.{◌≡◌, ◌+◌, ◌<◌, ◌^◌, IfOk, length, nat_lt};
 ghost use Rattle.nfs_tree.specs.declared.tree.TheConstants.{TEXT_LIMIT};
 ghost use Rattle.nfs_rules.specs.Deciding.{Decides};

@@ -19,8 +19,8 @@ abbrev pub all_access : ℕ
 all_access =
     ACCESS_READ + ACCESS_LOOKUP + ACCESS_MODIFY + ACCESS_EXTEND + ACCESS_DELETE + ACCESS_EXECUTE
 
--- Everyone may list and search a directory, and read, change and extend a file. Under the profile for clients everyone may
--- change what is in a directory, too, as clients ask that before they write to a file.
+-- Everyone may list and search a directory, and read, change and extend a file. Under the profile for clients everyone
+-- may change what is in a directory, too, as clients ask that before they write to a file.
 abbrev pub directory_access : Profile → ℕ
 directory_access Plain = ACCESS_READ + ACCESS_LOOKUP
 directory_access Clients = ACCESS_READ + ACCESS_LOOKUP + ACCESS_MODIFY

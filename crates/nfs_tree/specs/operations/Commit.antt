@@ -1,5 +1,5 @@
--- COMMIT (RFC 7530, section 16.3): bytes of a file are to be in stable storage. All that was written is there already, as
--- far as this server has one.
+-- COMMIT (RFC 7530, section 16.3): bytes of a file are to be in stable storage. All that was written is there already,
+-- as far as this server has one.
 use Rattle.std.specs.Prelude.{ℕ, Option, Some, None, if◌then◌else◌}
 use Rattle.nfs_forms.specs.Answer.{PlainAnswer}
 use Rattle.nfs_forms.specs.declared.answer.Answer.TheVariants.{Done, Refused}

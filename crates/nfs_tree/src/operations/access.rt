@@ -1,3 +1,5 @@
+//! ACCESS, which answers by the node and the profile alone, as modes and users aren't checked.
+
 ghost use Rattle.std.specs.Prelude.{◌≡◌};
 ghost use Rattle.nfs_tree.specs.Exports.{export_seen};
 ghost use Rattle.nfs_tree.specs.operations.Access.{access, access_of, directory_access};

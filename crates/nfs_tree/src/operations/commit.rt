@@ -1,3 +1,5 @@
+//! COMMIT, which has nothing to do but to return WRITE's verifier.
+
 ghost use Rattle.std.specs.Prelude.{◌≡◌};
 ghost use Rattle.nfs_tree.specs.Exports.{export_seen};
 ghost use Rattle.nfs_tree.specs.operations.Commit.{commit};

@@ -1,3 +1,5 @@
+//! GETFH, which returns the current filehandle.
+
 ghost use Rattle.std.specs.Prelude.{◌≡◌};
 ghost use Rattle.nfs_tree.specs.operations.Getfh.{getfh};
 

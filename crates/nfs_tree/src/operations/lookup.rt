@@ -1,3 +1,5 @@
+//! LOOKUP, which goes from a directory to one of its children.
+
 ghost use Rattle.std.specs.Prelude.{◌≡◌};
 ghost use Rattle.nfs_tree.specs.Filehandles.{AreNodes};
 ghost use Rattle.nfs_tree.specs.operations.Lookup.{lookup};

@@ -1,3 +1,5 @@
+//! PUTFH, which makes a client's filehandle the current one.
+
 ghost use Rattle.std.specs.Prelude.{◌≡◌};
 ghost use Rattle.nfs_tree.specs.Filehandles.{AreNodes};
 ghost use Rattle.nfs_tree.specs.operations.Putfh.{putfh};

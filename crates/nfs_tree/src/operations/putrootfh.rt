@@ -1,3 +1,5 @@
+//! PUTROOTFH, with which a client begins that knows no filehandle.
+
 ghost use Rattle.std.specs.Prelude.{◌≡◌};
 ghost use Rattle.nfs_tree.specs.Filehandles.{AreNodes};
 ghost use Rattle.nfs_tree.specs.operations.Putrootfh.{putrootfh};

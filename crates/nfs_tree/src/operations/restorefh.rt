@@ -1,3 +1,5 @@
+//! RESTOREFH, which makes the saved filehandle current again.
+
 ghost use Rattle.std.specs.Prelude.{◌≡◌};
 ghost use Rattle.nfs_tree.specs.Filehandles.{AreNodes};
 ghost use Rattle.nfs_tree.specs.operations.Restorefh.{restorefh};

@@ -1,3 +1,5 @@
+//! SAVEFH, which saves the current filehandle for RESTOREFH.
+
 ghost use Rattle.std.specs.Prelude.{◌≡◌};
 ghost use Rattle.nfs_tree.specs.Filehandles.{AreNodes};
 ghost use Rattle.nfs_tree.specs.operations.Savefh.{savefh};

@@ -12,7 +12,8 @@ pub passes : {A : Type 0} (p : A → Bool) (values : List A) (found : A) → fin
 passes p [] found e = absurd cc
 passes {A = A} p (value ∷ values) found e =
     elim (true_or_false (p value)) [
-      | inl here ↦ let same : ◌≡◌ {A = Option A} (Some value) (Some found) = rw here at e in let is : value ≡ found = cc in rw (← is) here
+      | inl here ↦ let same : ◌≡◌ {A = Option A} (Some value) (Some found) = rw here at e in
+          let is : value ≡ found = cc in rw (← is) here
       | inr other ↦ passes p values found (rw other at e)
     ]
 
@@ -28,10 +29,15 @@ pub reads_value : {A : Type 0} (number_of : A → ℕ) (values : List A)
 unfolding value_at
 reads_value number_of values known = record {
   sound = λ bytes value rest e.
-      let n = bind_ok (number_at 4 bytes) (λ n. or_short (find (λ v. eqb (number_of v) n.0) values) n.1) (value, rest) e in
+      let n =
+      bind_ok (number_at 4 bytes) (λ n. or_short (find (λ v. eqb (number_of v) n.0) values) n.1) (value, rest) e in
       let found = or_short_ok (find (λ v. eqb (number_of v) n.0.0) values) n.0.1 (value, rest) n.2 in
-      let same : number_of value ≡ n.0.0 = eqb-true (number_of value) n.0.0 (passes (λ v. eqb (number_of v) n.0.0) values value found.0) in
-      let begins = (reads_number 4).sound bytes n.0.0 n.0.1 n.1 in
-      (begins.0, begins.1 ∙ ap (λ (x : List ℕ). begins.0 ++ x) found.1, subst (λ (k : ℕ). U32 k begins.0) (sym same) begins.2);
+      let same : number_of value ≡ n.0.0 =
+      eqb-true (number_of value) n.0.0 (passes (λ v. eqb (number_of v) n.0.0) values value found.0) in
+      let begins = (reads_number 4).sound bytes n.0.0 n.0.1 n.1 in (
+        begins.0,
+        begins.1 ∙ ap (λ (x : List ℕ). begins.0 ++ x) found.1,
+        subst (λ (k : ℕ). U32 k begins.0) (sym same) begins.2,
+      );
   complete = λ value front rest h. rw ((reads_number 4).complete (number_of value) front rest h, known value) refl;
 }

@@ -43,15 +43,20 @@ pub Begins-then : (P Q : List ℕ → Type 0) (bytes mid rest : List ℕ) → Be
 Begins-then P Q bytes mid rest p q =
     (p.0 ++ q.0, p.1 ∙ ap (λ (x : List ℕ). p.0 ++ x) q.1 ∙ sym (append_assoc p.0 q.0 rest), (p.0, q.0, refl, p.2, q.2))
 
-pub reads_then : {A B : Type 0} (P : A → List ℕ → Type 0) (Q : B → List ℕ → Type 0) (f : List ℕ → Read A) (g : List ℕ → Read B) → Reads P f → Reads Q g → Reads (λ (p : A × B). P p.0 ⨾ Q p.1) (f then g)
+pub reads_then : {A B : Type 0} (P : A → List ℕ → Type 0) (Q : B → List ℕ → Type 0) (f : List ℕ → Read A)
+    (g : List ℕ → Read B) → Reads P f → Reads Q g → Reads (λ (p : A × B). P p.0 ⨾ Q p.1) (f then g)
 reads_then {A = A} {B = B} P Q f g p q = record {
   sound = λ bytes value rest e.
       let a = bind_ok (f bytes) (λ a. g a.1 >>= λ b. Ok ((a.0, b.0), b.1)) (value, rest) e in
       let b = bind_ok (g a.0.1) (λ b. Ok ((a.0.0, b.0), b.1)) (value, rest) a.2 in
-      let both = Begins-then (P a.0.0) (Q b.0.0) bytes a.0.1 b.0.1 (p.sound bytes a.0.0 a.0.1 a.1) (q.sound a.0.1 b.0.0 b.0.1 b.1) in
-      subst (λ (x : (A × B) × List ℕ). Begins (P x.0.0 ⨾ Q x.0.1) bytes x.1) (ok_is ((a.0.0, b.0.0), b.0.1) (value, rest) b.2) both;
+      let both =
+      Begins-then (P a.0.0) (Q b.0.0) bytes a.0.1 b.0.1
+      (p.sound bytes a.0.0 a.0.1 a.1) (q.sound a.0.1 b.0.0 b.0.1 b.1) in
+      subst (λ (x : (A × B) × List ℕ). Begins (P x.0.0 ⨾ Q x.0.1) bytes x.1)
+      (ok_is ((a.0.0, b.0.0), b.0.1) (value, rest) b.2) both;
   complete = λ value front rest h.
-      let regrouped : front ++ rest ≡ h.0 ++ (h.1 ++ rest) = ap (λ (x : List ℕ). x ++ rest) h.2 ∙ append_assoc h.0 h.1 rest in
+      let regrouped : front ++ rest ≡ h.0 ++ (h.1 ++ rest) =
+      ap (λ (x : List ℕ). x ++ rest) h.2 ∙ append_assoc h.0 h.1 rest in
       ap (f then g) regrouped ∙ rw (p.complete value.0 h.0 (h.1 ++ rest) h.3, q.complete value.1 h.1 rest h.4) refl;
 }
 
@@ -90,7 +95,8 @@ reads_as {A = A} {B = B} P f make fields back again p = record {
       let a = bind_ok (f bytes) (λ a. Ok (make a.0, a.1)) (value, rest) e in
       let found : Begins (P (fields (make a.0.0))) bytes a.0.1 = rw back (p.sound bytes a.0.0 a.0.1 a.1) in
       subst (λ (x : B × List ℕ). Begins (P (fields x.0)) bytes x.1) (ok_is (make a.0.0, a.0.1) (value, rest) a.2) found;
-  complete = λ value front rest h. rw (p.complete (fields value) front rest h) (ap (λ (b : B). Ok (b, rest)) (again value));
+  complete =
+      λ value front rest h. rw (p.complete (fields value) front rest h) (ap (λ (b : B). Ok (b, rest)) (again value));
 }
 
 pub reads_nothing : Reads {A = Unit {0}} (λ v. Nothing) (λ bytes. Ok (tt, bytes))
@@ -105,14 +111,21 @@ pub reads_number : (count : ℕ) → Reads (Number count) (number_at count)
 unfolding number_at
 reads_number count = record {
   sound = λ bytes value rest e.
-      let g = guard_ok (ltb (length bytes) count) errors.Short (Ok (big_number count bytes, drop count bytes)) (value, rest) e in
+      let g = guard_ok (ltb (length bytes) count) errors.Short
+      (Ok (big_number count bytes, drop count bytes)) (value, rest) e in
       let long : count ≤ length bytes = ltb-false _ _ g.0 in
-      let front : Begins (Number count (big_number count bytes)) bytes (drop count bytes) =
-      (take count bytes, sym (take-append-drop count bytes), (omega (arith, length-take count bytes), big_from-take 0 count count bytes (omega arith))) in
-      subst (λ (x : ℕ × List ℕ). Begins (Number count x.0) bytes x.1) (ok_is (big_number count bytes, drop count bytes) (value, rest) g.1) front;
+      let front : Begins (Number count (big_number count bytes)) bytes (drop count bytes) = (
+        take count bytes,
+        sym (take-append-drop count bytes),
+        (omega (arith, length-take count bytes), big_from-take 0 count count bytes (omega arith)),
+      ) in
+      subst (λ (x : ℕ × List ℕ). Begins (Number count x.0) bytes x.1)
+      (ok_is (big_number count bytes, drop count bytes) (value, rest) g.1) front;
   complete = λ value front rest h.
-      let long : ltb (length (front ++ rest)) count ≡ false = le-ltb _ _ (omega (arith, length-append front rest, h.0)) in
-      let number : big_number count (front ++ rest) ≡ value = big_from-append count front rest (omega (arith, h.0)) ∙ h.1 in
+      let long : ltb (length (front ++ rest)) count ≡ false =
+      le-ltb _ _ (omega (arith, length-append front rest, h.0)) in
+      let number : big_number count (front ++ rest) ≡ value =
+      big_from-append count front rest (omega (arith, h.0)) ∙ h.1 in
       rw (long, number, drop_at front rest count h.0) refl;
 }
 
@@ -120,11 +133,13 @@ pub reads_fixed : (count : ℕ) → Reads (Fixed count) (fixed_at count)
 unfolding fixed_at
 reads_fixed count = record {
   sound = λ bytes value rest e.
-      let g = guard_ok (ltb (length bytes) count) errors.Short (Ok (take count bytes, drop count bytes)) (value, rest) e in
+      let g =
+      guard_ok (ltb (length bytes) count) errors.Short (Ok (take count bytes, drop count bytes)) (value, rest) e in
       let long : count ≤ length bytes = ltb-false _ _ g.0 in
       let front : Begins (Fixed count (take count bytes)) bytes (drop count bytes) =
       (take count bytes, sym (take-append-drop count bytes), (omega (arith, length-take count bytes), refl)) in
-      subst (λ (x : List ℕ × List ℕ). Begins (Fixed count x.0) bytes x.1) (ok_is (take count bytes, drop count bytes) (value, rest) g.1) front;
+      subst (λ (x : List ℕ × List ℕ). Begins (Fixed count x.0) bytes x.1)
+      (ok_is (take count bytes, drop count bytes) (value, rest) g.1) front;
   complete = λ value front rest h.
       let len : length front ≡ count = ap length h.1 ∙ h.0 in
       let long : ltb (length (front ++ rest)) count ≡ false = le-ltb _ _ (omega (arith, length-append front rest)) in
@@ -132,48 +147,72 @@ reads_fixed count = record {
 }
 
 -- the bytes of an opaque, followed by its padding
-padded_begins : (count : ℕ) (bytes : List ℕ) → count + padding_of count ≤ length bytes → Begins (Fixed count (take count bytes) ⨾ Any (padding_of count)) bytes (drop (count + padding_of count) bytes)
+padded_begins : (count : ℕ) (bytes : List ℕ) → count + padding_of count ≤ length bytes
+    → Begins (Fixed count (take count bytes) ⨾ Any (padding_of count)) bytes (drop (count + padding_of count) bytes)
 padded_begins count bytes long =
     let first : Begins (Fixed count (take count bytes)) bytes (drop count bytes) =
     (take count bytes, sym (take-append-drop count bytes), (omega (arith, length-take count bytes), refl)) in
     let pad = padding_of count in
-    let second : Begins (Any pad) (drop count bytes) (drop pad (drop count bytes)) =
-    (take pad (drop count bytes), sym (take-append-drop pad (drop count bytes)), omega (arith, length-take pad (drop count bytes), length-drop count bytes)) in
+    let second : Begins (Any pad) (drop count bytes) (drop pad (drop count bytes)) = (
+      take pad (drop count bytes),
+      sym (take-append-drop pad (drop count bytes)),
+      omega (arith, length-take pad (drop count bytes), length-drop count bytes),
+    ) in
     let same : drop pad (drop count bytes) ≡ drop (count + pad) bytes = drop-drop pad count bytes in
-    rw (← same) (Begins-then (Fixed count (take count bytes)) (Any pad) bytes (drop count bytes) (drop pad (drop count bytes)) first second)
+    rw (← same)
+    (Begins-then (Fixed count (take count bytes)) (Any pad) bytes (drop count bytes) (drop pad (drop count bytes))
+    first second)
 
 pub reads_opaque : (limit : ℕ) → Reads (Opaque limit) (opaque_at limit)
 unfolding opaque_at
 reads_opaque limit = record {
   sound = λ bytes value rest e.
-      let n = bind_ok (number_at 4 bytes) (λ n. cond (ltb limit n.0) (Err errors.TooLong) (padded_at n.0 n.1)) (value, rest) e in
+      let n = bind_ok (number_at 4 bytes)
+      (λ n. cond (ltb limit n.0) (Err errors.TooLong) (padded_at n.0 n.1)) (value, rest) e in
       let count = n.0.0 in
       let g = guard_ok (ltb limit count) errors.TooLong (padded_at count n.0.1) (value, rest) n.2 in
       let within : count ≤ limit = ltb-false _ _ g.0 in
-      let k = guard_ok (ltb (length n.0.1) (count + padding_of count)) errors.Short (Ok (take count n.0.1, drop (count + padding_of count) n.0.1)) (value, rest) g.1 in
+      let k = guard_ok (ltb (length n.0.1) (count + padding_of count)) errors.Short
+      (Ok (take count n.0.1, drop (count + padding_of count) n.0.1)) (value, rest) g.1 in
       let long : count + padding_of count ≤ length n.0.1 = ltb-false _ _ k.0 in
       let len : length (take count n.0.1) ≡ count = omega (arith, length-take count n.0.1) in
       let header = (reads_number 4).sound bytes count n.0.1 n.1 in
       let beyond = padded_begins count n.0.1 long in
-      let all = Begins-then (U32 count) (Fixed count (take count n.0.1) ⨾ Any (padding_of count)) bytes n.0.1 (drop (count + padding_of count) n.0.1) header beyond in
-      let encodes : Begins (Opaque limit (take count n.0.1)) bytes (drop (count + padding_of count) n.0.1) =
-      (all.0, all.1, (omega arith, subst (λ (c : ℕ). (U32 c ⨾ Fixed c (take count n.0.1) ⨾ Any (padding_of c)) all.0) (sym len) all.2)) in
-      subst (λ (x : List ℕ × List ℕ). Begins (Opaque limit x.0) bytes x.1) (ok_is (take count n.0.1, drop (count + padding_of count) n.0.1) (value, rest) k.1) encodes;
+      let all = Begins-then (U32 count) (Fixed count (take count n.0.1) ⨾ Any (padding_of count)) bytes n.0.1
+      (drop (count + padding_of count) n.0.1) header beyond in
+      let encodes : Begins (Opaque limit (take count n.0.1)) bytes (drop (count + padding_of count) n.0.1) = (
+        all.0,
+        all.1,
+        (
+          omega arith,
+          subst (λ (c : ℕ). (U32 c ⨾ Fixed c (take count n.0.1) ⨾ Any (padding_of c)) all.0) (sym len) all.2,
+        ),
+      ) in
+      subst (λ (x : List ℕ × List ℕ). Begins (Opaque limit x.0) bytes x.1)
+      (ok_is (take count n.0.1, drop (count + padding_of count) n.0.1) (value, rest) k.1) encodes;
   complete = λ value front rest h.
       let count = length value in
       let head = h.1.0 in
       let tail = h.1.1 in
       let body = h.1.4.0 in
       let pad = h.1.4.1 in
-      let regrouped : front ++ rest ≡ head ++ (tail ++ rest) = ap (λ (x : List ℕ). x ++ rest) h.1.2 ∙ append_assoc head tail rest in
-      let number : number_at 4 (front ++ rest) ≡ Ok (count, tail ++ rest) = ap (number_at 4) regrouped ∙ (reads_number 4).complete count head (tail ++ rest) h.1.3 in
-      let tail_is : tail ++ rest ≡ value ++ (pad ++ rest) = ap (λ (x : List ℕ). x ++ rest) h.1.4.2 ∙ append_assoc body pad rest ∙ ap (λ (x : List ℕ). x ++ (pad ++ rest)) h.1.4.3.1 in
+      let regrouped : front ++ rest ≡ head ++ (tail ++ rest) =
+      ap (λ (x : List ℕ). x ++ rest) h.1.2 ∙ append_assoc head tail rest in
+      let number : number_at 4 (front ++ rest) ≡ Ok (count, tail ++ rest) =
+      ap (number_at 4) regrouped ∙ (reads_number 4).complete count head (tail ++ rest) h.1.3 in
+      let tail_is : tail ++ rest ≡ value ++ (pad ++ rest) =
+      ap (λ (x : List ℕ). x ++ rest) h.1.4.2
+      ∙ append_assoc body pad rest
+      ∙ ap (λ (x : List ℕ). x ++ (pad ++ rest)) h.1.4.3.1 in
       let within : ltb limit count ≡ false = le-ltb _ _ h.0 in
       let pad_len : length pad ≡ padding_of count = h.1.4.4 in
-      let long : ltb (length (value ++ (pad ++ rest))) (count + padding_of count) ≡ false = le-ltb _ _ (omega (arith, length-append value (pad ++ rest), length-append pad rest)) in
+      let long : ltb (length (value ++ (pad ++ rest))) (count + padding_of count) ≡ false =
+      le-ltb _ _ (omega (arith, length-append value (pad ++ rest), length-append pad rest)) in
       let first : take count (value ++ (pad ++ rest)) ≡ value = take_at value (pad ++ rest) count refl in
       let second : drop (count + padding_of count) (value ++ (pad ++ rest)) ≡ rest =
-      sym (drop-drop (padding_of count) count (value ++ (pad ++ rest))) ∙ ap (drop (padding_of count)) (drop_at value (pad ++ rest) count refl) ∙ drop_at pad rest (padding_of count) pad_len in
+      sym (drop-drop (padding_of count) count (value ++ (pad ++ rest)))
+      ∙ ap (drop (padding_of count)) (drop_at value (pad ++ rest) count refl)
+      ∙ drop_at pad rest (padding_of count) pad_len in
       rw (number, within, tail_is, long, first, second) refl;
 }
 
@@ -184,8 +223,11 @@ reads_constant n = record {
       let k = bind_ok (number_at 4 bytes) (λ k. cond (eqb k.0 n) (Ok (tt, k.1)) (Err errors.Short)) (value, rest) e in
       let same = wanted_ok (eqb k.0.0 n) errors.Short (Ok (tt, k.0.1)) (value, rest) k.2 in
       let number = (reads_number 4).sound bytes k.0.0 k.0.1 k.1 in
-      let rest_is : k.0.1 ≡ rest = ap (λ (x : Unit {0} × List ℕ). x.1) (ok_is (tt, k.0.1) (value, rest) same.1) in
-      (number.0, number.1 ∙ ap (λ (x : List ℕ). number.0 ++ x) rest_is, subst (λ (m : ℕ). U32 m number.0) (eqb-true k.0.0 n same.0) number.2);
+      let rest_is : k.0.1 ≡ rest = ap (λ (x : Unit {0} × List ℕ). x.1) (ok_is (tt, k.0.1) (value, rest) same.1) in (
+        number.0,
+        number.1 ∙ ap (λ (x : List ℕ). number.0 ++ x) rest_is,
+        subst (λ (m : ℕ). U32 m number.0) (eqb-true k.0.0 n same.0) number.2,
+      );
   complete = λ value front rest h. rw ((reads_number 4).complete n front rest h, eq-eqb n n refl) refl;
 }
 
@@ -195,11 +237,13 @@ flag_is_encoded n front mid y number e =
     elim (true_or_false (eqb n 0)) [
       | inl zeroth ↦
           let same : (false, mid) ≡ y = ok_is (false, mid) y (rw zeroth at e) in
-          subst (λ (x : Bool × List ℕ). Flag x.0 front × (mid ≡ x.1)) same (subst (λ (k : ℕ). U32 k front) (eqb-true n 0 zeroth) number, refl)
+          subst (λ (x : Bool × List ℕ). Flag x.0 front × (mid ≡ x.1)) same
+          (subst (λ (k : ℕ). U32 k front) (eqb-true n 0 zeroth) number, refl)
       | inr other ↦
           let one = wanted_ok (eqb n 1) errors.Short (Ok (true, mid)) y (rw other at e) in
           let same : (true, mid) ≡ y = ok_is (true, mid) y one.1 in
-          subst (λ (x : Bool × List ℕ). Flag x.0 front × (mid ≡ x.1)) same (subst (λ (k : ℕ). U32 k front) (eqb-true n 1 one.0) number, refl)
+          subst (λ (x : Bool × List ℕ). Flag x.0 front × (mid ≡ x.1)) same
+          (subst (λ (k : ℕ). U32 k front) (eqb-true n 1 one.0) number, refl)
     ]
 
 flag_complete : (b : Bool) (front rest : List ℕ) → Flag b front
@@ -228,14 +272,16 @@ unfolding number_at
 number_never_memory count bytes e =
     elim (true_or_false (ltb (length bytes) count)) [
       | inl short ↦ let clash : ◌≡◌ {A = Read ℕ} (Err errors.Short) (Err errors.Memory) = rw short at e in cc
-      | inr long ↦ let clash : ◌≡◌ {A = Read ℕ} (Ok (big_number count bytes, drop count bytes)) (Err errors.Memory) = rw long at e in cc
+      | inr long ↦ let clash : ◌≡◌ {A = Read ℕ} (Ok (big_number count bytes, drop count bytes)) (Err errors.Memory) =
+          rw long at e in cc
     ]
 
 padded_never_memory : (count : ℕ) (bytes : List ℕ) → padded_at count bytes ≡ Err errors.Memory → ⊥
 padded_never_memory count bytes e =
     elim (true_or_false (ltb (length bytes) (count + padding_of count))) [
       | inl short ↦ let clash : ◌≡◌ {A = Read (List ℕ)} (Err errors.Short) (Err errors.Memory) = rw short at e in cc
-      | inr long ↦ let clash : ◌≡◌ {A = Read (List ℕ)} (Ok (take count bytes, drop (count + padding_of count) bytes)) (Err errors.Memory) = rw long at e in cc
+      | inr long ↦ let clash : ◌≡◌ {A = Read (List ℕ)}
+          (Ok (take count bytes, drop (count + padding_of count) bytes)) (Err errors.Memory) = rw long at e in cc
     ]
 
 -- reading an opaque fails only because the bytes end too soon or the length is above its limit
@@ -245,7 +291,8 @@ opaque_never_memory limit bytes e =
     elim (true_or_false (ltb (length bytes) 4)) [
       | inl short ↦ let clash : ◌≡◌ {A = Read (List ℕ)} (Err errors.Short) (Err errors.Memory) = rw short at e in cc
       | inr long ↦ elim (true_or_false (ltb limit (big_number 4 bytes))) [
-        | inl above ↦ let clash : ◌≡◌ {A = Read (List ℕ)} (Err errors.TooLong) (Err errors.Memory) = rw (long, above) at e in cc
+        | inl above ↦ let clash : ◌≡◌ {A = Read (List ℕ)} (Err errors.TooLong) (Err errors.Memory) =
+            rw (long, above) at e in cc
         | inr within ↦
             let padded : padded_at (big_number 4 bytes) (drop 4 bytes) ≡ Err errors.Memory = rw (long, within) at e in
             padded_never_memory (big_number 4 bytes) (drop 4 bytes) padded
@@ -272,4 +319,6 @@ then_never_memory f g first second bytes e = then_of g (f bytes) (first bytes) s
 pub opaque_tells :
     {X : Type 0} (limit : ℕ) (bytes : List ℕ) (r : Result X WireError) (e : WireError) → r ≡ Err e
     → opaque_at limit bytes ≡ Err e → r ≡ Err errors.Memory → ⊥
-opaque_tells limit bytes r e is told memory = let same : e ≡ errors.Memory = cc in opaque_never_memory limit bytes (rw same at told)
+opaque_tells limit bytes r e is told memory =
+    let same : e ≡ errors.Memory = cc in
+    opaque_never_memory limit bytes (rw same at told)

@@ -1,3 +1,5 @@
+//! Numbers of which one value alone is accepted, such as the type of a message.
+
 ghost use Rattle.std.specs.Prelude.{◌≡◌};
 ghost use Rattle.xdr.specs.Reading.{Answers, constant_at};
 

@@ -1,3 +1,5 @@
+//! Opaque data of fixed length.
+
 ghost use Rattle.std.specs.Prelude.{◌≡◌};
 ghost use Rattle.xdr.specs.Reading.{Answers, fixed_at};
 ghost use Rattle.xdr.specs.Writing.{Writes};

@@ -1,3 +1,5 @@
+//! Booleans.
+
 ghost use Rattle.std.specs.Prelude.{◌≡◌};
 ghost use Rattle.xdr.specs.Reading.{Answers, flag_at};
 ghost use Rattle.xdr.specs.Writing.{Writes, written_flag};

@@ -1,3 +1,5 @@
+//! Unsigned integers of four and of eight bytes.
+
 ghost use Rattle.std.specs.Prelude.{◌≡◌, ◌<◌, ◌^◌};
 ghost use Rattle.xdr.specs.Reading.{Answers, number_at};
 ghost use Rattle.xdr.specs.Writing.{Writes, written_u32, written_u64};

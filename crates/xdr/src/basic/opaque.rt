@@ -1,3 +1,5 @@
+//! Opaque data of variable length, with its padding.
+
 ghost use Rattle.std.specs.Prelude.{◌≡◌, ◌<◌, ◌≤◌, ◌^◌, length, IfOk, IsErrOf, IsOk};
 ghost use Rattle.xdr.specs.Layout as layout;
 ghost use Rattle.xdr.specs.Reading.{Answers, Gives, opaque_at};

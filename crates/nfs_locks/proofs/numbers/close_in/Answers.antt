@@ -12,7 +12,7 @@ overflow_sub-result c =
       arith,
       c.len.ensures,
       c.len-before.ensures,
-      fewer_left (λ l. not (is_under c.args.open_number l)) c.args.file.now.states c.close.new.self.states c.close.ensures,
+      fewer_left (λ l. not (is_under c.args.open_number l)) c.args.file.now.states c.close.new.self.states c.close.ensures.states,
     )
 
 pub returns-clause-gone : goal.returns-clause-gone
@@ -21,7 +21,7 @@ returns-clause-gone c =
       arith,
       c.len.ensures,
       c.len-before.ensures,
-      fewer_left (λ l. not (is_under c.args.open_number l)) c.args.file.now.states c.close.new.self.states c.close.ensures,
+      fewer_left (λ l. not (is_under c.args.open_number l)) c.args.file.now.states c.close.new.self.states c.close.ensures.states,
       length-map c.args.file.now.states lock_seen,
       length-map c.close.new.self.states lock_seen,
     )

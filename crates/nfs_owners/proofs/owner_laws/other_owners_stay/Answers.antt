@@ -21,16 +21,16 @@ changed change name other (o ∷ owners) apart = by (has_name name o) refl (chan
     by true same rest = grind (arith, same, rest, not_other name other o apart same)
     by false different rest = grind (arith, different, rest)
 
-added : (name other : StateOwner) (number : ℕ) (kept : KeptSummary) (owners : List Owner) → is_same_state_owner name other ≡ false → owner_of other (owners ++ new_owner name number kept ∷ []) ≡ owner_of other owners
-added name other number kept [] apart = grind (arith, apart)
-added name other number kept (o ∷ owners) apart = grind (arith, added name other number kept owners apart)
+added : (name other : StateOwner) (number : ℕ) (kept : KeptSummary) (confirmed : Bool) (owners : List Owner) → is_same_state_owner name other ≡ false → owner_of other (owners ++ new_owner name number kept confirmed ∷ []) ≡ owner_of other owners
+added name other number kept confirmed [] apart = grind (arith, apart)
+added name other number kept confirmed (o ∷ owners) apart = grind (arith, added name other number kept confirmed owners apart)
 
-kept_for : (name other : StateOwner) (number : ℕ) (kept : KeptSummary) (owners : List Owner) → is_same_state_owner name other ≡ false → owner_of other (with_kept name number kept owners) ≡ owner_of other owners
-kept_for name other number kept owners apart = by (is_known name owners) refl
+kept_for : (name other : StateOwner) (number : ℕ) (kept : KeptSummary) (confirmed : Bool) (owners : List Owner) → is_same_state_owner name other ≡ false → owner_of other (with_kept name number kept confirmed owners) ≡ owner_of other owners
+kept_for name other number kept confirmed owners apart = by (is_known name owners) refl
   where
-    by : (b : Bool) → is_known name owners ≡ b → owner_of other (with_kept name number kept owners) ≡ owner_of other owners
+    by : (b : Bool) → is_known name owners ≡ b → owner_of other (with_kept name number kept confirmed owners) ≡ owner_of other owners
     by true known = rw known (changed (with_request number kept) name other owners apart)
-    by false unknown = rw unknown (added name other number kept owners apart)
+    by false unknown = rw unknown (added name other number kept confirmed owners apart)
 
 removed : (name other : StateOwner) (owners : List Owner) → is_same_state_owner name other ≡ false → owner_of other (without_owner name owners) ≡ owner_of other owners
 removed name other [] apart = refl
@@ -41,4 +41,4 @@ removed name other (o ∷ owners) apart = by (has_name name o) refl (removed nam
     by false different rest = grind (arith, different, rest)
 
 pub returns : goal.returns
-returns c name other owners apart = ((λ number kept. kept_for name other number kept owners apart), changed (λ s. record s { confirmed = true }) name other owners apart, removed name other owners apart)
+returns c name other owners apart = ((λ number kept confirmed. kept_for name other number kept confirmed owners apart), changed (λ s. record s { confirmed = true }) name other owners apart, removed name other owners apart)

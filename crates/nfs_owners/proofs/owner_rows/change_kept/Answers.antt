@@ -8,4 +8,4 @@ returns-clause-closers c f is are =
     let row = c.args.row in
     subst (AreClosers c.note.new.self) (with_twice row None (closed_by c.args.kept) f)
     (subst (λ n. AreClosers c.note.new.self (with_at row n (with_at row None f))) c.closed_number-2.ensures
-    (c.note.ensures (with_at row None f) (at_own row None f row refl) (c.forget.ensures f row (is ∙ sym c.closed_number.ensures) are)))
+    (c.note.ensures.closers (with_at row None f) (at_own row None f row refl) (c.forget.ensures f row (is ∙ sym c.closed_number.ensures) are)))

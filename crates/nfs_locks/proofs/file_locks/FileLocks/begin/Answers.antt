@@ -36,8 +36,8 @@ invariant_of-self c =
       subst (λ (spare : Option RoomyRanges). IfSome spare (λ r. (r.pieces ≡ []) × (0 < r.room))) (sym c.take.ensures.after) tt,
     )
 
-pub returns-in-Some : goal.returns-in-Some
-returns-in-Some c =
+pub returns-in-Some-clause-states : goal.returns-in-Some-clause-states
+returns-in-Some-clause-states c =
     let rows = c.self.inside.states.rows in
     let row : Row LockState = record { number = c.from.result; hash = c.owner_hash-hash.result; client = c.args.first.owner.client.number; value = c.new-state.result } in
     ap (λ rows. locks_seen (states_of rows)) c.add.ensures.rows

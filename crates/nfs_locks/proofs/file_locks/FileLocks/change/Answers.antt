@@ -39,8 +39,8 @@ invariant_of-self c =
           subst (λ (s : Inside). AreRowsOf s.names s.states.rows × IfSome s.spare (λ r. (r.pieces ≡ []) × (0 < r.room))) (sym w.self-inside-is) c.self.invariant
     ]
 
-pub returns : goal.returns
-returns c =
+pub returns-clause-states : goal.returns-clause-states
+returns-clause-states c =
     let rows = c.self.inside.states.rows in
     let names = c.self.inside.names in
     let number = c.args.number in
@@ -54,4 +54,11 @@ returns c =
           ap (λ (s : Inside). locks_seen (states_of s.states.rows)) w.self-inside-is
           ∙ rows_unchanged names number c.from.result change rows c.self.invariant.0 c.from.ensures w.in_default.ensures.value
           ∙ ap (λ (f : StoredLocks). with_lock_change number change (locks_seen f.states)) c.self.view_is
+    ]
+
+pub returns-clause-names : goal.returns-clause-names
+returns-clause-names c =
+    elim c.match-find_mut.branch [
+      | in-Some w ↦ ap (λ (s : Inside). s.names) w.self-inside-is ∙ ap (λ (f : StoredLocks). f.names) c.self.view_is
+      | in_default w ↦ ap (λ (s : Inside). s.names) w.self-inside-is ∙ ap (λ (f : StoredLocks). f.names) c.self.view_is
     ]

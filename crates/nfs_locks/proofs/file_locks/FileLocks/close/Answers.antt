@@ -17,8 +17,8 @@ invariant_of-self c = (
   c.self.invariant.1,
 )
 
-pub returns : goal.returns
-returns c =
+pub returns-clause-states : goal.returns-clause-states
+returns-clause-states c =
     let rows = c.self.inside.states.rows in
     let test = is_under c.args.open_number in
     ap (λ rows. locks_seen (states_of rows)) c.remove_under.ensures.rows

@@ -18,8 +18,8 @@ invariant_of-self c =
       c.self.invariant.1,
     )
 
-pub returns : goal.returns
-returns c =
+pub returns-clause-states : goal.returns-clause-states
+returns-clause-states c =
     let rows = c.self.inside.states.rows in
     let client = c.args.client in
     let test : LockState → Bool = λ l. is_lock_of_client client (lock_seen l) in

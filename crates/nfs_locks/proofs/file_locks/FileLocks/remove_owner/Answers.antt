@@ -13,17 +13,18 @@ pub invariant_of-self : goal.invariant_of-self
 invariant_of-self c =
     let test : LockState → Bool = λ l. is_lock_of c.args.owner.now (lock_seen l) in (
       subst (AreRowsOf c.self.inside.names) (sym c.remove_named.ensures.rows)
-          (all_filter (IsRowOf c.self.inside.names) (λ r. not (is_named c.owner_hash-hash.result test r)) c.self.inside.states.rows c.self.invariant.0),
+          (all_filter (IsRowOf c.self.inside.names) (λ r. not (is_named c.args.hash test r)) c.self.inside.states.rows c.self.invariant.0),
       c.self.invariant.1,
     )
 
-pub returns : goal.returns
-returns c =
+pub returns-clause-states : goal.returns-clause-states
+returns-clause-states c =
     let names = c.self.inside.names in
     let rows = c.self.inside.states.rows in
     let owner = c.args.owner.now in
     let test : LockState → Bool = λ l. is_lock_of owner (lock_seen l) in
-    ap (λ rows. locks_seen (states_of rows)) (c.remove_named.ensures.rows ∙ ap (λ h. without_rows (is_named h test) rows) c.owner_hash-hash.ensures)
+    let hash = c.requires ∙ ap (λ (f : StoredLocks). owner_hash f.names owner) (sym c.self.view_is) in
+    ap (λ rows. locks_seen (states_of rows)) (c.remove_named.ensures.rows ∙ ap (λ h. without_rows (is_named h test) rows) hash)
     ∙ rows_without (is_named (owner_hash names owner) test) (is_lock_of owner) rows
     (named_is (owner_hash names owner) test rows (hashes names owner test (λ l own. own) rows c.self.invariant.0))
     ∙ ap (λ (f : StoredLocks). without (is_lock_of owner) (locks_seen f.states)) c.self.view_is

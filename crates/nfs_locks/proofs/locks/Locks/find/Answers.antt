@@ -16,7 +16,7 @@ returns-in_err-node c =
     let id = c.args.stateid in
     let locks = locks_in c.self.inside.files.items in
     ap (option_map lock_found_seen) c.from_residual.ensures
-    ∙ sym (unnamed id locks (nowhere number_of c.self.inside.nodes (is_stateid_of id) id.number (only id) locks (sym c.in_err-node.ensures) c.self.invariant.stand))
+    ∙ sym (unnamed id locks (nowhere number_of c.self.inside.nodes (is_stateid_of id) id.number (only id) locks (sym c.in_err-node.ensures) c.self.invariant.0.stand))
     ∙ ap (lock_named_in id) (in_view c.self.inside.nodes.room c.self.inside.files.items c.args.self.now c.self.view_is)
 
 pub returns-in_err-file : goal.returns-in_err-file
@@ -27,7 +27,7 @@ returns-in_err-file c =
     let node = c.in_ok-node.node in
     ap (option_map lock_found_seen) c.from_residual-in_err-file.ensures
     ∙ sym (unnamed id locks (nowhere_beyond number_of c.self.inside.nodes (is_stateid_of id) id.number (only id) locks node (sym c.in_ok-node.ensures)
-    (omega (arith, as_many_locks files, ltb-false _ _ (sym c.in_err-file.ensures.lookup.0), ap (λ (files : List StoredLocks). length files) c.deref.ensures.value)) c.self.invariant.stand))
+    (omega (arith, as_many_locks files, ltb-false _ _ (sym c.in_err-file.ensures.lookup.0), ap (λ (files : List StoredLocks). length files) c.deref.ensures.value)) c.self.invariant.0.stand))
     ∙ ap (lock_named_in id) (in_view c.self.inside.nodes.room c.self.inside.files.items c.args.self.now c.self.view_is)
 
 pub returns : goal.returns
@@ -44,5 +44,5 @@ returns c =
     ∙ ap (λ found. at_node node (option_map lock_seen found)) c.named_by.ensures
     ∙ ap (at_node node) (find_seen lock_seen (is_stateid_of id) file.states)
     ∙ named id locks node (locks_seen file.states) there
-    (somewhere number_of c.self.inside.nodes (is_stateid_of id) id.number (only id) locks node (locks_seen file.states) (sym c.in_ok-node.ensures) there c.self.invariant.stand)
+    (somewhere number_of c.self.inside.nodes (is_stateid_of id) id.number (only id) locks node (locks_seen file.states) (sym c.in_ok-node.ensures) there c.self.invariant.0.stand)
     ∙ ap (lock_named_in id) (in_view c.self.inside.nodes.room c.self.inside.files.items c.args.self.now c.self.view_is)

@@ -5,4 +5,4 @@ use Rattle.nfs_locks.proofs.locks.Locks.places_left.Goals as goal
 
 pub returns : goal.returns
 returns c =
-    omega (arith, c.saturating_sub.ensures, c.self.invariant.counted, counted (locks_in c.self.inside.files.items), ap lock_count (in_view c.self.inside.nodes.room c.self.inside.files.items c.args.self.now c.self.view_is))
+    omega (arith, c.saturating_sub.ensures, c.self.invariant.0.counted, counted (locks_in c.self.inside.files.items), ap lock_count (in_view c.self.inside.nodes.room c.self.inside.files.items c.args.self.now c.self.view_is))

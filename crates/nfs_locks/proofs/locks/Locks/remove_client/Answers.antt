@@ -1,4 +1,5 @@
-use Rattle.std.proofs.Common.{◌-◌, map, refl, sym, ap, subst, ◌∙◌}
+use Rattle.std.specs.List.{AllByRecursion}
+use Rattle.std.proofs.Common.{◌≡◌, ◌-◌, map, refl, sym, ap, subst, ◌∙◌}
 use Rattle.std.specs.Prelude.{not}
 use Rattle.nfs_locks.specs.AllLocks.{lock_count, locks_in, locks_or_none}
 use Rattle.nfs_locks.specs.LockNodes.{number_of}
@@ -12,15 +13,17 @@ pub invariant_of-self : goal.invariant_of-self
 invariant_of-self c =
     let count = c.self.inside.count in
     let locks = locks_in c.self.inside.files.items in
-    let left = count - c.places_left.result in
-    subst (AreFound number_of c.self.inside.nodes left) (sym c.remove_client_each.ensures)
-    (found_fewer number_of locks_or_none (λ xs. refl) 0 count locks c.self.inside.nodes (λ l. not (is_lock_of_client c.args.client l)) left
-    (all_counted_again (λ l. not (is_lock_of_client c.args.client l)) count c.places_left.result left locks c.self.invariant.counted
-    (c.places_left.ensures ∙ ap (λ files. count - lock_count (locks_in files)) c.deref.ensures.value ∙ ap (λ l. count - lock_count l) c.remove_client_each.ensures) refl)
-    c.self.invariant)
+    let left = count - c.places_left.result in (
+      subst (AreFound number_of c.self.inside.nodes left) (sym c.remove_client_each.ensures.locks)
+          (found_fewer number_of locks_or_none (λ xs. refl) 0 count locks c.self.inside.nodes (λ l. not (is_lock_of_client c.args.client l)) left
+          (all_counted_again (λ l. not (is_lock_of_client c.args.client l)) count c.places_left.result left locks c.self.invariant.0.counted
+          (c.places_left.ensures ∙ ap (λ files. count - lock_count (locks_in files)) c.deref.ensures.value ∙ ap (λ l. count - lock_count l) c.remove_client_each.ensures.locks) refl)
+          c.self.invariant.0),
+      subst (AllByRecursion (λ n. n ≡ c.self.inside.names)) (sym c.remove_client_each.ensures.names) c.self.invariant.1,
+    )
 
 pub returns : goal.returns
 returns c =
     seen_within _ _
-    ∙ c.remove_client_each.ensures
+    ∙ c.remove_client_each.ensures.locks
     ∙ ap (map (without (is_lock_of_client c.args.client))) (in_view c.self.inside.nodes.room c.self.inside.files.items c.args.self.now c.self.view_is)

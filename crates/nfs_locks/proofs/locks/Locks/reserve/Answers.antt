@@ -1,4 +1,5 @@
-use Rattle.std.proofs.Common.{List, map, ap, subst, sym, ◌∙◌, arith}
+use Rattle.std.specs.List.{AllByRecursion}
+use Rattle.std.proofs.Common.{◌≡◌, List, map, ap, subst, sym, ◌∙◌, arith}
 use Rattle.std.proofs.lemmas.Bool.{false≢true}
 use Rattle.nfs_locks.specs.AllLocks.{HasLockRoom, HasLockRoomAt, locks_in}
 use Rattle.nfs_locks.specs.LockNodes.{number_of, within_room}
@@ -6,6 +7,7 @@ use Rattle.nfs_locks.specs.StoredLocks.{StoredLock, StoredLocks, byte_locks, sto
 use Rattle.nfs_locks.proofs.Files.{holds_at, holds_of, holds_of_none, same_at}
 use Rattle.nfs_locks.proofs.Indexed.{at_within, from_within, room_there, room_within, room_without, stored_in_view, stored_within}
 use Rattle.nfs_nodes.specs.Numbers.{AreFound, StandFrom}
+use Rattle.nfs_locks.proofs.Named.{names_at}
 use Rattle.nfs_locks.proofs.locks.Locks.reserve.Goals as goal
 
 pub returns-in_err-reserve_number-clause-stored : goal.returns-in_err-reserve_number-clause-stored
@@ -54,19 +56,23 @@ returns-else-node-len-clause-room c =
     (holds_of_none (λ f. HasLockRoom (within_room limit f)) c.self.inside.files.items c.args.node (omega (arith, c.if-node-len.false, c.len.ensures))))
 
 pub invariant_of-self-in-Continue-branch-2 : goal.invariant_of-self-in-Continue-branch-2
-invariant_of-self-in-Continue-branch-2 c =
-    subst (λ (s : List (List StoredLock)). AreFound number_of c.reserve_number.new.nodes c.self.inside.count (map (map byte_locks) s)) (sym (same_at c.self.inside.files.items c.args.node c.index_mut.result.now c.reserve.new.self (omega (arith, c.if-node-len.true, c.len.ensures)) c.index_mut.ensures.value (ap stored_locks c.reserve.ensures.states)))
-    (record {
-      stand = subst (λ (files : List StoredLocks). StandFrom number_of c.reserve_number.new.nodes 0 (locks_in files)) c.deref.ensures.value c.reserve_number.ensures.stand;
-      counted = c.self.invariant.counted;
-      few = c.self.invariant.few;
-    })
+invariant_of-self-in-Continue-branch-2 c = (
+  subst (λ (s : List (List StoredLock)). AreFound number_of c.reserve_number.new.nodes c.self.inside.count (map (map byte_locks) s)) (sym (same_at c.self.inside.files.items c.args.node c.index_mut.result.now c.reserve.new.self (omega (arith, c.if-node-len.true, c.len.ensures)) c.index_mut.ensures.value (ap stored_locks c.reserve.ensures.states)))
+      (record {
+        stand = subst (λ (files : List StoredLocks). StandFrom number_of c.reserve_number.new.nodes 0 (locks_in files)) c.deref.ensures.value c.reserve_number.ensures.stand;
+        counted = c.self.invariant.0.counted;
+        few = c.self.invariant.0.few;
+      }),
+  subst (AllByRecursion (λ n. n ≡ c.self.inside.names)) (sym (names_at c.self.inside.files.items c.args.node c.index_mut.result.now c.reserve.new.self (omega (arith, c.if-node-len.true, c.len.ensures)) c.index_mut.ensures.value c.reserve.ensures.names)) c.self.invariant.1,
+)
 
 pub invariant_of-self-in_err-reserve : goal.invariant_of-self-in_err-reserve
-invariant_of-self-in_err-reserve c =
-    subst (λ (s : List (List StoredLock)). AreFound number_of c.reserve_number.new.nodes c.self.inside.count (map (map byte_locks) s)) (sym (same_at c.self.inside.files.items c.args.node c.index_mut.result.now c.reserve.new.self (omega (arith, c.if-node-len.true, c.len.ensures)) c.index_mut.ensures.value (ap stored_locks c.reserve.ensures.states)))
-    (record {
-      stand = subst (λ (files : List StoredLocks). StandFrom number_of c.reserve_number.new.nodes 0 (locks_in files)) c.deref.ensures.value c.reserve_number.ensures.stand;
-      counted = c.self.invariant.counted;
-      few = c.self.invariant.few;
-    })
+invariant_of-self-in_err-reserve c = (
+  subst (λ (s : List (List StoredLock)). AreFound number_of c.reserve_number.new.nodes c.self.inside.count (map (map byte_locks) s)) (sym (same_at c.self.inside.files.items c.args.node c.index_mut.result.now c.reserve.new.self (omega (arith, c.if-node-len.true, c.len.ensures)) c.index_mut.ensures.value (ap stored_locks c.reserve.ensures.states)))
+      (record {
+        stand = subst (λ (files : List StoredLocks). StandFrom number_of c.reserve_number.new.nodes 0 (locks_in files)) c.deref.ensures.value c.reserve_number.ensures.stand;
+        counted = c.self.invariant.0.counted;
+        few = c.self.invariant.0.few;
+      }),
+  subst (AllByRecursion (λ n. n ≡ c.self.inside.names)) (sym (names_at c.self.inside.files.items c.args.node c.index_mut.result.now c.reserve.new.self (omega (arith, c.if-node-len.true, c.len.ensures)) c.index_mut.ensures.value c.reserve.ensures.names)) c.self.invariant.1,
+)

@@ -1,4 +1,4 @@
-use Rattle.std.proofs.Common.{List, map, subst, sym, ◌∙◌, arith}
+use Rattle.std.proofs.Common.{◌≡◌, List, map, subst, sym, ◌∙◌, arith}
 use Rattle.std.specs.List.{AllByRecursion}
 use Rattle.std.proofs.lemmas.Bool.{false≢true}
 use Rattle.nfs_locks.specs.AllLocks.{HasRangeRoom, HasRoomFor}
@@ -7,6 +7,7 @@ use Rattle.nfs_locks.specs.StoredLocks.{StoredLock, byte_locks}
 use Rattle.nfs_locks.proofs.Files.{holds_at, holds_of, holds_of_none, same_at}
 use Rattle.nfs_locks.proofs.Indexed.{at_within, from_within, stored_in_view, stored_within}
 use Rattle.nfs_nodes.specs.Numbers.{AreFound}
+use Rattle.nfs_locks.proofs.Named.{names_at}
 use Rattle.nfs_locks.proofs.locks.Locks.reserve_change.Goals as goal
 
 pub returns-in_err-reserve_change-clause-stored : goal.returns-in_err-reserve_change-clause-stored
@@ -38,11 +39,15 @@ returns-else-node-len-clause-room c =
     (at_within (λ f. AllByRecursion (HasRangeRoom c.args.number) f.states) c.self.inside.nodes.room c.self.inside.files.items c.args.node (holds_of_none (λ f. AllByRecursion (HasRangeRoom c.args.number) f.states) c.self.inside.files.items c.args.node (omega (arith, c.if-node-len.false, c.len.ensures))))
 
 pub invariant_of-self : goal.invariant_of-self
-invariant_of-self c =
-    subst (λ (s : List (List StoredLock)). AreFound number_of c.self.inside.nodes c.self.inside.count (map (map byte_locks) s))
-    (sym (same_at c.self.inside.files.items c.args.node c.index_mut.result.now c.reserve_change.new.self (omega (arith, c.if-node-len.true, c.len.ensures)) c.index_mut.ensures.value c.reserve_change.ensures.states)) c.self.invariant
+invariant_of-self c = (
+  subst (λ (s : List (List StoredLock)). AreFound number_of c.self.inside.nodes c.self.inside.count (map (map byte_locks) s))
+      (sym (same_at c.self.inside.files.items c.args.node c.index_mut.result.now c.reserve_change.new.self (omega (arith, c.if-node-len.true, c.len.ensures)) c.index_mut.ensures.value c.reserve_change.ensures.states)) c.self.invariant.0,
+  subst (AllByRecursion (λ n. n ≡ c.self.inside.names)) (sym (names_at c.self.inside.files.items c.args.node c.index_mut.result.now c.reserve_change.new.self (omega (arith, c.if-node-len.true, c.len.ensures)) c.index_mut.ensures.value c.reserve_change.ensures.names)) c.self.invariant.1,
+)
 
 pub invariant_of-self-in_err-reserve_change : goal.invariant_of-self-in_err-reserve_change
-invariant_of-self-in_err-reserve_change c =
-    subst (λ (s : List (List StoredLock)). AreFound number_of c.self.inside.nodes c.self.inside.count (map (map byte_locks) s))
-    (sym (same_at c.self.inside.files.items c.args.node c.index_mut.result.now c.reserve_change.new.self (omega (arith, c.if-node-len.true, c.len.ensures)) c.index_mut.ensures.value c.reserve_change.ensures.states)) c.self.invariant
+invariant_of-self-in_err-reserve_change c = (
+  subst (λ (s : List (List StoredLock)). AreFound number_of c.self.inside.nodes c.self.inside.count (map (map byte_locks) s))
+      (sym (same_at c.self.inside.files.items c.args.node c.index_mut.result.now c.reserve_change.new.self (omega (arith, c.if-node-len.true, c.len.ensures)) c.index_mut.ensures.value c.reserve_change.ensures.states)) c.self.invariant.0,
+  subst (AllByRecursion (λ n. n ≡ c.self.inside.names)) (sym (names_at c.self.inside.files.items c.args.node c.index_mut.result.now c.reserve_change.new.self (omega (arith, c.if-node-len.true, c.len.ensures)) c.index_mut.ensures.value c.reserve_change.ensures.names)) c.self.invariant.1,
+)

@@ -35,7 +35,7 @@ invariant_of-self c =
           (record { numbered = c.from-row.ensures; hashed = c.requires.hash ∙ ap (λ (o : RoomyOwnerRows). name_hash o.names c.args.owner.name) (sym c.self.view_is); of_client = refl })),
       subst (AreClosers c.note.new.self)
           (ap (λ n. with_at c.from-row.result n (closed_at rows)) c.closed_number.ensures ∙ closed_more rows r (above c) ∙ ap closed_at (sym c.add.ensures.rows))
-          (c.note.ensures (closed_at rows) (closed_nothing c.from-row.result rows (above c)) c.self.invariant.1),
+          (c.note.ensures.closers (closed_at rows) (closed_nothing c.from-row.result rows (above c)) c.self.invariant.1),
     )
 
 pub returns-clause-owners : goal.returns-clause-owners

@@ -7,5 +7,5 @@ use Rattle.nfs_share.proofs.opens.Opens.next_due.Given as goal
 -- this is the next one that is due of the files visited so far
 abbrev pub invariant-loop-node : goal.invariant-loop-node
 invariant-loop-node l = record {
-  least : IsLeast l.from l.lease l.now (delegations_in l.self) (take l.node (delegations_in l.self)) (option_map delegation_seen l.next);
+  least : IsLeast l.lease l.now (delegations_in l.self) (take l.node (delegations_in l.self)) (option_map delegation_seen l.next);
 }

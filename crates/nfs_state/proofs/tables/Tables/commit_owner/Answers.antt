@@ -13,8 +13,8 @@ returns-in-Keeps-clause-state c change kept update place =
 
 pub returns-in-Restarts-clause-state : goal.returns-in-Restarts-clause-state
 returns-in-Restarts-clause-state c change kept update place =
-    restarts_seen (stored_of c.args.self.now) (stored_of c.remove_owner.new.self) c.in-Restarts.owner c.args.number c.in-Restarts.kept c.keep-in-Restarts.new.self.owners c.remove_owner.ensures.stored
-    (c.keep-in-Restarts.ensures.owners ∙ ap (λ n. with_kept n c.args.number c.in-Restarts.kept (stored_of c.remove_owner.new.self).owners) c.of_open.ensures) change kept (sym c.in-Restarts.is ∙ update)
+    restarts_seen (stored_of c.args.self.now) (stored_of c.remove_owner.new.self) c.in-Restarts.owner c.args.number c.in-Restarts.kept c.in-Restarts.confirmed c.keep-in-Restarts.new.self.owners c.remove_owner.ensures.stored
+    (c.keep-in-Restarts.ensures.owners ∙ ap (λ n. with_kept n c.args.number c.in-Restarts.kept c.in-Restarts.confirmed (stored_of c.remove_owner.new.self).owners) c.of_open.ensures) change kept (sym c.in-Restarts.is ∙ update)
 
 pub returns-in-Drops-clause-state : goal.returns-in-Drops-clause-state
 returns-in-Drops-clause-state c change kept update place =
