@@ -1,7 +1,6 @@
 """Runs of `nfs4state serve` whose callbacks are heard: what comes to a client's listener, what the journal says of its
 path, and the lines that tell why a callback failed."""
 import re
-import threading
 import time
 
 from helpers.callback_client import Borrower, Opened
@@ -10,9 +9,9 @@ from helpers.expecting_client import done, expect, Wrong
 from helpers.server_helpers import Late, lawful_journal, peer_of
 from nfs4tools.callbacks.listener import CALLBACK_PROGRAM, Listener
 from nfs4tools.callbacks.messages import null_call, recall_call
-from nfs4tools.journal.entries import Path, NotJournal
+from nfs4tools.journal.entries import Path
 from nfs4tools.journal.journal import Growing
-from nfs4tools.messages import GETATTR, NFS4_OK, PUTROOTFH, compound, words, xid
+from nfs4tools.messages import GETATTR, NFS4_OK, PUTROOTFH, words, xid
 from nfs4tools.processes import PATIENCE, PROGRAM, REPLY_PATIENCE
 from nfs4tools.program import bytes_of
 from nfs4tools.wire import READ, Status
@@ -21,8 +20,8 @@ from nfs4tools.wire import READ, Status
 # connection. A server that a peer holds back is held back without an end: so where the machine may be busy, and nothing
 # else is judged by the clock, there is patience.
 SOON = 2
-# The seconds of a lease that ends here, and those in which it is renewed at the latest.
-LEASE, RENEWAL = 3, 2.9
+# The seconds between two looks at the journal.
+LOOK = 0.02
 # A line on a callback: which client was called, and where; why the call failed, or that a reply is missing yet. Or how
 # many such lines were left out.
 ON_CALLBACK = re.compile(
@@ -40,7 +39,7 @@ def expect_time(what, seconds, most):
 
 
 class Run:
-    """A server with its clients' connections. It goes on until its input ends, or it serves so many connections."""
+    """A server with its clients' connections. It takes orders until its input ends, or it serves so many connections."""
 
     def __init__(self, served, path, goes_on):
         self.served, self.path, self.goes_on, self.peers = served, path, goes_on, []
@@ -57,14 +56,23 @@ class Run:
         client.introduce(callback_at(callback.address) if isinstance(callback, Listener) else callback)
         return client
 
+    def order(self, words):
+        """The answer to an order."""
+        self.served.program.stdin.write(words.encode() + b"\n")
+        return self.served.next_answer().decode().rstrip("\n")
+
     def marks(self, client, least):
-        """How a client's path was marked, once it was so often, by the journal that is written as it goes."""
+        """How a client's path was marked, once it was so often, by the journal up to now."""
         until = time.monotonic() + REPLY_PATIENCE
-        while len(found := marks_of(entries_so_far(self.path + ".part"), client)) < least:
+        while len(found := marks_of(self.entries_so_far(), client)) < least:
             if time.monotonic() > until:
                 raise Wrong(f"the callback path of client {client.number} has the marks {found}, and no more")
-            time.sleep(0.1)
+            time.sleep(LOOK)
         return found
+
+    def entries_so_far(self):
+        self.order("journal")
+        return Growing().take(bytes_of(self.path + ".part") or b"")
 
     def end(self, *lines, status=0, seconds=PATIENCE):
         """Ends the connections, and then the run ends within so many seconds, with this status, and has told these
@@ -88,43 +96,8 @@ class Run:
         return [line["reason"].decode() for line in found if line["client"] == b"%d" % client.number]
 
 
-def entries_so_far(path):
-    """The entries of a journal that is being written."""
-    try:
-        return Growing().take(bytes_of(path) or b"")
-    except NotJournal:
-        return []
-
-
 def marks_of(entries, client):
     return [bool(entry.is_up) for entry in entries if isinstance(entry, Path) and entry.client == client.number]
-
-
-class Renewals:
-    """Renews the leases of clients, which began at this time or later, over a connection of its own, while it is
-    entered."""
-
-    def __init__(self, server, begun, *clients):
-        self.peer, self.last, self.clients, self.longest = server.peer(), begun, clients, 0
-        self.over, self.thread = threading.Event(), threading.Thread(target=self.renew, daemon=True)
-
-    def __enter__(self):
-        self.thread.start()
-
-    def __exit__(self, kind, *_):
-        """That a lease ended since the machine had no time to renew it shows nothing."""
-        self.over.set()
-        self.thread.join()
-        if self.longest > RENEWAL and (kind is None or issubclass(kind, Wrong)):
-            raise Late(f"a lease of {LEASE} seconds isn't renewed for {self.longest:.2f}")
-
-    def renew(self):
-        sent = compound(1, *(client.renew_words() for client in self.clients))
-        while not self.over.wait(0.1):
-            self.peer.send(sent)
-            self.peer.receive()
-            now = time.monotonic()
-            self.longest, self.last = max(self.longest, now - self.last), now
 
 
 # What is heard.

@@ -18,13 +18,13 @@ def command(request):
 
 @pytest.fixture
 def run(command, path_of):
-    """Begins a server with these options, as a `Run`."""
+    """Begins a server with these options, as a `Run`: it takes orders, or serves so many connections."""
     numbers = count()
 
     @contextmanager
     def begin(*options, connections=None, **how):
         path = path_of(f"{next(numbers)}.journal")
-        until = ["--until-input-ends"] if connections is None else ["--connections", str(connections)]
+        until = ["--orders"] if connections is None else ["--connections", str(connections)]
         words = [*command, "--listen", "127.0.0.1:0", "--journal", path, *until, *options]
         with Served(words, stdin=subprocess.PIPE, **how) as served:
             yield Run(served, path, connections is None)

@@ -2,27 +2,22 @@
 
 A delegation is granted once a client's listener has answered CB_NULL. It is recalled by CB_RECALL, whose bytes are the
 model's, and returned; or it is revoked after a lease. A client whose path is down is granted none."""
-import time
 from functools import partial
 
 import pytest
 
 from callbacks.callback_runs import (
-    LEASE,
-    Renewals,
     expect_delay,
     expect_none_granted,
     expect_null_call,
     expect_over,
     expect_recall,
     marks_of,
-    wait_until_open,
     xid_of,
 )
 from helpers.callback_client import Opened
 from helpers.callback_peers import accept_null, callback_at, nobody
 from helpers.expecting_client import expect
-from helpers.server_helpers import tried_again
 from nfs4tools.callbacks.listener import Listener, accept, answer_status, keep_silent
 from nfs4tools.journal.entries import Revoke
 from nfs4tools.messages import NFS4_OK
@@ -30,6 +25,8 @@ from nfs4tools.wire import BOTH, READ, Status, WRITE
 
 pytestmark = pytest.mark.quick
 
+# The seconds of the lease.
+LEASE = 90
 # The answer of a client that doesn't know the file.
 DENY_HANDLE = answer_status(Status.BADHANDLE)
 
@@ -64,30 +61,28 @@ def test_recall_and_return(run, is_nobody):
     [(keep_silent, [True]), (accept, [True, True]), (DENY_HANDLE, [True, False])],
     ids=["no answer", "OK", "BADHANDLE"],
 )
-@tried_again
-def test_revocation(run, tell, answer, marks):
+def test_revocation(run, answer, marks):
     """A recall isn't followed by DELEGRETURN, whatever is answered: the delegation is revoked after a lease, and then
     its stateid is BAD_STATEID. The OPEN that waited goes through. A recall without an answer is let go."""
-    with Listener(partial(accept_null, answer=answer)) as home, Listener(accept) as other_home, run(
-        "--lease", str(LEASE)
-    ) as server:
-        begun = time.monotonic()
+    with Listener(partial(accept_null, answer=answer)) as home, Listener(accept) as other_home, run() as server:
         holder, other = server.client(1, home), server.client(2, other_home)
-        with Renewals(server, begun, holder, other):
-            lent = holder.borrow(b"a", READ)
-            other.open_by_name(b"b", READ)
-            begun = time.monotonic()
+        lent = holder.borrow(b"a", READ)
+        other.open_by_name(b"b", READ)
+        expect_delay(other, b"a", WRITE)
+        recalled = expect_recall(home, holder, lent)
+        expect("the marks", server.marks(holder, len(marks)), marks)
+        for seconds, revoked in ((LEASE // 2, 0), (LEASE // 2, 0), (1, 1)):
             expect_delay(other, b"a", WRITE)
-            recalled = expect_recall(home, holder, lent)
-            seconds = wait_until_open(other, b"a", WRITE, begun)
-            expect("a delegation isn't revoked within the lease", seconds > LEASE, True)
-            expect("DELEGRETURN behind a revocation", holder.give_back(lent), Status.BAD_STATEID)
-            expect_over(recalled)
+            expect("a sweep", server.order(f"advance {seconds}").split()[5], str(revoked))
+            holder.renew()
+            other.renew()
+        expect("the OPEN that waited", other.open_by_name(b"a", WRITE).status, NFS4_OK)
+        expect("DELEGRETURN behind a revocation", holder.give_back(lent), Status.BAD_STATEID)
+        expect_over(recalled)
         entries = server.end()
         expect("who loses what", [it.state for it in entries if isinstance(it, Revoke)], [lent.number])
         expect("the marks", marks_of(entries, holder), marks)
         expect("how many calls came", len(home.heard), 2)
-        tell(f"a delegation was revoked {seconds:.1f} seconds after its recall, with a lease of {LEASE}")
 
 
 def test_path_down(run):

@@ -5,7 +5,6 @@ import socket
 import subprocess
 import sys
 import threading
-import time
 from contextlib import contextmanager
 
 import pytest
@@ -26,6 +25,7 @@ from nfs4tools import (
     OPEN_DELEGATE_READ,
     OPEN_DELEGATE_WRITE,
     OpenOwner,
+    OrderedServer,
     READ,
     Reply,
     Result,
@@ -47,7 +47,7 @@ from nfs4tools.client.sequences import Sequences
 from nfs4tools.client.server import MODEL, environment
 from nfs4tools.journal.entries import Expire, Forget, Path, Revoke
 from nfs4tools.messages import OPEN, PUTROOTFH, results, words
-from nfs4tools.processes import NO_CALLBACKS, PROGRAM, REPLY_PATIENCE, TOP
+from nfs4tools.processes import NO_CALLBACKS, PROGRAM, TOP
 from nfs4tools.wire import Change, Opened, accepted, denied, record, split_records
 
 pytestmark = pytest.mark.quick
@@ -302,17 +302,17 @@ def test_null_that_is_refused(command, behaviour, tmp_path):
 def test_recall_without_callbacks(command, tmp_path):
     """If no recall reaches the client, the delegation is revoked after a lease, and then the file is free."""
     path = tmp_path / "run.journal"
-    with Server("--tree", LENDING, "--lease", "5", journal=path, command=command) as server:
+    with OrderedServer("--tree", LENDING, journal=path, command=command) as server:
         with Client(*server.address, "c1") as client, Client(*server.address, "c2") as other:
             client.begin()
             other.begin()
             lent = client.open_lent("a")
-            delayed(other)
-            until = time.monotonic() + REPLY_PATIENCE
-            while not other.compound(opening(other)).is_ok:
-                assert time.monotonic() < until
+            for seconds, revoked in ((45, 0), (45, 0), (1, 1)):
+                delayed(other)
+                assert server.advance(seconds).revoked == revoked
                 client.renew()
-                time.sleep(0.1)
+                other.renew()
+            assert other.compound(opening(other)).is_ok
             with pytest.raises(StatusError) as caught:
                 client.return_delegation(lent.delegation)
             assert caught.value.status == Status.BAD_STATEID
@@ -403,14 +403,14 @@ def test_beginning_of_a_journal(run, tmp_path):
 def test_events(command, tmp_path):
     """A lease that ends, and an owner that is forgotten, are events of their clients."""
     path = tmp_path / "run.journal"
-    with Server("--tree", NO_CALLBACKS, "--lease", "4", journal=path, command=command) as server:
+    with OrderedServer("--tree", NO_CALLBACKS, journal=path, command=command) as server:
         with Client(*server.address, "c1") as client, Client(*server.address, "c2") as other:
             client.begin()
             other.begin()
             client.close(client.open("a"))
-            for _ in range(90):
-                client.renew()
-                time.sleep(0.1)
+            server.advance(90)
+            client.renew()
+            assert server.advance(1) == (91, 1, 0, 1, 0, False)
     found = {type(entry.event): entry for entry in read_journal(path).events()}
     assert {kind: entry.client for kind, entry in found.items()} == {Forget: "c1", Expire: "c2"}
     assert all(entry.moment == getattr(entry.event, "now") for entry in found.values())

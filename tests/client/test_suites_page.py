@@ -19,7 +19,7 @@ LINES = 20
 
 
 def test_page():
-    assert NAMES == ["test_shares", "test_sequence_id", "test_recall", "test_lost_reply"]
+    assert NAMES == ["test_shares", "test_sequence_id", "test_recall", "test_lease", "test_lost_reply"]
     assert BLOCKS[0].count("\n") <= LINES
 
 

@@ -4,17 +4,18 @@ from typing import Any
 
 from nfs4tools.journal.entries import Call, Forget, StrictReader, read_answer
 from nfs4tools.model.attributes import SIZE
-from nfs4tools.model.pages import PAGE, PART, pages_of
+from nfs4tools.model.pages import PAGE, pages_of
 from nfs4tools.send.exchange import asked_of
 from nfs4tools.wire import NewLocker, Opnum, Status, read_directory
 
-# What each entry counts; and what each child in a listing does, beside its name and attributes.
-ENTRY, LISTED = 320, 160
+# What each entry counts; what each child in a listing does, beside its name and attributes; and what each part of a
+# page in the answer to a READ does.
+ENTRY, LISTED, PART = 320, 160, 32
 
 
 def read_len(offset: int, length: int) -> int:
-    """A READ of so many bytes: a part of a page is no copy, unless it is short."""
-    return 0 if PART <= length <= PAGE - offset % PAGE else length
+    """A READ of so many bytes: a part of each page that has some of them."""
+    return PART * len(pages_of(offset, offset + length)) if length else 0
 
 
 def write_len(offset: int, length: int) -> int:

@@ -1,5 +1,5 @@
 """Servers at which the tests of `tools/judge` have small clients do right and wrong: the program over TCP, and the
-model in memory, at which time passes at once and callbacks are as they would be."""
+model in memory, where callbacks are as they would be. Time passes at once at both: by orders, and by steps."""
 import os
 import subprocess
 import time
@@ -10,15 +10,15 @@ from typing import Any, NamedTuple, Protocol
 from helpers.expecting_client import Wrong
 from helpers.right_client import Direct, RightClient, Wired
 from nfs4tools.callbacks.listener import Listener, accept, keep_silent, reset, universal_address
-from nfs4tools.journal.entries import Entry
+from nfs4tools.journal.entries import Entry, Path
 from nfs4tools.journal.journal import Growing, Recorder, journal_bytes
 from nfs4tools.model.tree import DEFAULT, Tree
 from nfs4tools.processes import PROGRAM, Peer, Served
 from nfs4tools.program import bytes_of
 from nfs4tools.wire import Callback, Status
 
-# The most moments for which anything is waited.
-PATIENCE = 20
+# The most moments and looks for which anything is waited, and the seconds between two looks.
+MOMENTS, LOOKS, LOOK = 200, 1000, 0.02
 # What may be where a client is called back: who accepts, says nothing, or ends each connection.
 ACCEPTS, SILENT, ENDS = "accepts", "silent", "ends"
 ANSWERS: dict[str, Callable[[Any], Any]] = {
@@ -59,8 +59,8 @@ class Room(Protocol):
     def wait(self, moments: int, *renewing: RightClient) -> None:
         """So many moments pass, while these clients renew their leases."""
 
-    def look(self, *renewing: RightClient) -> None:
-        """Something has to come: a little time passes."""
+    def look(self, kind: type[Any], *renewing: RightClient) -> None:
+        """Entries of this kind have to come: a little time passes."""
 
     def entries(self) -> Sequence[Entry]:
         """Those that there are by now."""
@@ -81,11 +81,11 @@ def renew(clients: Sequence[RightClient]) -> None:
 
 def wait_for(room: Room, kind: type[Any], count: int, *renewing: RightClient) -> None:
     """Waits until the journal has so many entries of this kind."""
-    for _ in range(10 * PATIENCE):
+    for _ in range(LOOKS if kind is Path else MOMENTS):
         if sum(isinstance(entry, kind) for entry in room.entries()) >= count:
             return
-        room.look(*renewing)
-    raise Wrong(f"there is no {kind.__name__} in {PATIENCE} seconds")
+        room.look(kind, *renewing)
+    raise Wrong(f"there is no {kind.__name__}, however long it is waited for")
 
 
 class AtModel:
@@ -121,7 +121,7 @@ class AtModel:
             renew(renewing)
             self.server.sweep(self.server.moment)
 
-    def look(self, *renewing: RightClient) -> None:
+    def look(self, kind: type[Any], *renewing: RightClient) -> None:
         self.wait(1, *renewing)
 
     def entries(self) -> Sequence[Entry]:
@@ -146,7 +146,7 @@ class AtProgram:
             tree,
             "--journal",
             self.path,
-            "--until-input-ends",
+            "--orders",
             "--lease",
             str(self.setting.lease),
             "--epoch",
@@ -171,17 +171,25 @@ class AtProgram:
         address = universal_address(listener.address).encode()
         return RightClient(Wired(self.peers[-1]), name, uid, Callback(CALLBACK_PROGRAM, b"tcp", address, 1))
 
+    def order(self, words: str) -> None:
+        self.served.program.stdin.write(words.encode() + b"\n")
+        if not (answer := self.served.next_answer()) or answer.startswith(b"error"):
+            raise Wrong(f"{words} is answered {answer!r}")
+
     def wait(self, moments: int, *renewing: RightClient) -> None:
-        until = time.monotonic() + moments
-        while (rest := until - time.monotonic()) > 0:
-            time.sleep(min(rest, 0.3))
+        for _ in range(moments):
+            self.order("advance 1")
             renew(renewing)
 
-    def look(self, *renewing: RightClient) -> None:
-        time.sleep(0.1)
-        renew(renewing)
+    def look(self, kind: type[Any], *renewing: RightClient) -> None:
+        """A path is marked by a callback, which comes by itself."""
+        if kind is Path:
+            time.sleep(LOOK)
+        else:
+            self.wait(1, *renewing)
 
     def entries(self) -> Sequence[Entry]:
+        self.order("journal")
         return Growing().take(bytes_of(self.path + ".part") or b"")
 
 

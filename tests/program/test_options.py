@@ -122,7 +122,7 @@ def test_words(path_of):
     for name in OPTIONS:
         decline(f"unexpected argument '{name}' found", alone, name, "9")
     for command, other in ("once", "--connections"), ("once", "--memory"), ("serve", "--now"):
-        for word in other, "--other", "file":
+        for word in other, "--unknown", "file":
             decline(f"unexpected argument '{word}' found", f"nfs4state {command} [OPTIONS]", command, word)
     similar = "unexpected argument '--listen' found\n\n  tip: a similar argument exists: '--lease'"
     decline(similar, "nfs4state once --lease <SECONDS>", "once", "--listen", "127.0.0.1:0")
@@ -144,9 +144,10 @@ def test_words(path_of):
     reason = "invalid value '0' for '--lease <SECONDS>': not a number from 1 to 86400"
     decline(reason, once, "once", "--tree", path_of("missing"), "--lease", "0")
     serve = "nfs4state serve [OPTIONS]"
-    flags = "--until-input-ends", "--until-killed"
-    decline("the argument '--until-input-ends' cannot be used with '--until-killed'", serve, "serve", *flags)
-    for flag in flags:
+    for flag in "--until-input-ends", "--orders":
+        reason_of_flags = f"the argument '{flag}' cannot be used with '--until-killed'"
+        decline(reason_of_flags, serve, "serve", flag, "--until-killed")
+    for flag in "--until-input-ends", "--until-killed", "--orders":
         decline(f"the argument '{flag}' cannot be used multiple times", serve, "serve", flag, flag)
         decline(
             f"unexpected value '1' for '{flag}' found; no more were expected",

@@ -14,13 +14,13 @@ from typing import Any, NamedTuple
 
 import pytest
 
-from helpers.entry_memory import ENTRY, LISTED, counted, entry_len, entry_of, write_len
+from helpers.entry_memory import ENTRY, LISTED, PART, counted, entry_len, entry_of, read_len, write_len
 from helpers.expecting_client import Client, Wrong, done, expect
 from helpers.reply_oracle import Judge
 from helpers.server_helpers import lawful_journal, peer_of
 from nfs4tools.journal.entries import Call, Expire
 from nfs4tools.messages import CLOSE, GETATTR, GETFH, LOCK, PUTFH, handle, setclientid, words
-from nfs4tools.model.pages import PAGE, PART
+from nfs4tools.model.pages import PAGE
 from nfs4tools.processes import PATIENCE, PROGRAM
 from nfs4tools.wire import OWNER_LIMIT, Status, opaque
 from serve.memory_runs import (
@@ -45,10 +45,6 @@ from serve.memory_runs import (
 from serve.test_memory import LATELY, RACERS, RACES
 
 pytestmark = pytest.mark.needs("nfs4state")
-
-
-# The seconds of a lease that ends, within which there are all calls before that.
-LEASE = 5
 
 
 # At the bound.
@@ -177,10 +173,13 @@ KINDS = {
         lambda client, length: read_words(length),
         Status.OK,
         FILE,
-        (*growing(0), (PART - 1, PART - 1, PAGE + 1), (PART, 0, PART - 1), (PAGE, 0, PAGE + 1)),
+        ((0, 0, 1), (1, PART, PAGE + 1), (PAGE, PART, PAGE + 1), (FILE_LIMIT - PAGE, 15 * PART, FILE_LIMIT)),
     ),
     "READ from byte 1 on": Kind(
-        lambda client, length: read_words(length, 1), Status.OK, FILE, ((PAGE - 1, 0, PAGE), (PAGE, PAGE, PAGE + 1))
+        lambda client, length: read_words(length, 1),
+        Status.OK,
+        FILE,
+        ((PAGE - 1, PART, PAGE), (PAGE, 2 * PART, 2 * PAGE)),
     ),
     "GETATTR": Kind(lambda client, own: words(GETATTR, own // 4, *[0] * (own // 4)), Status.OK, FILE, growing(0, 4)),
     # Each child takes 28 bytes of the reply, or 40 with a fileid, and 16 are behind the last one.
@@ -294,20 +293,16 @@ def test_near(bounded, left):
 
 def test_sweep(bounded):
     """At the bound a lease ends, which makes an entry above it, and the client is gone."""
-    with bounded("--lease", str(LEASE), more=[Expire]) as counted:
+    with bounded("--orders", more=[Expire]) as counted:
         counted.introduce()
         counted.open_file()
         counted.lock()
         counted.fill(0)
         counted.refuse_all()
-        for _ in range(5):
-            # Longer than the lease, and than a sweep takes to come.
-            time.sleep(LEASE + 3)
-            counted.client.ask(counted.client.renew_words())
-            status = status_of(counted.client.got[-1])
-            if status != Status.OK:
-                break
-        expect("the status of a RENEW", status, Status.STALE_CLIENTID)
+        counted.served.program.stdin.write(b"advance 91\n")
+        expect("a sweep", counted.served.next_answer(), b"moment 91: expired 1 revoked 0 forgotten 0\n")
+        counted.client.ask(counted.client.renew_words())
+        expect("the status of a RENEW", status_of(counted.client.got[-1]), Status.STALE_CLIENTID)
     counted.lines.expect_memory(1, True)
     expect("what is counted", counted.count, MIB)
 
@@ -359,7 +354,7 @@ def race(served, uid, all_here):
             operation, node, most = draw.choice(
                 (
                     (write_words(draw.randbytes(own), offset), FILE, write_len(offset, own)),
-                    (read_words(own, offset), FILE, own),
+                    (read_words(own, offset), FILE, read_len(offset, own)),
                     (words(GETATTR, 0), FILE, 0),
                     (setattr_words(offset), FILE, 12 + PAGE),
                     (readdir_words(own), 0, 3 * (LISTED + 1)),

@@ -212,9 +212,9 @@ def test_room():
 
 
 def limit_connections():
-    """In a new process: no more than one connection may be open, beside its streams, the listener, and the file of the
+    """In a new process: no more than one connection may be open, beside its streams, the listener, and the files of the
     thread that calls clients back."""
-    setrlimit(RLIMIT_NOFILE, (6, 6))
+    setrlimit(RLIMIT_NOFILE, (7, 7))
 
 
 def test_refused():

@@ -121,12 +121,12 @@ def test_unswept(path_of, preloaded):
 def test_accept(path_of):
     """Where the process may have no more files open, the connections that can't be accepted are gone for the run, and
     their peers wait as those above the number do; that is a fault, and the others are served. Four files are open from
-    the beginning, and the thread that calls clients back opens a fifth, unless those that accept were there before."""
-    for most in 6, 7, 8:
+    the beginning, and the thread that calls clients back opens two, unless those that accept were there before."""
+    for most in 7, 8, 9:
         path = path_of("accept.journal")
         limit = lambda: setrlimit(RLIMIT_NOFILE, (most, most))
         with serve("--journal", path, connections=3, preexec_fn=limit) as served:
-            room = most - 4 - served.has_caller(PATIENT)
+            room = most - 4 - 2 * served.has_caller(PATIENT)
             peers = [peer_of(served) for _ in range(3)]
             clients = [Client(peer, uid) for uid, peer in enumerate(peers[:room])]
             for client in clients:

@@ -1,8 +1,10 @@
-"""A release that is unpacked elsewhere: the first examples of its README and its CLIENTS, in an environment that has
-PATH alone. Its program is the one that is built, however it was built: what RELEASE says of a proof is made up here."""
+"""A release that is unpacked elsewhere: the first examples of its README and its CLIENTS, and its suite of a client, in
+an environment that has PATH alone. Its program is the one that is built, however it was built: what RELEASE says of a
+proof is made up here."""
 import io
 import os
 import subprocess
+import sys
 import tarfile
 from functools import partial
 
@@ -55,6 +57,12 @@ def test_page(tmp_path):
     assert run(["./start", "--journal", journal, "--", "true"]).returncode == 0
     ran = run(["tools/show_journal", "--html", str(page), journal])
     assert (ran.returncode, ran.stderr) == (0, "") and page.read_text().count("function") > 20
+
+
+def test_suite():
+    """The suite passes as SUITES runs it."""
+    ran = run([sys.executable, "-m", "pytest", "samples/suite"])
+    assert ran.returncode == 0 and " passed" in ran.stdout, ran.stdout
 
 
 @pytest.mark.parametrize("page", pages.PAGES)

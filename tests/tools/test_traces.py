@@ -17,6 +17,7 @@ from helpers.captures import captures_of
 from nfs4tools.client import operations as op
 from nfs4tools.client.client import Client
 from nfs4tools.client.listener import CallbackListener
+from nfs4tools.client.ordered import OrderedServer
 from nfs4tools.client.replies import StatusError
 from nfs4tools.client.server import Listening, MODEL, Server
 from nfs4tools.messages import NULL, RENEW, call, compound, setclientid, words
@@ -225,14 +226,12 @@ def without_places(line):
 
 def test_model_sweeps(path_of):
     """What a sweep ends is a line of its own."""
-    with Server("--trace", path_of("run.trace"), "--lease", "1", command=MODEL) as server:
+    with OrderedServer("--trace", path_of("run.trace"), command=MODEL) as server:
         with Client(*server.address, "c1") as client:
             client.begin()
-            until = time.monotonic() + PATIENCE
-            while not (found := [it for it in read_trace(path_of("run.trace")).lines if it.event == "sweep"]):
-                assert time.monotonic() < until
-                time.sleep(0.2)
-    assert found[0].fields["words"].startswith("client 1 expires, seen at ")
+            server.advance(91)
+    found = [it for it in read_trace(path_of("run.trace")).lines if it.event == "sweep"]
+    assert [it.fields["words"] for it in found] == ["client 1 expires, seen at 0, now 91"]
 
 
 # Files that can't be written.

@@ -33,6 +33,7 @@ ROWS: list[Times | Each] = [
     Times(f"{USUAL},SETCLIENTID+CONFIRM", "clients=250", 1.15),
     Times(USUAL, "lenders=250", 1.15),
     Times("OPEN+CLOSE,CLOSE-again,CLOSE-of-nothing", "owners=10000", 1.15),
+    Times("CLOSE-again,CLOSE-of-nothing", "closers=10000", 1.15),
     Times("LOCK+LOCKU", "locks=1000", 1.15),
     Times("OPEN+CLOSE", "opens=10000", 1.3),
     Times("OPEN+CLOSE-to-read", "readers=250", 1.3),

@@ -54,6 +54,11 @@ def owners(scene: Scene, count: int) -> None:
     use(scene.come().owners(islice(cycle(OTHERS), count)))
 
 
+def closers(scene: Scene, count: int) -> None:
+    for owner in list(scene.come().owners(islice(cycle(OTHERS), count))):
+        owner.close()
+
+
 def opens(scene: Scene, count: int) -> None:
     scene.openers.extend(scene.come().owners([NAME] * count))
 
@@ -123,6 +128,7 @@ KINDS: dict[str, tuple[Callable[..., object], str]] = {
     "lenders": (lenders, "live clients that are lent 60 other files each to read; 250x10: 250, ten each"),
     "readers": (readers, "clients that are lent the file to read"),
     "owners": (owners, "owners with an open each, of other files"),
+    "closers": (closers, "owners that opened other files, and then closed them, when all had them open"),
     "opens": (opens, "owners with an open each, of the file"),
     "locks": (locks, "lock states of other files, which hold a byte each"),
     "idle": (idle, "lock states of other files, which hold nothing"),

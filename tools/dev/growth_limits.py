@@ -31,7 +31,8 @@ import argparse
 
 from dev.growth_counts import counts
 
-BOUNDS = {"functions": 55, "calls": 30, "lines": 63}
+# A test that orders marks by `serve --orders` marks paths and waits for marks, which took 14 of the lines.
+BOUNDS = {"functions": 55, "calls": 30, "lines": 77}
 # By which part of a bound a count may be above it.
 SLACK = 0.1
 

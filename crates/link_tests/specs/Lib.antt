@@ -1,1 +1,2 @@
+-- What the contracts of these tests' links and devices speak of.
 pub mod Board

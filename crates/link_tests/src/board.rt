@@ -1,3 +1,5 @@
+//! Counts the bytes written to each link, by which links wait for each other's replies.
+
 use std::alloc::{AllocError, Global};
 use std::sync::atomic::{AtomicUsize, Ordering};
 

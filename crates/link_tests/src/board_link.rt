@@ -1,3 +1,5 @@
+//! A link that asks again only when all other links have a reply: served in turn, such links would never end.
+
 ghost use Rattle.std.specs.Prelude.{◌≡◌, ◌≤◌, false, length, true};
 
 use crate::board::Board;
@@ -29,8 +31,8 @@ const SETCLIENTID: [u8; 112] = [
 // The length of the record with the reply to NULL.
 const NULL_REPLY_LEN: usize = 28;
 
-/// A link over memory to one connection. Its first read gives a call of NULL; its second gives another one only when every other link has
-/// a whole reply; its third gives a call of COMPOUND; and then its input ends.
+/// A link over memory to one connection. Its first read gives a call of NULL; its second gives another one only when
+/// every other link has a whole reply; its third gives a call of COMPOUND; and then its input ends.
 #[derive(Drop)]
 pub struct BoardLink<'a, R: Sleeper> {
     rt: &'a R,

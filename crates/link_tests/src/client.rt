@@ -1,3 +1,5 @@
+//! A TCP client that makes its second call only when another client has the reply to its first.
+
 use std::io::{Read, Write};
 use std::net::{Shutdown, TcpStream};
 use std::sync::atomic::{AtomicUsize, Ordering};
@@ -18,8 +20,8 @@ const NULL_REPLY: [u8; 28] = [
     0x80, 0, 0, 0x18, 0, 0, 0, 1, 0, 0, 0, 1, 0, 0, 0, 0, 0, 0, 0, 0, 0, 0, 0, 0, 0, 0, 0, 0,
 ];
 
-// A record with a COMPOUND of PUTROOTFH and GETATTR of the type, and that with its reply (RFC 7531): NFS4_OK, no tag, and
-// two results, each NFS4_OK; in the second the bitmap of the type, and as its four bytes NF4DIR.
+// A record with a COMPOUND of PUTROOTFH and GETATTR of the type, and that with its reply (RFC 7531): NFS4_OK, no tag,
+// and two results, each NFS4_OK; in the second the bitmap of the type, and as its four bytes NF4DIR.
 const TYPE_OF_ROOT: [u8; 72] = [
     0x80, 0, 0, 0x44, 0, 0, 0, 2, 0, 0, 0, 0, 0, 0, 0, 2, 0, 1, 0x86, 0xa3, 0, 0, 0, 4, 0, 0, 0, 1,
     0, 0, 0, 0, 0, 0, 0, 0, 0, 0, 0, 0, 0, 0, 0, 0, 0, 0, 0, 0, 0, 0, 0, 0, 0, 0, 0, 2, 0, 0, 0,
@@ -32,8 +34,8 @@ const TYPE_OF_ROOT_REPLY: [u8; 72] = [
     0, 0, 2, 0, 0, 0, 4, 0, 0, 0, 2,
 ];
 
-/// Makes a call, and a second one when both clients have the reply to their first. Returns whether each reply is the one
-/// that is expected. `answered` counts the clients that have their first reply. The connection is ended.
+/// Makes a call, and a second one when both clients have the reply to their first. Returns whether each reply is the
+/// one that is expected. `answered` counts the clients that have their first reply. The connection is ended.
 pub(crate) fn converse<R: Clock>(rt: &R, stream: &TcpStream, answered: &AtomicUsize) -> bool {
     let is_answered = ask_twice(rt, stream, answered);
     stream.shutdown(Shutdown::Both).is_ok() && is_answered

@@ -62,7 +62,7 @@ fn seen_beside<R: Threads + Wait + Sleeper + RandomSource + Sync>(
     seen_in::<Brand, R>(rt, alloc, opened, core)
 }
 
-// The same in a run of this name.
+// What `seen_beside` sees, in a run that is named `N`.
 fn seen_in<N: Naming + Send + Sync, R: Threads + Wait + Sleeper + Sync>(
     rt: &R,
     alloc: Global,
@@ -80,7 +80,7 @@ fn seen_in<N: Naming + Send + Sync, R: Threads + Wait + Sleeper + Sync>(
     }
 }
 
-// The same over a state that is shared.
+// What `seen_beside` sees of the shared state that these parts make.
 fn seen_at<N: Naming + Send + Sync, R: Threads + Wait + Sleeper + Sync>(
     rt: &R,
     alloc: Global,
@@ -183,8 +183,8 @@ fn ask_at_desk<'a, N: Naming, R: Wait + Sleeper>(
     drop(desk.into_parts());
 }
 
-// A client comes to a desk. While another thread has the lock, the desk answers RENEW, alone and twice in a batch; then it
-// is asked for an operation, when the lease would be over had nobody asked.
+// A client comes to a desk. While another thread has the lock, the desk answers RENEW, alone and twice in a batch; then
+// it is asked for an operation, when the lease would be over had nobody asked.
 fn ask_beside_hold<S: Service, R: Sleeper>(
     rt: &R,
     alloc: Global,

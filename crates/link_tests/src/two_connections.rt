@@ -1,3 +1,5 @@
+//! Tests that a listener's two connections are served at once, with a receipt for each.
+
 ghost use Rattle.std.specs.Prelude.{◌≡◌, [], ℕ, IsFalse};
 ghost use Rattle.nfs_owners.specs.Registry.{is_live};
 
@@ -14,8 +16,8 @@ use std::thread::Threads;
 use std::time::{Clock, Duration};
 use std::{io, thread};
 
-// How many clients got the replies that are expected, how many connections were served to their end with a receipt each,
-// and how many entries the journal has.
+// How many clients got the replies that are expected, how many connections were served to their end with a receipt
+// each, and how many entries the journal has.
 #[derive(Clone, Copy, Debug, PartialEq, Eq)]
 struct Outcome {
     answered: u32,

@@ -1,3 +1,5 @@
+//! Tests that two and eight links are served at once, with a receipt for each.
+
 ghost use Rattle.std.specs.Prelude.{◌≡◌, IfSome, length, map};
 ghost use Rattle.nfs_threads.specs.Worker.{seats_of};
 ghost use Rattle.nfs_shared.specs.Ends.{AreFresh, AreKept};
@@ -45,7 +47,7 @@ fn serve_links<R: Threads + Wait + Sleeper + RandomSource + Sync>(
     serve_links_in::<Brand, R>(rt, alloc, opened, core, &tree)
 }
 
-// The same in a run of this name.
+// Serves this number of links at once, in a run that is named `N`.
 fn serve_links_in<N: Naming + Send + Sync, R: Threads + Wait + Sleeper + Sync>(
     rt: &R,
     alloc: Global,
@@ -65,7 +67,7 @@ fn serve_links_in<N: Naming + Send + Sync, R: Threads + Wait + Sleeper + Sync>(
     }
 }
 
-// The same over a state that is shared.
+// Serves a link at each seat of the shared state that these parts make.
 fn serve_parts<N: Naming + Send + Sync, R: Threads + Wait + Sleeper + Sync>(
     rt: &R,
     alloc: Global,

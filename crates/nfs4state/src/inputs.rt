@@ -1,3 +1,5 @@
+//! Makes what a run of `nfs4state` begins with: the tree of files, a core with random seeds, and the journal's file.
+
 ghost use Rattle.std.specs.Prelude.{◌≡◌, ◌≤◌, [], IfOk, IfSome};
 ghost use Rattle.nfs_owners.specs.Registry.{no_clients};
 

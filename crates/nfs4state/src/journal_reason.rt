@@ -76,7 +76,8 @@ impl Display for Expected {
     }
 }
 
-/// Tells by a line on `errors` why the bytes of this file are no journal: `run.journal: byte 96: expected entry 2 of 7`.
+/// Tells by a line on `errors` why the bytes of this file are no journal, such as
+/// `run.journal: byte 96: expected entry 2 of 7`.
 pub(crate) fn tell_no_journal<E: Eprint>(alloc: Global, errors: &E, path: &str, bytes: &[u8]) {
     let Gap { rest, expected } = first_gap(alloc, bytes);
     let _ = match expected {

@@ -1,3 +1,5 @@
+//! Binds the TCP listener of `serve`, and tells its address, so that a script knows when and where to connect.
+
 use crate::told::tell;
 use jiff::Timestamp;
 use nfs_options::ServeOptions;

@@ -70,8 +70,8 @@ fn words(rt: &HostRuntime) -> io::Result<Vec<String>> {
     Ok(env::args(rt)?.collect(rt.alloc())?)
 }
 
-// `nfs4state once`: records from standard input, replies to standard output, which are one device here, and the journal to
-// its file at the end. None is touched before there is a core.
+// `nfs4state once`: records from standard input, replies to standard output, which are one device here, and the journal
+// to its file at the end. None is touched before there is a core.
 fn once(rt: &HostRuntime, options: &OnceOptions<'_>) -> u8
     requires { IsOnceWithinLimits options.now }
 {

@@ -1,3 +1,5 @@
+//! A file that its first write creates: a run that writes nothing keeps the file that was there.
+
 use std::fs::File;
 use std::io::{self, Write};
 
@@ -20,7 +22,7 @@ impl<'r, 'p> NewFile<'r, 'p> {
 }
 
 impl NewFile<'_, '_> {
-    /// Whether it was made.
+    /// Whether the file was created.
     pub(crate) fn is_made(&self) -> bool {
         self.file.is_some()
     }

@@ -1,3 +1,6 @@
+//! `serve --until-input-ends` and `--until-killed`: serves until the run is ended, keeps the journal as it goes, and
+//! writes lines.
+
 ghost use Rattle.std.specs.Prelude.{◌≡◌, [], ℕ, IsFalse};
 ghost use Rattle.nfs_owners.specs.Registry.{is_live};
 
@@ -7,10 +10,12 @@ use crate::part_file::{PartFile, PartNames};
 use crate::report;
 use nfs_core::{Core, Journal};
 use nfs_options::{ServeOptions, Until};
+use nfs_orders::Answer;
 use nfs_program::{
-    Beginning, Fault, LineKind, Lines, Reporter, Teller, end_ongoing_run, file_buffer, lines_to,
+    Answers, Beginning, Fault, LineKind, Lines, Reporter, Teller, answers_to, end_ongoing_run,
+    file_buffer, lines_to,
 };
-use nfs_threads::{Door, RunEnd, Shift, accept_for, close_at_end, serve_through};
+use nfs_threads::{Door, Orders, RunEnd, Shift, accept_for, close_at_end, serve_through};
 use nfs_tree::Tree;
 use std::alloc::{AllocError, Global};
 use std::net::{Net, TcpListener, TcpStream};
@@ -18,20 +23,22 @@ use std::sync::{Arc, Wait};
 use std::thread::Threads;
 use std::time::{Clock, Duration};
 
-// How many milliseconds the end of a run waits for its last lines at most.
+// How many milliseconds the end of a run waits for its last lines at most, and for its last answers.
 const LAST_LINES_MILLIS: u64 = 1_000;
 
-// A run that goes on, and its lines.
+// A run that goes on, its lines, and its answers, if it goes by orders.
 #[derive(Drop)]
 struct Ongoing<'a, R> {
     rt: &'a HostRuntime,
     threads: &'a R,
     options: &'a ServeOptions<'a>,
     lines: &'a Lines,
+    answers: &'a Option<Arc<Answers, Global>>,
 }
 
-/// Serves one connection after the other, as many at once as the options say, until what they name ends the run. Its lines
-/// are written by a thread of their own, so that nothing waits for standard error, but the end for a second at most.
+/// Serves one connection after the other, as many at once as the options say, until what they name ends the run. Its
+/// lines are written by a thread of their own, so that nothing waits for standard error, but the end for a second at
+/// most. So are the answers to its orders, on standard output.
 pub(crate) fn serve_ongoing<
     R: Threads
         + Wait
@@ -57,15 +64,36 @@ pub(crate) fn serve_ongoing<
         drop(core);
         return report(rt, Fault::NoMemory);
     };
+    let Ok(answers) = answers_of(rt, threads, options) else {
+        drop(core);
+        return report(rt, Fault::NoMemory);
+    };
     let run = Ongoing {
         rt,
         threads: &threads,
         options,
         lines: &lines,
+        answers: &answers,
     };
     let status = run.serve(listening, core, tree);
-    lines.finish(&threads, Duration::from_millis(LAST_LINES_MILLIS));
+    let most = Duration::from_millis(LAST_LINES_MILLIS);
+    if let Some(answers) = &answers {
+        answers.finish(&threads, most);
+    }
+    lines.finish(&threads, most);
     status
+}
+
+// The answers of the run, if it goes by orders.
+fn answers_of<R: Threads + Wait + Clock + Copy + Send + Sync + 'static>(
+    rt: &HostRuntime,
+    threads: R,
+    options: &ServeOptions<'_>,
+) -> Result<Option<Arc<Answers, Global>>, AllocError> {
+    match options.until {
+        Some(Until::OrdersEnd) => Ok(Some(answers_to(rt.alloc(), threads, rt.stdout())?)),
+        _ => Ok(None),
+    }
 }
 
 impl<
@@ -98,7 +126,9 @@ impl<
         };
         let beginning = beginning_of(self.rt, &names, core.journal());
         listening.tell(&self.teller(LineKind::Run), self.rt, tree, self.options);
-        let reporter = Reporter::new(self.threads, self.lines, beginning, self.options.memory);
+        let memory = self.options.memory;
+        let answers = self.answers.as_deref();
+        let reporter = Reporter::new(self.threads, self.lines, answers, beginning, memory);
         let Ok(door) = self.open_door(listening.listener) else {
             drop(core);
             let _ = reporter.end(None);
@@ -108,6 +138,7 @@ impl<
             Ok(run) => {
                 self.tell_no_connection(&run);
                 let status = end_ongoing_run(&mut buffer, &run, reporter, &mut journal);
+                self.answer_end(&door);
                 drop(run);
                 status
             }
@@ -122,16 +153,30 @@ impl<
     // The door for the connections of this listener, which is closed by what is to end the run.
     fn open_door(&self, listener: TcpListener) -> Result<Arc<Door, Global>, AllocError> {
         let (threads, options) = (*self.threads, self.options);
-        let door = Arc::new(self.rt.alloc(), Door::new(options.connections))?;
+        let alloc = self.rt.alloc();
+        let orders = match options.until {
+            Some(Until::OrdersEnd) => Some(Orders::new(alloc)?),
+            _ => None,
+        };
+        let door = Arc::new(alloc, Door::new(options.connections, orders))?;
         if !accept_for(threads, listener, Arc::try_clone(&door)?) {
             return Err(AllocError);
         }
-        if options.until == Some(Until::InputEnds)
+        if options.until != Some(Until::Killed)
             && !close_at_end(threads, self.rt.stdin(), Arc::try_clone(&door)?)
         {
             return Err(AllocError);
         }
         Ok(door)
+    }
+
+    // Answers the order that ended the run, if one did.
+    fn answer_end(&self, door: &Door) {
+        if let Some(answers) = self.answers.as_deref() {
+            if door.is_end_ordered(self.threads) {
+                answers.tell(self.threads, self.lines, Answer::Ended);
+            }
+        }
     }
 
     // Where the input ended before any connection came, a line says which option doesn't look at it.

@@ -1,3 +1,5 @@
+//! The file that has the journal while a run goes on, and the name to which the file of an earlier run is moved.
+
 use crate::new_file::NewFile;
 use nfs_program::Draft;
 use std::alloc::{AllocError, Global};
@@ -12,7 +14,7 @@ pub(crate) struct PartNames {
 }
 
 impl PartNames {
-    /// Those beside the journal's file.
+    /// The names beside the journal's file, whose path is given: `PATH.part` and `PATH.part.old`.
     pub(crate) fn beside(alloc: Global, path: &str) -> Result<PartNames, AllocError> {
         Ok(PartNames {
             part: format!(in alloc; "{path}.part")?,
@@ -35,7 +37,7 @@ pub(crate) struct PartFile<'r, 'n> {
 }
 
 impl<'r, 'n> PartFile<'r, 'n> {
-    /// It isn't touched yet.
+    /// The file of this name, which is created at its first write.
     pub(crate) fn new(rt: &'r HostRuntime, names: &'n PartNames) -> PartFile<'r, 'n> {
         PartFile {
             rt,

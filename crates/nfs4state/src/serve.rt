@@ -1,3 +1,6 @@
+//! The subcommand `serve`: makes tree, core and listener, serves the connections by threads, and ends with the
+//! journal's file.
+
 ghost use Rattle.std.specs.Prelude.{◌≡◌, [], ℕ, IsFalse};
 ghost use Rattle.nfs_options.specs.CommandLine.{IsServeWithinLimits};
 ghost use Rattle.nfs_owners.specs.Registry.{is_live};
@@ -17,8 +20,8 @@ use std::sync::Wait;
 use std::thread::Threads;
 use std::time::Clock;
 
-/// `nfs4state serve`: connections of a TCP listener, and the journal to its file at the end. `threads` is what threads are
-/// started and waited for by; it is of a type parameter, since it goes to those threads.
+/// `nfs4state serve`: connections of a TCP listener, and the journal to its file at the end. `threads` is what threads
+/// are started and waited for by; it is of a type parameter, since it goes to those threads.
 pub(crate) fn serve<
     R: Threads
         + Wait

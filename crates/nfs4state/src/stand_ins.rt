@@ -1,3 +1,5 @@
+//! Opens /dev/null for each closed standard stream, so that no file of a run gets the number of standard error.
+
 use std::fs::{File, OpenOptions};
 use std::os::fd::AsRawFd;
 
@@ -12,14 +14,15 @@ pub(crate) struct StandIns {
 }
 
 impl StandIns {
-    /// None.
+    /// No stand-ins: nothing is opened.
     pub(crate) fn none() -> StandIns {
         StandIns {
             files: [None, None, None],
         }
     }
 
-    /// One for each that is closed, as far as there are files to be had. What is written to it goes nowhere.
+    /// A stand-in for each closed standard stream, as long as files can be opened. What is written to a stand-in is
+    /// discarded.
     pub(crate) fn of(rt: &HostRuntime) -> StandIns {
         let mut stand_ins = StandIns::none();
         for place in &mut stand_ins.files {

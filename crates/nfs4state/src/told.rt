@@ -1,3 +1,5 @@
+//! Lines on standard error that say why a file, an address or a write failed.
+
 use std::fmt::Display;
 use std::io::{self, Eprint, ErrorKind, Write};
 

@@ -46,12 +46,13 @@ in_hand client (Some recall) = if_of client (client_of recall) (recall ∷ [])
 abbrev pub recalls_for : {S D : Type 0} → ℕ → Scene S D → List Recall
 recalls_for client scene = recalls_of (scene.lines client) ++ in_hand client scene.hand
 
--- those that come by a step
+-- the recalls to this client that come by a step
 abbrev pub taken_by : ℕ → Step → List Recall
 taken_by client (Takes recall) = if_of client (client_of recall) (recall ∷ [])
 taken_by client step = []
 
--- Those that leave by a step: a recall that is cancelled, or whose call is over, once that was told.
+-- The recalls to this client that leave by a step: a recall that is cancelled, or whose call is over, once that was
+-- told.
 abbrev pub left_by : ℕ → Step → List Recall
 left_by client (Drops other errand) = if_of client other (recalls_in (errand ∷ []))
 left_by client (Stops other errand why) = if_of client other (recalls_in (errand ∷ []))

@@ -1,3 +1,4 @@
+-- What contracts say of callbacks: the steps of a caller, its lines and connections, and that no recall is lost.
 pub mod Accounts
 pub mod Callers
 pub mod Errands

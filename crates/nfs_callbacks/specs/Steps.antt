@@ -203,6 +203,6 @@ Goes r old [] new = new ≡ old
 Goes {S = S} {D = D} r old (step ∷ steps) new =
     (mid : Scene S D) × IsStep r old step mid × Goes r mid steps new
 
--- nothing but steps
+-- the scene changes by steps of a caller alone
 abbrev pub Happens : {S D : Type 0} → Rules S D → Scene S D → Scene S D → Type 0
 Happens r old new = (steps : List Step) × Goes r old steps new

@@ -50,7 +50,7 @@ pub struct Caller<S, D> {
     can_mark: bool,
     // Whether calls may be begun before the next round: since the last round the system has refused no socket.
     can_begin: bool,
-    // Whether there is more to do at once.
+    // Whether the caller has more to do at once.
     is_behind: bool,
     // When calls were checked last, by the monotonic clock.
     last_round: Duration,

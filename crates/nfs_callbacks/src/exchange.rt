@@ -46,7 +46,7 @@ pub(crate) enum Progress {
 // How far the bytes of one direction are.
 #[derive(Clone, Copy, PartialEq, Eq)]
 enum Flow {
-    // They may go on at once.
+    // Further bytes may go on at once.
     Open,
     // The connection takes or gives nothing for now.
     Blocked,
@@ -75,11 +75,11 @@ pub(crate) struct Exchange {
     is_compound: bool,
     // The call's record.
     call: Vec<u8>,
-    // How many bytes of it are written.
+    // How many bytes of the call's record are written.
     sent_len: usize,
     // The place of the bytes that were read.
     place: Vec<u8>,
-    // How many these are.
+    // How many bytes were read.
     reply_len: usize,
     is_stalled: bool,
     // For how many more checks it goes on if its client has another callback.
@@ -151,7 +151,7 @@ impl Exchange {
         })
     }
 
-    /// Whether it goes on for now, though its client has another callback: as often as it has checks left.
+    /// Whether the exchange goes on for now, though its client has another callback: as often as it has checks left.
     pub(crate) fn use_check(&mut self) -> bool
         ensures { self.new ≡ self.old }
     {
@@ -185,7 +185,7 @@ impl Exchange {
         progress
     }
 
-    /// Whether it has to go on in the next look, whatever the connection tells.
+    /// Whether the exchange has to go on in the next look, whatever the connection tells.
     pub(crate) fn is_stalled(&self) -> bool
         ensures { result ≡ self.now.is_stalled }
     {

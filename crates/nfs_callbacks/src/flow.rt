@@ -16,7 +16,7 @@ pub enum ConnectError {
 pub enum Moved {
     /// So many bytes went through: none if only a signal came.
     Bytes(usize),
-    /// None can for now.
+    /// No byte can go through for now.
     Blocked,
     /// The connection failed, or the peer has ended it.
     Broken(Fault),

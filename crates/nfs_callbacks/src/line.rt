@@ -16,9 +16,9 @@ use std::time::Duration;
 /// What the line of a client waits for.
 #[derive(Clone, Copy, PartialEq, Eq)]
 pub(crate) enum LineState {
-    /// Nothing: no call is to be made.
+    /// The line waits for nothing: no call is to be made.
     Empty,
-    /// Its turn, to begin its first call.
+    /// The line waits for its turn, to begin its first call.
     Ready,
     /// The next round, to try again: the system refused it a socket.
     Refused,
@@ -53,7 +53,7 @@ pub(crate) enum Turn {
     Drops,
     /// The system refused it a socket.
     Refuses,
-    /// What it did is over.
+    /// What the line did is over.
     Clears,
 }
 

@@ -5,7 +5,7 @@ ghost use Rattle.nfs_callbacks.specs.Network.{MovesWithin};
 use crate::flow::{ConnectError, Moved};
 use crate::{Fault, Network};
 use mio::net::TcpStream;
-use mio::{Events, Interest, Poll, Token};
+use mio::{Events, Interest, Poll, Token, Waker};
 use std::alloc::Global;
 use std::collections::{BTreeMap, VecDeque};
 use std::io;
@@ -16,6 +16,9 @@ use std::time::Duration;
 
 // Of how many connections a wait tells at most.
 const EVENT_LIMIT: usize = 512;
+
+// The token of the waker, which is no client's number.
+const WAKER: Token = Token(usize::MAX);
 
 // For what the system refuses a socket that has nothing to do with the peer: EINTR, EAGAIN, ENOMEM, ENFILE, EMFILE,
 // EADDRNOTAVAIL and ENOBUFS, by Linux's numbers.
@@ -48,6 +51,11 @@ impl<'a, N: Net> TcpNetwork<'a, N> {
             ready: VecDeque::with_capacity(alloc, EVENT_LIMIT)?,
             streams: BTreeMap::new(alloc),
         })
+    }
+
+    /// What ends a wait of this network from another thread.
+    pub fn waker(&self) -> io::Result<Waker> {
+        Waker::new(self.poll.registry(), WAKER)
     }
 }
 

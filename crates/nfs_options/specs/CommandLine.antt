@@ -51,9 +51,9 @@ once = with_options (core_options ++ codes "now" ∷ codes "journal" ∷ []) (ne
 -- `serve`, with its options, and with flags for when it ends
 abbrev pub serve : App
 serve = with_options (core_options ++ codes "journal" ∷ codes "memory" ∷ [])
-    (with_rule (with_rule (with_options (codes "listen" ∷ codes "connections" ∷ [])
+    (with_rule (with_rule (with_rule (with_options (codes "listen" ∷ codes "connections" ∷ [])
     (new_app (codes "serve"))) (flag_rule (codes "until-input-ends")))
-    (flag_rule (codes "until-killed")))
+    (flag_rule (codes "until-killed"))) (flag_rule (codes "orders")))
 
 -- `audit`, with its file
 abbrev pub audit : App
@@ -128,19 +128,25 @@ listen_default = codes "127.0.0.1:2049"
 
 -- ---- what the words ask the program to do
 
--- until when `serve` goes on, if a flag says so, of which one at most is given
+-- until when `serve` goes on, if a flag says so; `--orders` stands for `--until-input-ends`, too
 abbrev pub IsUntil : List Row → Option Until → Type 0
 IsUntil rows None = IsFalse (is_given (codes "until-input-ends") rows)
+    × IsFalse (is_given (codes "orders") rows)
     × IsFalse (is_given (codes "until-killed") rows)
 IsUntil rows (Some until.InputEnds) = IsTrue (is_given (codes "until-input-ends") rows)
+    × IsFalse (is_given (codes "orders") rows)
+    × IsFalse (is_given (codes "until-killed") rows)
+IsUntil rows (Some until.OrdersEnd) = IsTrue (is_given (codes "orders") rows)
     × IsFalse (is_given (codes "until-killed") rows)
 IsUntil rows (Some until.Killed) = IsFalse (is_given (codes "until-input-ends") rows)
+    × IsFalse (is_given (codes "orders") rows)
     × IsTrue (is_given (codes "until-killed") rows)
 
--- both flags are given
+-- `--until-killed` is given, and so is a flag for an input that ends
 abbrev pub IsBoth : List Row → Type 0
-IsBoth rows = IsTrue (is_given (codes "until-input-ends") rows)
-    × IsTrue (is_given (codes "until-killed") rows)
+IsBoth rows = IsTrue (is_given (codes "until-killed") rows)
+    × (IsTrue (is_given (codes "until-input-ends") rows)
+    ⊎ IsTrue (is_given (codes "orders") rows))
 
 -- as many connections as `--connections` gives, or the default
 abbrev pub IsConnections : List Row → Option Until → ℕ → Type 0
@@ -232,7 +238,7 @@ LacksOnce rows = LacksLease rows
     ⊎ (LacksEpoch rows
     ⊎ IsNoNumber 0 moment_max (first_of (codes "now") rows))
 
--- the same for `serve`, or both of its flags are given
+-- the same for `serve`, or flags are given that exclude each other
 abbrev pub LacksServe : List Row → Type 0
 LacksServe rows = IsBoth rows
     ⊎ (IsNoNumber 1 connections_max (first_of (codes "connections") rows)
@@ -244,8 +250,8 @@ LacksServe rows = IsBoth rows
 abbrev pub LacksAudit : List Row → Type 0
 LacksAudit rows = first_of (codes "file") rows ≡ None
 
--- what is given for the subcommand of this name can't be followed: there is no file, a number isn't within its limits, or
--- there are two flags of which one can be followed
+-- what is given for the subcommand of this name can't be followed: there is no file, a number isn't within its limits,
+-- or there are flags that exclude each other
 abbrev pub LacksNamed : Name → List Row → Type 0
 LacksNamed name.Once rows = LacksOnce rows
 LacksNamed name.Serve rows = LacksServe rows

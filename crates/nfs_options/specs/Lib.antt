@@ -1,1 +1,2 @@
+-- What contracts say of a command line.
 pub mod CommandLine

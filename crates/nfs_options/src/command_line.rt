@@ -1,3 +1,5 @@
+//! Turns the words of the command line into a subcommand with its options, or says why there is none.
+
 ghost use Rattle.std.specs.Prelude.{◌≡◌, ◌∷◌, [], IfErr, IfOk, List, MatchResult, codes, map, ℕ};
 ghost use Rattle.clap.specs.Words.{found_of, rows_of, subcommand_rows_of};
 ghost use Rattle.nfs_options.specs.declared.declined.Declined.{Declined};
@@ -22,12 +24,13 @@ pub enum Subcommand<'a> {
 }
 
 /// Reads the words of the command line, the first of which is the program's name: `once`, with `--tree FILE`, `--lease
-/// SECONDS` (1 to 86,400, by default 90), `--epoch NUMBER` (0 to 2^32 - 1, by default 1), `--now SECONDS` (0 to 2^40 - 3,
-/// by default 0) and `--journal FILE`; `serve`, with `--listen ADDR` (by default 127.0.0.1:2049), `--connections NUMBER`
-/// (1 to 64, by default 4, or 64 beside one of the flags), one of the flags `--until-input-ends` and `--until-killed` or
-/// none, `--memory MIB` (1 to 1,048,576, by default no bound), and the options of `once` but `--now`; or `audit FILE`. Each option is given at most once. Numbers are decimal
-/// digits without a sign. The program's name alone means `once` without options, and `--help` or `-h`, before or after the
-/// subcommand, asks for help.
+/// SECONDS` (1 to 86,400, by default 90), `--epoch NUMBER` (0 to 2^32 - 1, by default 1), `--now SECONDS` (0 to 2^40 -
+/// 3, by default 0) and `--journal FILE`; `serve`, with `--listen ADDR` (by default 127.0.0.1:2049), `--connections
+/// NUMBER` (1 to 64, by default 4, or 64 beside a flag), the flags `--until-input-ends` and `--orders`, or
+/// `--until-killed`, or none, `--memory MIB` (1 to 1,048,576, by default no bound), and the options of `once` but
+/// `--now`; or `audit FILE`. Each option is given at most once. Numbers are decimal digits without a sign. The
+/// program's name alone means `once` without options, and `--help` or `-h`, before or after the subcommand, asks for
+/// help.
 pub fn options<'a, S: AsStr>(alloc: Global, words: &'a [S]) -> Result<Subcommand<'a>, Declined>
     ensures asked { IfOk result (Asks (map S.text words.now)) }
     ensures limits { IfOk result IsWithinLimits }

@@ -1,10 +1,12 @@
+//! The command line as clap knows it: subcommands, options, and the text of `--help`.
+
 ghost use Rattle.std.specs.Prelude.{◌≡◌, IfOk, codes, false};
 ghost use Rattle.clap.specs.Words.{app_of, rule_of};
 ghost use Rattle.clap.specs.declared.builder.command.Command.TheViews.{out-Command};
 ghost use Rattle.nfs_options.specs.CommandLine.{audit, core_options, flag_rule, once, option_rule, program, serve, with_options, word_rule};
 
 use crate::name::Name;
-use crate::until::{INPUT_ENDS, KILLED};
+use crate::until::{INPUT_ENDS, KILLED, ORDERS};
 use clap::error::ErrorKind;
 use clap::{Arg, ArgAction, Command, Error};
 use std::alloc::{AllocError, Global};
@@ -88,13 +90,19 @@ fn serve_command<'a>(alloc: Global) -> Result<Command<'a>, AllocError>
         KILLED,
         "Take the next connection where one has ended, and go on until killed; standard input is never looked at",
     );
+    let orders = flag(
+        alloc,
+        ORDERS,
+        "As --until-input-ends; each line of standard input is an order, answered on standard output, and time moves by orders alone",
+    );
     let serve = Command::new(alloc, "serve")
         .about("Answers the records on TCP connections, each to its end")
         .after_help(SERVE_NOTE)
         .arg(listen)?
         .arg(connections)?
         .arg(input_ends)?
-        .arg(killed)?;
+        .arg(killed)?
+        .arg(orders)?;
     let memory = option(
         alloc,
         "memory",

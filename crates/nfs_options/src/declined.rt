@@ -1,3 +1,5 @@
+//! What the program prints if the words of the command line ask for no run: help, or the mistake.
+
 ghost use Rattle.std.specs.Prelude.{◌≡◌, ⊤};
 ghost use Rattle.clap.specs.Words.{kind_of};
 ghost use Rattle.nfs_options.specs.CommandLine.{IsDeclinedFor, IsMemoryOr};
@@ -11,9 +13,9 @@ use std::alloc::{AllocError, Global};
 /// Why the words of the command line don't ask for anything that the program can do.
 #[derive(Drop)]
 pub enum Declined {
-    /// They ask for help. This is its text, to be printed on standard output.
+    /// The words ask for help. This is the help's text, to be printed on standard output.
     Help(String),
-    /// They contain a mistake. The text explains it, and is to be printed on standard error.
+    /// The words contain a mistake. This text explains the mistake, and is to be printed on standard error.
     Usage(String),
     /// Memory ran out while they were read.
     Memory,

@@ -1,3 +1,5 @@
+//! The subcommands by name, so that a match over them is complete.
+
 ghost use Rattle.std.specs.Prelude.{◌≡◌};
 ghost use Rattle.nfs_options.specs.CommandLine.{name_of};
 

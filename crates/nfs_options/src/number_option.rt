@@ -1,3 +1,5 @@
+//! Options whose value is a number within limits, with the message for any other value.
+
 ghost use Rattle.std.specs.Prelude.{◌<◌, ◌^◌, IfErr, IfOk, MatchOption, SomeIff, ⊤, ℕ};
 ghost use Rattle.std.specs.Str.Parse.{IsNumeral, digits_value};
 ghost use Rattle.nfs_options.specs.CommandLine.{IsMemoryOr, IsNoNumber, IsNumber, SpellsWithin, text_of};
@@ -60,7 +62,7 @@ impl NumberOption {
         }
     }
 
-    /// The same, where no number that the option may have is above a `u32`.
+    /// The number that `number` gives, as a `u32`, if the option's limits fit into a `u32`.
     pub(crate) fn short_number(
         &self,
         alloc: Global,

@@ -1,3 +1,5 @@
+//! The options of `once`, with their defaults.
+
 ghost use Rattle.std.specs.Prelude.{IfErr, IfOk};
 ghost use Rattle.clap.specs.Words.{found_of, rows_of};
 ghost use Rattle.nfs_options.specs.CommandLine.{IsMemoryOr, IsOnce, IsOnceWithinLimits, LacksOnce};

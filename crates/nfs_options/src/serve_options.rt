@@ -1,3 +1,5 @@
+//! The options of `serve`, with their defaults and limits.
+
 ghost use Rattle.std.specs.Prelude.{◌≡◌, IfErr, IfOk, IfSome, codes};
 ghost use Rattle.clap.specs.Words.{found_of, rows_of};
 ghost use Rattle.nfs_options.specs.CommandLine.{IsMemory, IsMemoryOr, IsMemoryWithinLimits, IsServe, IsServeWithinLimits, LacksMemory, LacksServe, connections_default, connections_max};

@@ -32,9 +32,9 @@ fault_of_audit errors.Memory = NoMemory
 abbrev pub lawful_line : ℕ → List ℕ
 lawful_line count = codes "lawful: " ++ decimal count ++ codes " entries\n"
 
--- How the verdict is told, on a sink, which is taken as a device, with the number of its failed writes and the program's
--- exit status. A lawful journal: its line was written, whole, with 0; or with 1 a beginning of it that isn't all, since
--- a write failed, one. Any other: 1, and the sink is as it was.
+-- How the verdict is told, on a sink, which is taken as a device, with the number of its failed writes and the
+-- program's exit status. A lawful journal: its line was written, whole, with 0; or with 1 a beginning of it that isn't
+-- all, since a write failed, one. Any other: 1, and the sink is as it was.
 abbrev pub IsTold : {W : Type 0} → Device W → (W → ℕ) → W → W → Result ℕ AuditError → ℕ → Type 0
 IsTold device failures old new (Ok count) status =
     ((status ≡ 0) × IsWritten device old (lawful_line count) new

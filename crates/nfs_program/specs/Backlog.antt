@@ -18,14 +18,15 @@ TakesTo old new entries =
 abbrev pub HasNoPlace : ℕ → ℕ → Entry → Type 0
 HasNoPlace capacity len e = ¬ (entry.Fits e) ⊎ (capacity < len + length (entry.encoding e))
 
--- That holds of the first entry that wasn't taken.
+-- The first entry that wasn't taken has no form, or a buffer of this capacity has no room for it after the bytes that
+-- wait.
 abbrev pub HasNoPlaceAt : ℕ → Backlog → List Entry → Type 0
 HasNoPlaceAt capacity backlog entries =
     (e : Entry) × (slice_get entries backlog.count ≡ Some e)
     × HasNoPlace capacity (length backlog.bytes.items) e
 
--- What became of an entry that was to be put behind the bytes that wait. It was: no more than `most` wait then. It wasn't,
--- since there would be more; or since it has no place: nothing changed.
+-- What became of an entry that was to be put behind the bytes that wait. It was: no more than `most` wait then. It
+-- wasn't, since there would be more; or since it has no place: nothing changed.
 abbrev pub Puts : Backlog → Entry → ℕ → Result Bool WireError → Backlog → Type 0
 Puts old e most (Ok true) new =
     (new.bytes.items ≡ old.bytes.items ++ entry.encoding e) × (new.count ≡ old.count + 1)

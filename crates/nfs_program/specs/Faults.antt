@@ -22,16 +22,16 @@ abbrev pub fault_of_shift : Shift → Option Fault
 fault_of_shift shift =
     option_or (first_fault_of shift.connections.items) (if is_refused shift then Some NoMemory else None)
 
--- The fault of the first worker's shift that has one. The list goes by the seats of the workers, which is neither the order in
--- which connections came nor that in which they ended.
+-- The fault of the first worker's shift that has one. The list goes by the seats of the workers, which is neither the
+-- order in which connections came nor that in which they ended.
 abbrev pub first_fault_of_shifts : List Shift → Option Fault
 first_fault_of_shifts [] = None
 first_fault_of_shifts (shift ∷ rest) =
     option_or (fault_of_shift shift) (first_fault_of_shifts rest)
 
 -- The fault of a run: that nobody swept or nobody called clients back, as no thread could be made for that; or else the
--- first of a worker; or else that of the journal's file. The first of these comes before all that a peer can bring about,
--- so no peer can hide it.
+-- first of a worker; or else that of the journal's file. The first of these comes before all that a peer can bring
+-- about, so no peer can hide it.
 abbrev pub fault_of_run : Bool → List Shift → Option Fault → Option Fault
 fault_of_run has_helpers shifts filed =
     if has_helpers then option_or (first_fault_of_shifts shifts) filed else Some NoMemory
@@ -40,8 +40,8 @@ fault_of_run has_helpers shifts filed =
 abbrev pub is_memory_refused : List Shift → Bool
 is_memory_refused = list_any is_refused
 
--- The fault of a run that goes on, in which no peer has a part: that memory or a thread was refused for a worker, for the
--- sweeps or for callbacks; or else that of the journal's file.
+-- The fault of a run that goes on, in which no peer has a part: that memory or a thread was refused for a worker, for
+-- the sweeps or for callbacks; or else that of the journal's file.
 abbrev pub fault_of_ongoing_run : Bool → List Shift → Option Fault → Option Fault
 fault_of_ongoing_run has_helpers shifts filed =
     if has_helpers then (if is_memory_refused shifts then Some NoMemory else filed) else Some NoMemory

@@ -27,8 +27,8 @@ fault_of_tree refused = TreeRefused (number_of refused)
 
 -- What became of a sink, which is taken as a device, with the number of its failed writes, where it was to be given the
 -- file of a journal. No fault: the file was written, whole, and no write failed. Memory ran out: the sink is as it was.
--- It wasn't written: a write failed, one, after a beginning of the file that isn't all of it; or the journal doesn't fit
--- the form of a file, and the sink is as it was.
+-- It wasn't written: a write failed, one, after a beginning of the file that isn't all of it; or the journal doesn't
+-- fit the form of a file, and the sink is as it was.
 abbrev pub IsFiledBy : {J : Type 0} → Device J → (J → ℕ) → J → J → History → Option Fault → Type 0
 IsFiledBy device failures old new journal None =
     IsWritten device old (file.encoding (file_of journal)) new × file.Fits (file_of journal)
@@ -40,7 +40,7 @@ IsFiledBy device failures old new journal (Some FileNotWritten) =
     ⊎ ((file.Fits (file_of journal) → ⊥) × (new ≡ old))
 IsFiledBy device failures old new journal (Some fault) = ⊥
 
--- The same where there may be no sink, since no file of the journal was asked for.
+-- What became of a sink, as `IsFiledBy` says. If no file of the journal was asked for, there is no sink, and no fault.
 abbrev pub IsFiled : {J : Type 0} → Device J → (J → ℕ) → Option J → Option J → History
     → Option Fault → Type 0
 IsFiled device failures None new journal filed = (new ≡ None) × (filed ≡ None)

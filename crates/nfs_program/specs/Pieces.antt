@@ -17,7 +17,8 @@ use Rattle.xdr.specs.Layout.{NO_LIMIT}
 abbrev pub HasRoom : {A : Type 0} → Form A → ℕ → A → Type 0
 HasRoom form capacity value = WAIT_LIMIT + length (form.encoding value) ≤ capacity
 
--- The same of the values of a list, and of their count.
+-- A buffer of this capacity has room for the count of these values, and for the bytes of each, after the bytes that
+-- wait.
 abbrev pub HaveRoom : {A : Type 0} → Form A → ℕ → List A → Type 0
 HaveRoom form capacity values =
     HasRoom u32 capacity (length values) × All (HasRoom form capacity) values
@@ -28,7 +29,7 @@ HasRoomForFile capacity f =
     HasRoom opening capacity f.opening × HaveRoom node capacity f.nodes
     × HaveRoom entry capacity f.entries
 
--- The same of the file of this journal.
+-- There is room for each part of this journal's file.
 abbrev pub HasRoomForFileOf : ℕ → History → Type 0
 HasRoomForFileOf capacity journal = HasRoomForFile capacity (file_of journal)
 
@@ -36,7 +37,7 @@ HasRoomForFileOf capacity journal = HasRoomForFile capacity (file_of journal)
 abbrev pub HasPlace : {A : Type 0} → Form A → ℕ → A → Type 0
 HasPlace form capacity value = form.Fits value × HasRoom form capacity value
 
--- The same of the values of a list, and of their count.
+-- The values of a list and their count fit their forms, and there is room for each of them.
 abbrev pub HavePlace : {A : Type 0} → Form A → ℕ → List A → Type 0
 HavePlace form capacity values =
     (length values ≤ NO_LIMIT) × HasPlace u32 capacity (length values)

@@ -13,8 +13,8 @@ use std::alloc::Global;
 use std::io::Write;
 
 /// Tells whether these bytes are the file of a lawful journal, one in which each answer is the one that the rules give.
-/// Returns the program's exit status: 0 after the line `lawful: K entries` on `sink`, with the number of its entries, or
-/// 1 after a fault, which is reported by a line on `errors`.
+/// Returns the program's exit status: 0 after the line `lawful: K entries` on `sink`, with the number of its entries,
+/// or 1 after a fault, which is reported by a line on `errors`.
 pub fn run_audit<W: Sink, E: Write>(
     alloc: Global,
     bytes: &[u8],

@@ -1,3 +1,5 @@
+//! Encodes a growing journal piece by piece, so that its file can be written while the run goes on.
+
 ghost use Rattle.std.specs.Prelude.{◌≡◌, ◌+◌, ◌-◌, ◌^◌, ◌<◌, ◌≤◌, ◌⊎◌, ◌↔◌, [], IfOk, IsTrue, OnErr, OnOk, length, vec_capacity};
 ghost use Rattle.std.specs.Io.KnownBytes.{Appends};
 ghost use Rattle.nfs_journal.specs.File.{file};
@@ -37,9 +39,16 @@ impl Backlog {
         }
     }
 
+    /// How many of the journal's entries were taken.
+    pub(crate) fn count(&self) -> usize
+        ensures { result ≡ self.now.count }
+    {
+        self.count
+    }
+
     /// Takes the next entries of the journal, which begins with those that were taken before, and returns whether some
-    /// were left: as many as have no more than `PIECE_LEN` bytes together, or one. An error comes only where an entry has
-    /// no form or no room, and those before it were taken.
+    /// were left: as many as have no more than `PIECE_LEN` bytes together, or one. An error comes only where an entry
+    /// has no form or no room, and those before it were taken.
     pub(crate) fn take(&mut self, journal: &Journal) -> Result<bool, WireError>
         ensures whole { TakesTo self.old self.new journal.now.history.entries }
         ensures within { self.old.count ≤ length journal.now.history.entries

@@ -1,14 +1,17 @@
+//! Keeps the beginning of a run's journal in a file, so that a run that is killed leaves a journal.
+
 ghost use Rattle.std.specs.Prelude.{◌≡◌, []};
 
 use crate::Draft;
 use crate::backlog::Backlog;
 use nfs_core::Journal;
+use nfs_orders::OrderError;
 use std::alloc::Global;
 use std::io::{Error, ErrorKind, Write};
 use xdr::WireError;
 
-/// The beginning of a journal that grows, kept in a file of its own: that of the journal before its first entry, and then
-/// whole entries to the end. Where it can't be kept any further, that is told once.
+/// The beginning of a journal that grows, kept in a file of its own: that of the journal before its first entry, and
+/// then whole entries to the end. Where it can't be kept any further, that is told once.
 #[derive(Drop)]
 pub struct Beginning<'a, D> {
     name: &'a str,
@@ -20,7 +23,7 @@ pub struct Beginning<'a, D> {
 #[derive(Drop)]
 enum State {
     Kept(Backlog),
-    // It can't, which isn't told yet.
+    // The file can't be kept any further, and no line has told that yet.
     Lost(Error),
     GivenUp,
 }
@@ -64,6 +67,14 @@ impl<'a, D: Draft> Beginning<'a, D> {
             if let Err(error) = backlog.write_to(&mut self.draft) {
                 self.state = State::Lost(error);
             }
+        }
+    }
+
+    /// How many entries it has, if it is kept.
+    pub(crate) fn count_written(&self) -> Result<usize, OrderError> {
+        match &self.state {
+            State::Kept(backlog) => Ok(backlog.count()),
+            State::Lost(_) | State::GivenUp => Err(OrderError::JournalLost),
         }
     }
 

@@ -1,3 +1,5 @@
+//! The trait by which this crate writes, renames and removes the file of a journal whose run isn't over.
+
 use std::io;
 use std::io::Write;
 

@@ -1,3 +1,5 @@
+//! The faults with which the program fails, with their lines and the exit status.
+
 ghost use Rattle.std.specs.Prelude.{◌≡◌};
 ghost use Rattle.nfs_program.specs.Once.{fault_of, status_of};
 

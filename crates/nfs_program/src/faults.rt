@@ -1,3 +1,5 @@
+//! Chooses the fault that a run reports, if several connections, threads or files failed.
+
 ghost use Rattle.std.specs.Prelude.{◌≡◌, map};
 ghost use Rattle.nfs_program.specs.Faults.{fault_of_ongoing_run, fault_of_run, first_fault_of, first_fault_of_shifts, is_memory_refused};
 
@@ -51,8 +53,8 @@ pub(crate) fn run_fault(has_helpers: bool, shifts: &[Shift], filed: Option<Fault
     }
 }
 
-/// The fault of a run that goes on, of which none of its connections has a part: that memory or a thread was refused for
-/// a worker, for the sweeps or for callbacks; or else that of the journal's file.
+/// The fault of a run that goes on, of which none of its connections has a part: that memory or a thread was refused
+/// for a worker, for the sweeps or for callbacks; or else that of the journal's file.
 pub(crate) fn ongoing_run_fault(
     has_helpers: bool,
     shifts: &[Shift],

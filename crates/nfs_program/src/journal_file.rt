@@ -25,8 +25,8 @@ use xdr::WireError;
 /// longest entry that there can be: what a record can bring, and the longest answer.
 pub const BUFFER_LEN: usize = 524_288;
 
-/// The memory by which the file of a journal is written, if there is a sink for it: to be had before a run, so that none
-/// has to be had at its end.
+/// The memory by which the file of a journal is written, if there is a sink for it: to be had before a run, so that
+/// none has to be had at its end.
 pub fn file_buffer<J>(alloc: Global, file: &Option<J>) -> Result<Vec<u8>, AllocError>
     ensures { IfSome file.now (λ sink. IfOk result (λ buffer. BUFFER_LEN ≤ vec_capacity buffer)) }
 {
@@ -37,8 +37,8 @@ pub fn file_buffer<J>(alloc: Global, file: &Option<J>) -> Result<Vec<u8>, AllocE
 }
 
 /// Writes the file of the journal, if there is a sink for it, by the memory of this buffer, whose bytes are lost, and
-/// which grows where it has no room for a part of the file. Returns why the file wasn't written, if it should have been:
-/// for want of memory only where there is a part that the buffer had no room for.
+/// which grows where it has no room for a part of the file. Returns why the file wasn't written, if it should have
+/// been: for want of memory only where there is a part that the buffer had no room for.
 pub fn file_journal<J: Sink>(
     buffer: &mut Vec<u8>,
     journal: &Journal,

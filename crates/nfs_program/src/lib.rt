@@ -1,7 +1,8 @@
-//! A run of the program, but for its command line: what it needs before it begins, the run over one device, how a run
-//! ends, the journal's file, and the audit of one.
+//! A run of the program, except its command line: what it needs before it begins, the run over one device, and how it
+//! ends. The journal's file and the audit of a journal are here, too.
 #![tactic(auto)]
 
+mod answers;
 mod audit;
 mod backlog;
 mod beginning;
@@ -15,6 +16,7 @@ mod lines;
 mod memory_reach;
 mod numbers;
 mod once;
+mod outgoing;
 mod pieces;
 mod rate;
 mod reached_limits;
@@ -28,6 +30,7 @@ mod values;
 mod waiting;
 mod writing;
 
+pub use answers::Answers;
 pub use audit::run_audit;
 pub use beginning::Beginning;
 pub use draft::Draft;
@@ -42,4 +45,4 @@ pub use reporter::Reporter;
 pub use serve_end::{end_ongoing_run, end_run};
 pub use teller::Teller;
 pub use tree_file::read_tree;
-pub use writing::lines_to;
+pub use writing::{answers_to, lines_to};

@@ -1,3 +1,5 @@
+//! A buffer of fixed size for lines on standard error, so that telling a line takes no memory.
+
 ghost use Rattle.std.specs.Prelude.{◌≡◌, ◌≤◌, length};
 ghost use Rattle.nfs_program.specs.declared.line.TheConstants.{MOST_LEN};
 
@@ -16,7 +18,7 @@ pub(crate) struct Line {
 }
 
 impl Line {
-    /// Nothing yet.
+    /// A text without bytes.
     pub(crate) fn new() -> Line
         ensures { result.len ≡ 0 }
     {

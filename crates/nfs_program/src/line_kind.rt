@@ -1,3 +1,5 @@
+//! The kinds of lines, each of which is limited on its own.
+
 /// What a line is about.
 #[derive(Clone, Copy, PartialEq, Eq)]
 pub enum LineKind {

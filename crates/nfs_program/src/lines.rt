@@ -1,3 +1,5 @@
+//! Passes lines to the thread that writes them, so that no thread of the server waits for standard error.
+
 use crate::LineKind;
 use crate::line::Line;
 use crate::waiting::Waiting;
@@ -15,7 +17,7 @@ pub struct Lines {
 }
 
 impl Lines {
-    /// None yet. All the memory that they ever take is made now.
+    /// No lines. All the memory that lines will ever take is taken now.
     pub(crate) fn new(alloc: Global) -> Result<Lines, AllocError> {
         Ok(Lines {
             waiting: Mutex::new(Waiting::new(alloc)?),

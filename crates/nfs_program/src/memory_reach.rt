@@ -1,3 +1,5 @@
+//! Tells how much of the bound of `--memory` a run has used, at each tenth.
+
 use crate::reached_limits::Reach;
 use nfs_core::Journal;
 use std::cmp::min;
@@ -19,7 +21,7 @@ pub(crate) struct MemoryReach {
 }
 
 impl MemoryReach {
-    /// Nothing was looked at.
+    /// The reach of a run at which nobody has looked, with this bound in MiB.
     pub(crate) fn new(limit: u32) -> MemoryReach {
         MemoryReach {
             limit,

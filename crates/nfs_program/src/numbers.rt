@@ -1,3 +1,5 @@
+//! States the sizes by which a journal's file is written as a law, so that a wrong constant fails the proof.
+
 ghost use Rattle.std.specs.Prelude.{◌≡◌};
 
 use crate::journal_file::BUFFER_LEN;

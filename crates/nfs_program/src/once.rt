@@ -1,3 +1,5 @@
+//! The run of `once`: one input is served, the journal's file is written, and a fault is reported.
+
 ghost use Rattle.std.specs.Prelude.{◌≡◌, ◌-◌, ◌^◌, ◌<◌, ◌↔◌, ◌⊎◌, ℕ, Option, None, Result, Err, IfSome, IsErrOf, IsFalse};
 ghost use Rattle.std.specs.Option.{option_or};
 ghost use Rattle.nfs_owners.specs.Registry.{is_live};
@@ -19,10 +21,10 @@ use nfs_tree::Tree;
 use std::alloc::Global;
 use std::io::Write;
 
-/// Serves one input to its end, with this core, in which no client is live, and the tree for which the core was made. All
-/// calls come at the moment `now`. At the end, also after a fault, the file of the core's journal is written, if there is
-/// a sink for it. Returns the program's exit status: 0, or 1 after a fault, the first of which is reported by a line on
-/// `errors`.
+/// Serves one input to its end, with this core, in which no client is live, and the tree for which the core was made.
+/// All calls come at the moment `now`. At the end, also after a fault, the file of the core's journal is written, if
+/// there is a sink for it. Returns the program's exit status: 0, or 1 after a fault, the first of which is reported by
+/// a line on `errors`.
 pub fn run_once<D: Duplex, E: Write, J: Sink>(
     alloc: Global,
     core: Core,
@@ -38,9 +40,9 @@ pub fn run_once<D: Duplex, E: Write, J: Sink>(
     requires tree { core.journal.nodes ≡ tree.now.nodes }
     requires policy { core.journal.policy ≡ tree.now.policy }
     requires clients { (number : ℕ) → IsFalse (is_live number core.stored.clients) }
-    // The input was served as one connection at this moment, starting from this core; then it was seen to the file of the
-    // journal that the core has at the end; and the status says how both ended. Or memory ran out before anything was read
-    // or written.
+    // The input was served as one connection at this moment, starting from this core; then it was seen to the file of
+    // the journal that the core has at the end; and the status says how both ended. Or memory ran out before anything
+    // was read or written.
     ensures served { (outcome : Result ℕ ServeError) × (filed : Option Fault)
         × (((lent : LentCore) × (clock : Stopped) × (lent' : LentCore) × (clock' : Stopped)
         × (lent.core ≡ core) × IsLent core lent.book × (clock.moment ≡ now)

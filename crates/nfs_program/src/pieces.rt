@@ -30,7 +30,7 @@ pub(crate) fn make_place<T: Wire>(buffer: &mut Vec<u8>, value: &T) -> Result<(),
     Ok(())
 }
 
-/// The same for each of some values, and for their count.
+/// Looks whether each of the values and their count fits its form, and has the buffer grow as `make_place` does.
 pub(crate) fn make_places<T: Wire, V: Values<T>>(
     buffer: &mut Vec<u8>,
     values: &V,

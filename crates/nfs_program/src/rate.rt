@@ -1,3 +1,5 @@
+//! Limits how many lines of a kind are written in a second, and counts the others.
+
 ghost use Rattle.std.specs.Prelude.{◌≡◌, ◌≤◌, nat_lt};
 ghost use Rattle.nfs_program.specs.declared.rate.TheConstants.{MOST_LINES};
 
@@ -16,7 +18,7 @@ pub(crate) struct Rate {
 }
 
 impl Rate {
-    /// None.
+    /// The counts of a second in which no line was told.
     pub(crate) fn new() -> Rate
         ensures told { result.told ≡ 0 }
         ensures left_out { result.left_out ≡ 0 }
@@ -53,7 +55,7 @@ impl Rate {
         is_later
     }
 
-    /// Whether some were left out.
+    /// Whether lines were left out.
     pub(crate) fn has_left_out(&self) -> bool
         ensures { result ≡ nat_lt 0 self.now.left_out }
     {

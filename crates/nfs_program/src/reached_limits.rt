@@ -1,3 +1,5 @@
+//! Tells once which limits a run has reached: live clients, entries of the journal, and memory of the entries.
+
 ghost use Rattle.std.specs.Prelude.{◌≡◌, length, nat_le};
 ghost use Rattle.nfs_program.specs.declared.reached_limits.Reach.TheVariants as reaches;
 ghost use Rattle.nfs_program.specs.ReachedLimits.{after_telling, noted};
@@ -22,7 +24,7 @@ pub(crate) struct ReachedLimits {
 #[derive(Clone, Copy, PartialEq, Eq)]
 pub(crate) enum Reach {
     Below,
-    /// It has reached it, which wasn't told yet.
+    /// The run has reached the limit, and no line has told that yet.
     Reached,
     Told,
 }
@@ -38,7 +40,7 @@ impl Reach {
         }
     }
 
-    // The same once it is told, if that is due.
+    // What is known of the limit after a line has told that it was reached, if such a line was due.
     fn told<E: Write>(self, lines: &mut E, what: &str, limit: usize) -> Reach
         ensures { result ≡ after_telling self }
     {
@@ -53,7 +55,7 @@ impl Reach {
 }
 
 impl ReachedLimits {
-    /// None. The memory of the entries has a bound of so many MiB, if it has one.
+    /// No limit is reached. The memory of the entries has a bound of so many MiB, if it has one.
     pub(crate) fn new(memory: Option<u32>) -> ReachedLimits
         ensures clients { result.clients ≡ reaches.Below }
         ensures journal { result.journal ≡ reaches.Below }

@@ -1,20 +1,25 @@
+//! The watcher of a run that goes on: it writes lines about the run, and keeps the journal's beginning.
+
 use crate::line::Line;
 use crate::shown_bytes::ShownBytes;
 use crate::sight::Sight;
-use crate::{Beginning, Draft, Fault, LineKind, Lines, Teller};
+use crate::{Answers, Beginning, Draft, Fault, LineKind, Lines, Teller};
 use nfs_callbacks::Fault as CallbackFault;
 use nfs_core::{Core, Journal};
+use nfs_orders::{Answer, OrderError};
 use nfs_server::ServeError;
 use nfs_threads::{Peer, Watcher};
 use nfs_xdr::Callback;
 use std::sync::{Mutex, Wait};
 use std::time::Clock;
 
-/// Watches a run that goes on: tells by lines what becomes of it, and keeps the beginning of its journal, if that is wanted.
+/// Watches a run that goes on: tells by lines what becomes of it, and keeps the beginning of its journal, if that is
+/// wanted. It passes the answers to the run's orders on.
 #[derive(Drop)]
 pub struct Reporter<'a, R, D> {
     rt: &'a R,
     lines: &'a Lines,
+    answers: Option<&'a Answers>,
     sight: Mutex<Sight<'a, D>>,
 }
 
@@ -24,6 +29,7 @@ impl<'a, R: Wait + Clock, D: Draft + Drop> Reporter<'a, R, D> {
     pub fn new(
         rt: &'a R,
         lines: &'a Lines,
+        answers: Option<&'a Answers>,
         beginning: Option<Beginning<'a, D>>,
         memory: Option<u32>,
     ) -> Reporter<'a, R, D> {
@@ -34,11 +40,13 @@ impl<'a, R: Wait + Clock, D: Draft + Drop> Reporter<'a, R, D> {
         Reporter {
             rt,
             lines,
+            answers,
             sight: Mutex::new(sight),
         }
     }
 
-    /// Looks once more, when the run has ended, how much memory its entries count, and whether a call was refused for that.
+    /// Looks once more, when the run has ended, how much memory its entries count, and whether a call was refused for
+    /// that.
     pub(crate) fn look_at_memory(&self, journal: &Journal) {
         let mut sight = self.sight.lock(self.rt);
         sight.look_at_memory(journal);
@@ -47,10 +55,16 @@ impl<'a, R: Wait + Clock, D: Draft + Drop> Reporter<'a, R, D> {
         self.lines.tell(self.rt, LineKind::Journal, &text);
     }
 
-    /// Ends with the run. The beginning of the journal is brought up to the last entry of this one; where there is none,
-    /// it isn't wanted any more, and is removed. How many lines were left out is told. Returns what tells the rest.
+    /// Ends with the run. The beginning of the journal is brought up to the last entry of this one; where there is
+    /// none, it isn't wanted any more, and is removed. How many lines were left out is told. Returns what tells the
+    /// rest.
     pub fn end(self, journal: Option<&Journal>) -> Teller<'a, R> {
-        let Reporter { rt, lines, sight } = self;
+        let Reporter {
+            rt,
+            lines,
+            answers: _,
+            sight,
+        } = self;
         if let Some(mut beginning) = sight.into_inner().into_beginning() {
             match journal {
                 Some(journal) => beginning.complete(journal),
@@ -117,6 +131,16 @@ impl<'a, R: Wait + Clock, D: Draft> Watcher for Reporter<'a, R, D> {
 
     fn look(&self, core: &Core) -> bool {
         self.sight.lock(self.rt).look(core)
+    }
+
+    fn count_written(&self) -> Result<usize, OrderError> {
+        self.sight.lock(self.rt).count_written()
+    }
+
+    fn tell_answer(&self, answer: Answer) {
+        if let Some(answers) = self.answers {
+            answers.tell(self.rt, self.lines, answer);
+        }
     }
 
     fn write_down(&self) {

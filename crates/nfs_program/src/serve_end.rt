@@ -1,3 +1,5 @@
+//! Ends a run of `serve`: writes the journal's file, and decides which fault is reported.
+
 ghost use Rattle.std.specs.Prelude.{◌≡◌, ◌-◌, ◌^◌, ◌<◌, vec_capacity, IfSome, Option, Some};
 ghost use Rattle.nfs_program.specs.Faults.{fault_of_ongoing_run, fault_of_run};
 ghost use Rattle.nfs_server.specs.Device.{device_of_sink};
@@ -17,9 +19,9 @@ use std::time::Clock;
 
 /// Ends a run of connections by what it left. The file of the core's journal is written, also after a
 /// fault, if there is a sink for it, by the memory of this buffer. Returns the program's exit status: 0, or 1 after a
-/// fault. If nobody swept or nobody called clients back, the fault is that there was no memory for it; or else it is that
-/// of the first connection in the list that had one, or else that of the journal's file. It is reported by a line on
-/// `errors`, behind one that tells that the memory of the entries, of so many MiB, was full, if it was.
+/// fault. If nobody swept or nobody called clients back, the fault is that there was no memory for it; or else it is
+/// that of the first connection in the list that had one, or else that of the journal's file. It is reported by a line
+/// on `errors`, behind one that tells that the memory of the entries, of so many MiB, was full, if it was.
 pub fn end_run<E: Write, J: Sink>(
     buffer: &mut Vec<u8>,
     run: &RunEnd,
@@ -28,8 +30,8 @@ pub fn end_run<E: Write, J: Sink>(
     journal: &mut Option<J>,
 ) -> u8
     requires files { IfSome journal.old (λ sink. J.failures sink < 2 ^ 64 - 1) }
-    // The file was seen to: memory for it was wanting only where the buffer had no room for a part of it. And the status is
-    // that of the run's fault: that it had no helpers, or else the first of a connection, or else the file's.
+    // The file was seen to: memory for it was wanting only where the buffer had no room for a part of it. And the
+    // status is that of the run's fault: that it had no helpers, or else the first of a connection, or else the file's.
     ensures ended { (filed : Option Fault)
         × IsFiled (device_of_sink J.takes J.fails) J.failures journal.old journal.new
         run.now.core.journal filed

@@ -1,3 +1,5 @@
+//! Prints bytes that a client chose, so that no client can forge a line or a terminal's control sequence.
+
 use std::fmt;
 use std::fmt::{Display, Formatter};
 

@@ -1,6 +1,9 @@
+//! What the reporter has seen and not yet told: the limits, and the journal's next entries.
+
 use crate::reached_limits::ReachedLimits;
 use crate::{Beginning, Draft};
 use nfs_core::{Core, Journal};
+use nfs_orders::OrderError;
 use std::io::Write;
 
 /// What was seen of a run that goes on.
@@ -13,7 +16,7 @@ pub(crate) struct Sight<'a, D> {
 }
 
 impl<'a, D: Draft> Sight<'a, D> {
-    /// Nothing was seen. The memory of the entries has a bound of so many MiB, if it has one.
+    /// The sight of a run that nobody has seen. The memory of the entries has a bound of so many MiB, if it has one.
     pub(crate) fn new(beginning: Option<Beginning<'a, D>>, memory: Option<u32>) -> Sight<'a, D> {
         Sight {
             limits: ReachedLimits::new(memory),
@@ -22,7 +25,8 @@ impl<'a, D: Draft> Sight<'a, D> {
         }
     }
 
-    /// Looks at the limits and at the next of the journal's entries. Returns whether there may be something to write down.
+    /// Looks at the limits and at the next of the journal's entries. Returns whether there may be something to write
+    /// down.
     pub(crate) fn look(&mut self, core: &Core) -> bool {
         if self.is_level {
             self.is_level = false;
@@ -46,6 +50,14 @@ impl<'a, D: Draft> Sight<'a, D> {
     pub(crate) fn write(&mut self) {
         if let Some(beginning) = &mut self.beginning {
             beginning.write();
+        }
+    }
+
+    /// How many entries the beginning of the journal has, if it is kept.
+    pub(crate) fn count_written(&self) -> Result<usize, OrderError> {
+        match &self.beginning {
+            Some(beginning) => beginning.count_written(),
+            None => Err(OrderError::NoJournal),
         }
     }
 

@@ -1,3 +1,5 @@
+//! Sends the lines of one kind to the thread that writes them, by std's trait for standard error.
+
 use crate::line::Line;
 use crate::{LineKind, Lines};
 use std::fmt::Display;
@@ -15,7 +17,7 @@ pub struct Teller<'a, R> {
 }
 
 impl<'a, R: Wait + Clock> Teller<'a, R> {
-    /// For these lines.
+    /// A teller of this kind for these lines.
     pub fn new(rt: &'a R, lines: &'a Lines, kind: LineKind) -> Teller<'a, R> {
         Teller { rt, lines, kind }
     }

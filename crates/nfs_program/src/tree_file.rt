@@ -1,3 +1,5 @@
+//! Reads the document of `--tree`, which has to be UTF-8 first.
+
 ghost use Rattle.std.specs.Prelude.{◌≡◌, IsUtf8};
 ghost use Rattle.nfs_tree.specs.Building.{Makes, tree_of};
 

@@ -11,7 +11,7 @@ pub(crate) trait Values<T> {
     /// The values.
     ghost values: { Self → List T };
 
-    /// How many there are.
+    /// How many values there are.
     fn count(&self) -> usize
         ensures { result ≡ length (values self.now) };
 

@@ -1,45 +1,36 @@
-ghost use Rattle.std.specs.Prelude.{◌≡◌, ◌++◌, ◌≤◌, if◌then◌else◌, IsTrue, vec_len};
-ghost use Rattle.nfs_program.specs.declared.waiting.TheConstants.{ROOM};
+//! The lines that wait for the thread that writes them, in memory that was taken when the run began.
+
+ghost use Rattle.std.specs.Prelude.{◌≡◌, IsTrue};
 
 use crate::LineKind;
 use crate::line::Line;
+use crate::outgoing::Outgoing;
 use crate::rate::Rate;
 use std::alloc::{AllocError, Global};
 use std::io::Write;
-use std::mem;
-
-/// How many bytes wait at most.
-pub(crate) const ROOM: usize = 65_536;
 
 /// Lines that wait to be written, in memory that is there beforehand and doesn't grow.
 #[derive(Drop)]
 pub(crate) struct Waiting {
-    bytes: Vec<u8>,
+    outgoing: Outgoing,
     // How many lines found no room, which wasn't told yet.
     lost: u64,
     connections: Rate,
     callbacks: Rate,
     journal: Rate,
     run: Rate,
-    // Whether bytes were taken that aren't written yet.
-    is_taken: bool,
-    // Whether no more lines come.
-    is_closed: bool,
-    ghost most: { vec_len bytes ≤ ROOM },
 }
 
 impl Waiting {
-    /// None. All the memory that they ever take is made now.
+    /// No lines. All the memory that waiting lines will ever take is taken now.
     pub(crate) fn new(alloc: Global) -> Result<Waiting, AllocError> {
         Ok(Waiting {
-            bytes: Vec::with_capacity(alloc, ROOM)?,
+            outgoing: Outgoing::new(alloc)?,
             lost: 0,
             connections: Rate::new(),
             callbacks: Rate::new(),
             journal: Rate::new(),
             run: Rate::new(),
-            is_taken: false,
-            is_closed: false,
         })
     }
 
@@ -93,7 +84,7 @@ impl Waiting {
 
     // Puts a line behind those that wait. Where there is no room for it, so many lines count as lost.
     fn put(&mut self, line: &[u8], count: u64) {
-        if !self.tell_lost() || !self.put_whole(line) {
+        if !self.tell_lost() || !self.outgoing.put(line) {
             self.lost = self.lost.saturating_add(count);
         }
     }
@@ -112,52 +103,41 @@ impl Waiting {
             "{} lines lost: standard error took no more",
             self.lost
         );
-        let has_room = self.put_whole(line.bytes());
+        let has_room = self.outgoing.put(line.bytes());
         if has_room {
             self.lost = 0;
         }
         has_room
     }
 
-    // Puts these bytes to the end, if there is room for all of them, and returns whether there was.
-    fn put_whole(&mut self, bytes: &[u8]) -> bool
-        ensures { self.new.bytes.items
-            ≡ (if result then self.old.bytes.items ++ bytes.now else self.old.bytes.items) }
-    {
-        let room = ROOM.saturating_sub(self.bytes.len());
-        bytes.len() <= room && self.bytes.extend_from_slice(bytes).is_ok()
-    }
-
     /// No more lines come. What is to be told of those that came is told.
     pub(crate) fn close(&mut self) {
         self.tell_left_out();
         self.tell_lost();
-        self.is_closed = true;
+        self.outgoing.close();
     }
 
-    /// Takes the bytes that wait, in exchange for this memory, whose own are lost. Returns whether these are some, or more
-    /// may come.
+    /// Takes the bytes that wait, in exchange for this memory, whose own are lost. Returns whether these are some, or
+    /// more may come.
     pub(crate) fn take(&mut self, memory: &mut Vec<u8>) -> bool
-        ensures { memory.new.items ≡ self.old.bytes.items }
+        ensures { memory.new.items ≡ self.old.outgoing.bytes.items }
     {
-        memory.clear();
-        mem::swap(&mut self.bytes, memory);
-        self.is_taken = true;
+        let goes_on = self.outgoing.take(memory);
         self.tell_lost();
-        !memory.is_empty() || !self.is_closed
+        goes_on
     }
 
     /// What was taken is written.
     pub(crate) fn note_written(&mut self) {
-        self.is_taken = false;
+        self.outgoing.note_written();
     }
 
     /// Whether nothing waits, and more may come.
     pub(crate) fn is_idle(&self) -> bool {
-        self.bytes.is_empty() && !self.is_closed
+        self.outgoing.is_idle()
     }
 
-    /// Whether some were left out, which isn't told yet.
+    /// Whether lines were left out, and no line has told that yet.
     pub(crate) fn has_left_out(&self) -> bool {
         self.connections.has_left_out()
             || self.callbacks.has_left_out()
@@ -167,6 +147,6 @@ impl Waiting {
 
     /// Whether all that came is written.
     pub(crate) fn is_written(&self) -> bool {
-        self.bytes.is_empty() && !self.is_taken
+        self.outgoing.is_written()
     }
 }

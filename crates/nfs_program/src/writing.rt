@@ -1,5 +1,7 @@
-use crate::Lines;
-use crate::waiting::ROOM;
+//! The threads that write a run's lines on standard error and its answers on standard output, and may wait there.
+
+use crate::outgoing::ROOM;
+use crate::{Answers, Lines};
 use std::alloc::{AllocError, Global};
 use std::io::{ErrorKind, Write};
 use std::sync::{Arc, Wait};
@@ -25,6 +27,37 @@ pub fn lines_to<
     }
 }
 
+/// Answers that go to this output by a thread that nobody waits for, likewise.
+pub fn answers_to<
+    R: Threads + Wait + Clock + Copy + Send + Sync + 'static,
+    O: Write + Send + Drop + 'static,
+>(alloc: Global, rt: R, output: O) -> Result<Arc<Answers, Global>, AllocError> {
+    let answers = Arc::new(alloc, Answers::new(alloc)?)?;
+    let memory = Vec::with_capacity(alloc, ROOM)?;
+    let taken = Arc::try_clone(&answers)?;
+    match thread::spawn(&rt, move || write_answers(rt, output, taken, memory)) {
+        Ok(_) => Ok(answers),
+        Err(_) => Err(AllocError),
+    }
+}
+
+// Writes the answers as they come, until no more come.
+fn write_answers<R: Wait + Clock + Copy, O: Write + Drop>(
+    rt: R,
+    mut output: O,
+    answers: Arc<Answers, Global>,
+    mut memory: Vec<u8>,
+) {
+    for _ in rt.forever() {
+        let may_come = answers.take(&rt, &mut memory);
+        write_bytes(&rt, &mut output, memory.as_slice());
+        answers.note_written(&rt);
+        if !may_come {
+            return;
+        }
+    }
+}
+
 // Writes the lines as they come, until no more come.
 fn write_each<R: Wait + Clock + Copy, E: Write + Drop>(
     rt: R,
@@ -42,14 +75,15 @@ fn write_each<R: Wait + Clock + Copy, E: Write + Drop>(
     }
 }
 
-// Writes these bytes, by as many writes as it takes. At an error the rest is let go, since there is no other place for it.
-fn write_bytes<R: Wait + Clock, E: Write>(rt: &R, errors: &mut E, bytes: &[u8]) {
+// Writes these bytes, by as many writes as it takes. At an error the rest is let go, since there is no other place for
+// it.
+fn write_bytes<R: Wait + Clock, O: Write>(rt: &R, output: &mut O, bytes: &[u8]) {
     let mut rest = bytes;
     for _ in rt.forever() {
         if rest.is_empty() {
             return;
         }
-        match errors.write(rest) {
+        match output.write(rest) {
             Ok(count) if count > 0 => rest = &rest[count..],
             Err(error) if error.kind() == ErrorKind::Interrupted => {}
             Err(error) if error.kind() == ErrorKind::WouldBlock => {

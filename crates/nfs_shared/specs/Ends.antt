@@ -120,8 +120,8 @@ HasEnded deeds client =
     ⊎ Contains deeds (book.Retire client)
     ⊎ ((later : ℕ) × IsTrue (is_earlier client later) × WasOpened deeds later)
 
--- These deeds bear out what a seat found of leases: one whose renewal it was answered, or tried, was opened, and one that
--- it found closed had ended.
+-- These deeds bear out what a seat found of leases: one whose renewal it was answered, or tried, was opened, and one
+-- that it found closed had ended.
 pub record IsBorneOutBy (deeds : List BookEvent) (events : List Event) : Type 0 where
   pub renewed : (client moment found : ℕ) → Contains events (event client (Renew moment found))
       → WasOpened deeds client

@@ -46,8 +46,8 @@ waiting hand left = option_to_list hand ++ left.pending
 -- empty server; no two opens break each other's deny modes; no byte is held by two lock owners unless both read; no
 -- write delegation stands beside another client's open or delegation; every stateid names a live owner.
 pub record IsHeld (held : HeldView) : Type 0 where
-  -- "the state is what the rules give for its own stored journal from an empty server": the journal that is stored leads
-  -- to the state, entry by entry
+  -- "the state is what the rules give for its own stored journal from an empty server": the journal that is stored
+  -- leads to the state, entry by entry
   pub lawful : IsLawful held.server
   -- The rest of the sentence, and more: no open may do what another owner's open denies (`compatible`); no byte is held
   -- by two lock owners, unless both hold it for reading (`locks_compatible`); no write delegation stands beside another
@@ -84,8 +84,8 @@ pub record CanBeHeld (origin : History) (value : HeldView) : Type 0 where
   pub start : start_of value.server.journal ≡ origin
 
 -- As far as the sender can tell, the lock may guard this value, in a run with this start: it is one as the lock guards,
--- what the sender took, and what it knows to be put, begins what was put into the queue, and no more entries came by the
--- sender than are no calls. All that the sender took is known to be taken.
+-- what the sender took, and what it knows to be put, begins what was put into the queue, and no more entries came by
+-- the sender than are no calls. All that the sender took is known to be taken.
 pub record SenderMayFind (origin : History) (sender : SenderView) (value : HeldView) : Type 0 where
   pub held : IsHeld value
   pub start : start_of value.server.journal ≡ origin
@@ -99,15 +99,15 @@ abbrev pub HasLooked : History → SenderView → SenderView → Type 0
 HasLooked origin old new =
     (value : HeldView) × SenderMayFind origin old value × (new ≡ with_known value.put old)
 
--- As far as the sweeper can tell, the lock may guard this value, in a run with this start: it is one as the lock guards,
--- and no more entries came by the sweeper than are no calls.
+-- As far as the sweeper can tell, the lock may guard this value, in a run with this start: it is one as the lock
+-- guards, and no more entries came by the sweeper than are no calls.
 pub record SweeperMayFind (origin : History) (sweeper : SweeperView) (value : HeldView)
     : Type 0 where
   pub held : IsHeld value
   pub start : start_of value.server.journal ≡ origin
   pub count : sweeper.count ≤ others_in value.server.journal.entries
 
--- and one entry came by it
+-- the sender finds the shared state, makes one entry, and counts it
 abbrev pub HasMarked : History → SenderView → SenderView → Type 0
 HasMarked origin old new =
     (looked : SenderView) × HasLooked origin old looked × (new ≡ with_mark looked)
@@ -132,7 +132,8 @@ pub record Moves (old new : HeldView) : Type 0 where
 abbrev pub HasOneMore : List Recall → List Recall → Type 0
 HasOneMore old new = (recall : Recall) × (new ≡ old ++ recall ∷ [])
 
--- none waits, or at least as many were put as the queue has room for, beside those that are known to be taken
+-- no recall waits, or at least as many recalls were put as the queue has room for, beside those that are known to be
+-- taken
 abbrev pub IsMoved : HeldView → Type 0
 IsMoved held =
     (waiting held.hand held.server.recalls ≡ [])

@@ -1,3 +1,4 @@
+-- What contracts say of the locked state, its seats and receipts, and the queue of recalls.
 pub mod Deeds
 pub mod Ends
 pub mod Held

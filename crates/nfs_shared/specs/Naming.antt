@@ -28,8 +28,8 @@ pub record OpenedView : Type 0 where
 abbrev pub start_of : History → History
 start_of journal = record journal { entries = [] }
 
--- A run of this name, with this start, can begin with what was opened and with this core: these are what the name stands
--- for, the leases last as long as the journal says, the journal is empty, and no client is live.
+-- A run of this name, with this start, can begin with what was opened and with this core: these are what the name
+-- stands for, the leases last as long as the journal says, the journal is empty, and no client is live.
 pub record CanBegin (name : OpenedView) (origin : History) (opened : OpenedView) (core : Server)
     : Type 0 where
   pub run : opened ≡ name

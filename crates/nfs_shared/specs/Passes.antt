@@ -13,17 +13,17 @@ pub record PassView : Type 0 where
   -- what is known to be taken, or put, by the other one
   pub known : List Recall
 
--- with one recall more
+-- the pass, with one recall more
 abbrev pub with_recall : Recall → PassView → PassView
 with_recall recall pass = record pass { recalls = pass.recalls ++ recall ∷ [] }
 
 abbrev pub log_of : Pass Recall Log → Log
 log_of token = view token
 
--- it is a pass by which recalls are put
+-- the pass is one by which recalls are put
 abbrev pub IsPutter : Pass Recall Log → Type 0
 IsPutter token = (token.me.1 ≡ []) × (log_of token ≡ putter (log_of token).put (log_of token).taken)
 
--- and one by which they are taken
+-- the pass is one by which recalls are taken
 abbrev pub IsTaker : Pass Recall Log → Type 0
 IsTaker token = (token.me.1 ≡ []) × (log_of token ≡ taker (log_of token).put (log_of token).taken)

@@ -12,7 +12,7 @@ RenewsAs None moment answer old new = (answer ≡ None) × (new ≡ old)
 RenewsAs (Some client) moment None old new = ⊥
 RenewsAs (Some client) moment (Some answer) old new = Renews old client moment answer new
 
--- the same, whatever the answer
+-- The seat gains just the events of one renewal of the lease of the client with this number, whatever the answer.
 abbrev pub RenewsFor : Option ℕ → ℕ → Sitting → Sitting → Type 0
 RenewsFor number moment old new = (answer : Option Renewal) × RenewsAs number moment answer old new
 

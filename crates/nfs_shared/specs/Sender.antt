@@ -10,7 +10,7 @@ pub record SenderView : Type 0 where
   -- how many entries of the journal came by it
   pub count : ℕ
 
--- with one recall more
+-- the sender, which has taken one recall more
 abbrev pub with_taken : Recall → SenderView → SenderView
 with_taken recall sender = record sender { taken = sender.taken ++ recall ∷ [] }
 
@@ -18,6 +18,6 @@ with_taken recall sender = record sender { taken = sender.taken ++ recall ∷ []
 abbrev pub with_known : List Recall → SenderView → SenderView
 with_known recalls sender = record sender { known_put = recalls }
 
--- with one entry more
+-- the sender, which has made one entry more
 abbrev pub with_mark : SenderView → SenderView
 with_mark sender = record sender { count = sender.count + 1 }

@@ -36,11 +36,11 @@ use nfs_state::{Request, SeenCall};
 use nfs_words::WordDesk;
 use nfs_xdr::{OpResult, Refusal};
 use std::marker::Model;
-use std::sync::ledger::Book;
+use std::sync::ledger::{Book, Share};
 
-/// The core with its journal and the keeper's book of its clients' leases, the register of the receipts for its entries,
-/// the number of the entries that are no calls, the right to put recalls into the queue, and a recall that found no room
-/// there.
+/// The core with its journal and the keeper's book of its clients' leases, the register of the receipts for its
+/// entries, the number of the entries that are no calls, the right to put recalls into the queue, and a recall that
+/// found no room there.
 #[derive(Drop)]
 pub struct Held<N: Naming> {
     pub(crate) leased: LeasedCore<WordDesk>,
@@ -59,7 +59,8 @@ impl<N: Naming> Held<N> {
         &self.leased.core
     }
 
-    /// How many recalls wait for room in the queue. Where a hold of the lock ends, they go there as far as there is room.
+    /// How many recalls wait for room in the queue. Where a hold of the lock ends, they go there as far as there is
+    /// room.
     pub fn waiting(&self) -> usize
         ensures { result ≡ length (waiting self.now.hand self.now.server.recalls) }
     {
@@ -109,8 +110,9 @@ impl<N: Naming> Model for Held<N> {
         × (h.put.queue ≡ N.run.queue) };
 }
 
-/// Has the core answer an operation, and makes the receipt for its entry. The leases of the clients that become live by it
-/// are opened, and those of the clients that are replaced are retired. It renews no lease: the caller does that, before.
+/// Has the core answer an operation, and makes the receipt for its entry. The leases of the clients that become live by
+/// it are opened, and those of the clients that are replaced are retired. It renews no lease: the caller does that,
+/// before.
 pub fn call_held<N: Naming>(
     held: &mut Held<N>,
     seat: &mut Seat<N>,
@@ -192,9 +194,9 @@ fn call_at(core: &Core, number: u32) -> SeenCall
 }
 
 /// Goes through the live clients, and removes each whose lease is over at `now`, but for those that are renewed between
-/// the look and the closing, and those for whose entry there is no room. Then it revokes the delegations that are due, and
-/// then forgets the open owners that may be forgotten, until none is left of both, or there is no room for an entry. No
-/// receipt is made: the entries are the sweeper's.
+/// the look and the closing, and those for whose entry there is no room. Then it revokes the delegations that are due,
+/// and then forgets the open owners that may be forgotten, until none is left of both, or there is no room for an
+/// entry. No receipt is made: the entries are the sweeper's.
 pub fn sweep_held<N: Naming>(held: &mut Held<N>, sweeper: &mut Sweeper<N>, now: Moment) -> Swept
     ensures sweeps { Sweeps Happens now (leased_server held.old.server held.old.leases) result
         (leased_server held.new.server held.new.leases) }
@@ -235,21 +237,67 @@ pub fn enter_held<N: Naming>(
     ensures places { held.new.places ≡ held.old.places }
     ensures receipts { held.new.receipts ≡ held.old.receipts }
 {
+    enter_counted(held, &mut sender.share, event)
+}
+
+/// Enters an event that ends no client, as `enter_held` does. The entry is the sweeper's.
+pub fn enter_ordered<N: Naming>(
+    held: &mut Held<N>,
+    sweeper: &mut Sweeper<N>,
+    event: Event,
+) -> Result<u32, CoreError>
+    requires { EndsNoClient event }
+    ensures enters { IfOk result (Enters held.old.server held.new.server (entry_by event)) }
+    ensures error { IfErr result (IsNotEntered held.old.server event) }
+    ensures known { SweeperMayFind N.start sweeper.old held.old }
+    ensures same { OnErr result (AreAlike held.old.server held.new.server) }
+    ensures count { OnOk result (sweeper.new.count ≡ sweeper.old.count + 1) }
+    ensures uncounted { OnErr result (sweeper.new ≡ sweeper.old) }
+    ensures leases { held.new.leases ≡ held.old.leases }
+    ensures queue { HasQueued held.old held.new }
+    ensures places { held.new.places ≡ held.old.places }
+    ensures receipts { held.new.receipts ≡ held.old.receipts }
+{
+    held.other_count.audit(&mut sweeper.share);
+    enter_counted(held, &mut sweeper.share, event)
+}
+
+// Enters an event that ends no client, and counts the entry in this share.
+fn enter_counted<N: Naming>(
+    held: &mut Held<N>,
+    share: &mut Share<OtherLedger<N>>,
+    event: Event,
+) -> Result<u32, CoreError>
+    requires ends { EndsNoClient event }
+    requires part { 0 < share.old.parts }
+    ensures enters { IfOk result (Enters held.old.server held.new.server (entry_by event)) }
+    ensures error { IfErr result (IsNotEntered held.old.server event) }
+    ensures known { CanBeHeld N.start held.old }
+    ensures same { OnErr result (AreAlike held.old.server held.new.server) }
+    ensures room { OnErr result (held.old.server.room ≤ held.new.server.room) }
+    ensures count { OnOk result (share.new.amount ≡ share.old.amount + 1) }
+    ensures uncounted { OnErr result (share.new ≡ share.old) }
+    ensures parts { share.new.parts ≡ share.old.parts }
+    ensures leases { held.new.leases ≡ held.old.leases }
+    ensures queue { HasQueued held.old held.new }
+    ensures places { held.new.places ≡ held.old.places }
+    ensures receipts { held.new.receipts ≡ held.old.receipts }
+{
     lawful_is_safe();
     recalls_stay();
     let entered = held.leased.enter(event);
     recalls_are_left(&held.leased.core);
     match entered {
         Ok(number) => {
-            held.other_count.add(&mut sender.share, 1);
+            held.other_count.add(share, 1);
             Ok(number)
         }
         Err(error) => Err(error),
     }
 }
 
-/// The locked value knows all that the sender took, and the sender all that was put. What the sender took begins what was
-/// put, and no more entries are the sender's than are no calls.
+/// The locked value knows all that the sender took, and the sender all that was put. What the sender took begins what
+/// was put, and no more entries are the sender's than are no calls.
 pub(crate) fn meet_sender<N: Naming>(
     queue: &RecallQueue,
     held: &mut Held<N>,

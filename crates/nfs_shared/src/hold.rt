@@ -9,8 +9,8 @@ use std::marker::Model;
 use std::sync::{Mutex, MutexGuard, Wait};
 use std::thread;
 
-/// How often the lock is looked at before the thread sleeps for it. A look takes some 0.5 microseconds, if no other thread
-/// wants the processor: so many take 20.
+/// How often the lock is looked at before the thread sleeps for it. A look takes some 0.5 microseconds, if no other
+/// thread wants the processor: so many take 20.
 const LOOKS: u32 = 40;
 
 /// A hold of the lock. Contracts see the value that the lock guards. Where it is dropped, the recalls that wait are put
@@ -59,8 +59,8 @@ pub(crate) fn hold_in<'h, 'a, 'b, N: Naming, R: Wait>(
     }
 }
 
-/// Takes the lock. To sleep and be woken takes longer than most holds last. So it first looks whether the lock is free, and
-/// yields the processor after each look.
+/// Takes the lock. To sleep and be woken takes longer than most holds last. So it first looks whether the lock is free,
+/// and yields the processor after each look.
 pub(crate) fn look_and_lock<'a, N: Naming, R: Wait>(
     rt: &R,
     held: &'a Mutex<Held<N>>,

@@ -1,6 +1,5 @@
-//! The state that threads share: a core and the book of its clients' leases under one lock, with receipts for the entries
-//! that calls made, the queue by which recalls reach the thread that sends them, and beside the lock the words of the
-//! leases, which any worker renews.
+//! The state that threads share: a core and its lease table under one lock, with receipts for the entries that calls
+//! made. Beside the lock are the queue by which recalls reach the sender, and the lease words.
 #![tactic(auto)]
 
 mod held;
@@ -18,7 +17,7 @@ mod sender;
 mod shared;
 mod sweeper;
 
-pub use held::{Held, call_held, enter_held, sweep_held};
+pub use held::{Held, call_held, enter_held, enter_ordered, sweep_held};
 pub use hold::Hold;
 pub use limits::limit_of_queue;
 pub use naming::Naming;

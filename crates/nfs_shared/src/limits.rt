@@ -1,3 +1,5 @@
+//! States the room of the queue of recalls as a law, so that a wrong constant fails the proof.
+
 ghost use Rattle.std.specs.Prelude.{◌≡◌};
 
 use crate::recall_queue::CAPACITY;

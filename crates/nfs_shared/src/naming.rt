@@ -1,8 +1,10 @@
+//! Names a run of threads by a type, so that receipts and seats of two runs can't be mixed up.
+
 use std::marker::{Brand, PhantomData};
 use std::sync::ledger::Ledger;
 
-/// Names a run of threads: what was opened for it, and what the server was started with. No type stands for these before
-/// they are there. So they are picked where a function is called that is generic over the name.
+/// Names a run of threads: what was opened for it, and what the server was started with. No type stands for these
+/// before they are there. So they are picked where a function is called that is generic over the name.
 pub trait Naming {
     ghost use Rattle.nfs_shared.specs.Naming.{OpenedView};
     ghost use Rattle.nfs_state.specs.State.{History};

@@ -15,8 +15,8 @@ use std::sync::Wait;
 /// How many recalls the queue has room for.
 pub const CAPACITY: usize = 1_024;
 
-// What a pass may do, and what it knows of what was put and of what was taken: of what it does itself, all. No value of it
-// is made.
+// What a pass may do, and what it knows of what was put and of what was taken: of what it does itself, all. No value of
+// it is made.
 pub struct Log {
     pub puts: bool,
     pub takes: bool,
@@ -101,8 +101,8 @@ impl Lesson<Recall, Log> for Takes {
     ghost fact = { λ v items. IsPrefix v.put (v.taken ++ items) };
 }
 
-// Who may do both learns that what was put is what was taken and what is left, and that either begins with what was told
-// of it.
+// Who may do both learns that what was put is what was taken and what is left, and that either begins with what was
+// told of it.
 pub struct Total;
 
 impl Lesson<Recall, Log> for Total {
@@ -136,8 +136,8 @@ impl Model for RecallQueue {
     ghost invariant = { λ q. ruled_capacity q.line ≡ CAPACITY };
 }
 
-/// The right to put, which the locked value has. Contracts see the queue's name, what was put, in order, and what is known
-/// to be taken.
+/// The right to put, which the locked value has. Contracts see the queue's name, what was put, in order, and what is
+/// known to be taken.
 #[derive(Drop)]
 pub struct PutPass {
     token: Token,
@@ -192,8 +192,8 @@ impl RecallQueue {
         ))
     }
 
-    /// Puts a recall at the end. It comes back only if as many were put as the queue has room for, beside those that are
-    /// known to be taken. It takes no memory.
+    /// Puts a recall at the end. It comes back only if as many were put as the queue has room for, beside those that
+    /// are known to be taken. It takes no memory.
     pub fn put<R: Wait>(&self, rt: &R, pass: &mut PutPass, recall: Recall) -> Result<(), Recall>
         requires queue { pass.old.queue ≡ self.now }
         ensures ok { OnOk result (pass.new ≡ with_recall recall pass.old) }
@@ -203,7 +203,8 @@ impl RecallQueue {
         self.line.push_as::<Puts, R>(rt, &mut pass.token, recall)
     }
 
-    /// Takes out the first recall, or none, which it does only if all that is known to be put was taken. It takes no memory.
+    /// Takes out the first recall, or none, which it does only if all that is known to be put was taken. It takes no
+    /// memory.
     pub fn take<R: Wait>(&self, rt: &R, pass: &mut TakePass) -> Option<Recall>
         requires queue { pass.old.queue ≡ self.now }
         ensures some { IfSome result (λ r. pass.new ≡ with_recall r pass.old) }
@@ -213,7 +214,8 @@ impl RecallQueue {
         self.line.pop_as::<Takes, R>(rt, &mut pass.token)
     }
 
-    /// What was taken begins what was put. Each pass knows then all that the other one did; what it knew before begins that.
+    /// What was taken begins what was put. Each pass knows then all that the other one did; what it knew before begins
+    /// that.
     pub fn meet(&self, put: &mut PutPass, take: &mut TakePass)
         requires put { put.old.queue ≡ self.now }
         requires take { take.old.queue ≡ self.now }

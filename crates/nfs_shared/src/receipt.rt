@@ -1,3 +1,5 @@
+//! Receipts, by which clauses speak of journal entries after the lock was given back.
+
 use nfs_state::SeenCall;
 use std::marker::Model;
 

@@ -13,7 +13,7 @@ use std::marker::{Brand, PhantomData};
 
 // What a token knows. No value of it is made.
 pub struct View {
-    // Whether it is the writer's.
+    // Whether the token is the writer's.
     pub writes: bool,
     pub list: LinkedList<Receipt>,
     // What a note put beside the list, until it is compared.

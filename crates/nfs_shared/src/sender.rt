@@ -1,10 +1,13 @@
+//! The one sender of a run, which takes recalls from the queue and marks clients' callback paths.
+
 use crate::naming::{Naming, OtherLedger};
 use crate::recall_queue::TakePass;
 use std::marker::Model;
 use std::sync::ledger::Share;
 
-/// Who sends recalls, and marks the paths to clients' callbacks. There is one in a run. Contracts see the recalls that it
-/// took from the queue, in order, those that it knows to be put there, and how many entries of the journal came by it.
+/// The sender of a run, which sends recalls and marks the paths to clients' callbacks. Contracts see the recalls that
+/// it took from the queue, in order; the recalls that it knows to be put there; and how many entries of the journal it
+/// made.
 #[derive(Drop)]
 pub struct Sender<N: Naming> {
     pub(crate) pass: TakePass,

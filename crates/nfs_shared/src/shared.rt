@@ -24,6 +24,7 @@ ghost use Rattle.nfs_xdr.specs.Op.{opnum_of};
 ghost use Rattle.nfs_xdr.specs.OpResult.{op_result};
 ghost use Rattle.nfs_xdr.specs.Opnum.{answer_limit};
 
+mod ordering;
 mod sending;
 
 use crate::held::{Held, call_held, recalls_are_left, sweep_held};
@@ -48,13 +49,13 @@ use std::marker::Model;
 use std::sync::ledger::Share;
 use std::sync::{Arc, Mutex, Wait};
 
-/// The core with its journal, the keeper's book of leases and the receipts' register, behind one lock, and beside it the
-/// words of the leases, which any worker reads and raises, and the queue by which recalls reach the thread that sends them.
-/// What holds whenever the lock is free is the invariant of `Held`.
+/// The core with its journal, the keeper's book of leases and the receipts' register, behind one lock, and beside it
+/// the words of the leases, which any worker reads and raises, and the queue by which recalls reach the thread that
+/// sends them. What holds whenever the lock is free is the invariant of `Held`.
 #[derive(Drop)]
 pub struct Shared<N: Naming> {
     words: Arc<WordLeases, Global>,
-    // That of the run, by which a clientid or a stateid names a client of it.
+    // The run's epoch, by which a clientid or a stateid names a client of the run.
     epoch: u32,
     profile: Profile,
     held: Mutex<Held<N>>,
@@ -86,8 +87,8 @@ pub struct SharedParts<N: Naming> {
 }
 
 impl<N: Naming> Shared<N> {
-    /// The core under a lock, a seat for each worker, who sweeps, and who sends recalls. The core's journal is empty, and
-    /// no client is live in it. It fails only where memory is refused, and gives the core back.
+    /// The core under a lock, a seat for each worker, who sweeps, and who sends recalls. The core's journal is empty,
+    /// and no client is live in it. It fails only where memory is refused, and gives the core back.
     pub fn new(alloc: Global, opened: Opened, core: Core) -> Result<SharedParts<N>, Core>
         requires beginning { CanBegin N.run N.start opened core }
         ensures seats { IfOk result (λ r. AreFresh N.run.words N.run.workers r.seats.items) }
@@ -178,9 +179,9 @@ impl<N: Naming> Shared<N> {
         }
     }
 
-    /// Answers an operation that has an entry in the journal, in one hold of the lock, with a receipt for its entry. The
-    /// lease of the client that the operation names is renewed first, by the seat and without the lock, also where memory
-    /// is refused for the request. `filehandle` has to be a node of the tree.
+    /// Answers an operation that has an entry in the journal, in one hold of the lock, with a receipt for its entry.
+    /// The lease of the client that the operation names is renewed first, by the seat and without the lock, also where
+    /// memory is refused for the request. `filehandle` has to be a node of the tree.
     pub fn call<R: Wait>(
         &self,
         rt: &R,
@@ -213,10 +214,10 @@ impl<N: Naming> Shared<N> {
         self.call_in(rt, &mut hold, seat, request)
     }
 
-    /// Answers a request for an operation that has an entry in the journal, with a receipt for its entry. It first renews
-    /// the lease of the client that the operation names, by the seat and without the lock. If `hold` has no hold, it then
-    /// locks the state. It leaves the hold there, so that the caller may have several requests answered in one. The
-    /// filehandle has to be a node of the tree.
+    /// Answers a request for an operation that has an entry in the journal, with a receipt for its entry. It first
+    /// renews the lease of the client that the operation names, by the seat and without the lock. If `hold` has no
+    /// hold, it then locks the state. It leaves the hold there, so that the caller may have several requests answered
+    /// in one. The filehandle has to be a node of the tree.
     pub fn call_in<'a, 'b, R: Wait>(
         &'a self,
         rt: &'b R,
@@ -242,9 +243,9 @@ impl<N: Naming> Shared<N> {
         call_held(&mut *hold.guard, seat, request)
     }
 
-    /// Renews the lease of the client with this clientid, where it is open, and neither takes the lock nor waits. The seat
-    /// gains just what it saw and did: a look, and where that showed the lease open a raise of its word. Of a clientid of
-    /// another run it gains nothing, and there is no answer.
+    /// Renews the lease of the client with this clientid, where it is open, and neither takes the lock nor waits. The
+    /// seat gains just what it saw and did: a look, and where that showed the lease open a raise of its word. Of a
+    /// clientid of another run it gains nothing, and there is no answer.
     pub fn renew(&self, seat: &mut Seat<N>, client: ClientId, moment: Moment) -> Option<Renewal>
         ensures renews { RenewsAs (number_in N.start.epoch client) moment result seat.old.leases
             seat.new.leases }
@@ -302,10 +303,10 @@ impl<N: Naming> Shared<N> {
     }
 
     /// The core, once all threads have ended. `receipts` has for each seat those that it was given, in order, and all
-    /// seats are handed in, in the order of their places. What was taken from the queue begins the recalls of the core's
-    /// journal, in order, each once. No renewal that was answered to a seat is later than the journal's end of its client
-    /// allows, and none came after an end that the seat saw. The journal made live whom a seat renewed, and ended whose lease
-    /// a seat found closed, or made live a later client of its slot.
+    /// seats are handed in, in the order of their places. What was taken from the queue begins the recalls of the
+    /// core's journal, in order, each once. No renewal that was answered to a seat is later than the journal's end of
+    /// its client allows, and none came after an end that the seat saw. The journal made live whom a seat renewed, and
+    /// ended whose lease a seat found closed, or made live a later client of its slot.
     pub fn end(
         self,
         receipts: &[Vec<Receipt>],

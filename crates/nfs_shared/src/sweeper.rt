@@ -1,9 +1,11 @@
+//! The one sweeper of a run, which removes clients whose leases are over.
+
 use crate::naming::{Naming, OtherLedger};
 use std::marker::Model;
 use std::sync::ledger::Share;
 
-/// Who sweeps. There is one in a run. Besides calls, only what it and the `Sender` do makes entries of the journal.
-/// Contracts see how many came by it.
+/// The sweeper of a run. Besides calls, only what it and the `Sender` do makes entries of the journal. Contracts see
+/// how many entries the sweeper made.
 #[derive(Drop)]
 pub struct Sweeper<N: Naming> {
     pub(crate) share: Share<OtherLedger<N>>,

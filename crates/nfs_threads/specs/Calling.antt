@@ -65,8 +65,8 @@ IsAnswered start old (HasCallback client callback is) new =
 IsAnswered start old (HasDelegation recall is) new =
     Finds start old (λ held. is ≡ has_delegation recall.stateid held.server)
     × HasLooked start old new
--- The client is called back so, and its path is marked by an entry, as up only if it was reached; or it isn't called back
--- so, and there is no entry.
+-- The client is called back so, and its path is marked by an entry, as up only if it was reached; or it isn't called
+-- back so, and there is no entry.
 IsAnswered start old (Marked client callback reached (Ok done)) new =
     (Finds start old (λ held. (callback_of client held.server ≡ Some callback)
     × ((after : Server) × (number : ℕ) × Enters held.server after (entry_for client reached) number))
@@ -85,12 +85,12 @@ IsAnswered start old (Noticed client callback) new = new ≡ old
 abbrev pub calling : History → Rules SenderView (Unit {0})
 calling start = rules (IsAnswered start) (λ old traffic new. ⊤)
 
--- who took nothing yet
+-- a sender that took nothing yet
 abbrev pub unused : SenderView
 unused = record { taken = []; known_put = []; count = 0 }
 
--- In a run with this start the callback thread called clients back, and left the sender so: it took steps, one after the
--- other, from where nothing was to be said to anybody.
+-- In a run with this start the callback thread called clients back, and left the sender so: it took steps, one after
+-- the other, from where nothing was to be said to anybody.
 pub record HasCalled (start : History) (sender : SenderView) : Type 0 where
   pub steps : List Step
   pub last : Scene SenderView (Unit {0})

@@ -1,3 +1,4 @@
+-- What contracts say of a run's threads: workers, receipts, renewals, and callbacks.
 pub mod Holding
 pub mod Receipts
 pub mod Worker

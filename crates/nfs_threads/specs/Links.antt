@@ -18,13 +18,13 @@ Enters entrances.Nowhere socket after = ⊥
 Enters (entrances.Door door) socket after =
     (socket.listener ≡ None) × IsSome socket.stream × (after ≡ entrances.Door door)
 
--- The links give a socket from where their connections come in, of which nothing failed, and a clock that counts from the
--- run's start and has shown nothing yet. Else only the last peer changes.
+-- The links give a socket from where their connections come in, of which nothing failed, and a clock by the run's
+-- source of time that has shown nothing yet. Else only the last peer changes.
 abbrev pub Opens : {R W : Type 0} → TcpLinks R W → Socket R → Uptime R → TcpLinks R W → Type 0
 Opens old socket clock new =
     Enters old.entrance socket new.entrance
     × (socket.read_failures ≡ 0) × (socket.write_failures ≡ 0)
-    × (clock ≡ record { rt = old.rt; start = old.start; last = 0 })
+    × (clock ≡ record { rt = old.rt; source = old.source; last = 0 })
     × (new ≡ record old { entrance = new.entrance; peer = new.peer })
 
 -- there is no further connection where none was left, or at a door, which is closed then

@@ -52,9 +52,9 @@ EachRenewal P (Renewal moment client ∷ questions) (answer ∷ answers) =
 EachRenewal P [] (answer ∷ answers) = ⊥
 EachRenewal P (question ∷ questions) [] = ⊥
 
--- By these events RENEW was answered so in the run of this epoch: where the lease was renewed, it is that of a client of
--- the run, and its word was raised; where it wasn't, and the client is one of the run, a look showed its lease vacant, or
--- it was found closed.
+-- By these events RENEW was answered so in the run of this epoch: where the lease was renewed, it is that of a client
+-- of the run, and its word was raised; where it wasn't, and the client is one of the run, a look showed its lease
+-- vacant, or it was found closed.
 pub record IsSeen (epoch : ℕ) (events : List Event) (moment : ℕ) (client : ClientId)
     (answer : OpResult) : Type 0 where
   pub raised : answer ≡ renewed
@@ -79,9 +79,9 @@ RenewalsAreEvents {D = D} {C = C} device rules epoch =
     (flat_map (questions_of rules.export) (all_exchanges course))
     (flat_map (λ e. e.answers) (all_exchanges course)) after.service
 
--- By what the journal did to leases RENEW was answered so: where the lease was renewed, the journal made its client live;
--- where it wasn't, and the client is one of the run, the lease was vacant at a look, or the journal ended it, or made a
--- later client of its slot live.
+-- By what the journal did to leases RENEW was answered so: where the lease was renewed, the journal made its client
+-- live; where it wasn't, and the client is one of the run, the lease was vacant at a look, or the journal ended it, or
+-- made a later client of its slot live.
 pub record IsOfJournal (epoch : ℕ) (deeds : List BookEvent) (events : List Event) (moment : ℕ)
     (client : ClientId) (answer : OpResult) : Type 0 where
   pub live : answer ≡ renewed
@@ -100,7 +100,7 @@ EachRenewalIn linking tree P before (one ∷ more) after are =
     (flat_map (λ e. e.answers) (all_exchanges are.1.course.0))
     × EachRenewalIn linking tree P are.0 more after are.2
 
--- Each RENEW of this shift was answered as these deeds of the journal have it, and what its seat saw.
+-- Each RENEW of this shift was answered as these deeds of the journal have it, and what the shift's seat saw.
 abbrev pub IsShiftOfJournal : {L D C : Type 0} → (linking : Linking L D C) (tree : Files)
     (before : L × SeatView) (deeds : List BookEvent) (shift : Shift) (given : List Receipt)
     (seat : SeatView) → IsShift linking tree before shift given seat → Type 0
@@ -108,7 +108,7 @@ IsShiftOfJournal linking tree before deeds shift given seat is =
     EachRenewalIn linking tree (IsOfJournal linking.served.epoch deeds seat.leases.view.own)
     (stand before.0 is.desk) shift.connections.items is.served.0 is.served.1
 
--- that of each of these shifts
+-- Each RENEW of each of these shifts was answered as these deeds of the journal have it, and what the seat saw.
 abbrev pub EachIsOfJournal : {L D C : Type 0} → (linking : Linking L D C) (tree : Files) (links : L)
     (words : Words) (deeds : List BookEvent) (shifts : List Shift) (receipts : List (List Receipt))
     (seats : List SeatView) → AreShifts linking tree links words shifts receipts seats → Type 0

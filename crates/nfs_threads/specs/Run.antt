@@ -36,8 +36,8 @@ AreShifts linking tree links words shifts receipts seats =
 abbrev pub receipts_by_worker : RunEnd → List (List Receipt)
 receipts_by_worker end = map (λ given. given.items) end.receipts.items
 
--- The core `old` was shared by workers for such links, so many, and this is what they left. Clients may have ended between
--- their calls: of that is said only that it was lawful.
+-- The core `old` was shared by workers for such links, so many, and this is what they left. Clients may have ended
+-- between their calls: of that is said only that it was lawful.
 pub record IsRun {R W : Type 0} (links : TcpLinks R W) (tree : Files) (count : ℕ) (old : Server)
     (end : RunEnd) : Type 0 where
   -- the seats as the workers left them, and the lease words that they are at
@@ -59,11 +59,11 @@ pub record IsRun {R W : Type 0} (links : TcpLinks R W) (tree : Files) (count : �
   pub counted : calls_in end.core.journal.entries ≡ receipts_in (receipts_by_worker end)
   -- no renewal that was answered to one of the seats is later than the journal's end of its client allows
   pub in_time : AllInTime end.core.journal.lease end.core.journal.entries seats
-  -- by what each seat saw no renewal is answered after an end, each comes after a look that showed the lease open, and no
-  -- look shows a lease as vacant that was known
+  -- by what each seat saw no renewal is answered after an end, each comes after a look that showed the lease open, and
+  -- no look shows a lease as vacant that was known
   pub heeded : AllHeeded seats
-  -- a lease that a seat renewed, or tried to, the journal opened; and one that it found closed the journal ended, or opened
-  -- a later one of its slot
+  -- a lease that a seat renewed, or tried to, the journal opened; and one that it found closed the journal ended, or
+  -- opened a later one of its slot
   pub borne_out : JournalBearsOut end.core seats
   -- Whoever calls clients back took the beginning of the journal's recalls, in order, each once, and did with them what
   -- `HasCalled` says. The entries that are no calls are at least as many as the sender counted.

@@ -1,10 +1,10 @@
--- The device of a connection over TCP. Which bytes it carries can't be told, nor whether its input was ended by the other
--- side or by the end of the run.
+-- The device of a connection over TCP. Which bytes it carries can't be told, nor whether its input was ended by the
+-- other side or by the end of the run.
 use Rattle.std.specs.Prelude.{◌≡◌, ℕ, ◌+◌, IsSome}
 use Rattle.nfs_threads.specs.declared.socket.Socket.{Socket}
 use Rattle.nfs_server.specs.Device.{Device}
 
--- it stays a socket of its listener, and once it has a connection it keeps that
+-- the socket stays one of its listener, and once it has a connection it keeps that
 abbrev pub KeepsConnection : {R : Type 0} → Socket R → Socket R → Type 0
 KeepsConnection old new =
     (new.listener ≡ old.listener) × (IsSome old.stream → new.stream ≡ old.stream)
@@ -15,8 +15,8 @@ HasFailed reads writes old new =
     (new.read_failures ≡ old.read_failures + reads)
     × (new.write_failures ≡ old.write_failures + writes)
 
--- After a read that didn't fail there is a connection, also where it gave no bytes. A write takes bytes only where there
--- is one.
+-- After a read that didn't fail there is a connection, also where it gave no bytes. A write takes bytes only where
+-- there is one.
 abbrev pub socket_device : {R : Type 0} → Device (Socket R)
 socket_device = record {
   gives = λ old piece new. KeepsConnection old new × IsSome new.stream × HasFailed 0 0 old new;

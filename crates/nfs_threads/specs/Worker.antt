@@ -29,7 +29,7 @@ pub record Linking (L D C : Type 0) : Type 1 where
   pub write_failures : D → ℕ
   pub tells : C → ℕ → C → Type 0
 
--- that of links, from what their trait, that of their devices and that of their clocks have
+-- what is known of links, from the ghost items of their trait, of their devices' trait and of their clocks' trait
 abbrev pub linking : {L D C : Type 0} → OfLinks L D C → OfDuplex D → OfClock C → Exported → Linking L D C
 linking links duplex clock served = record {
   served = served;
@@ -49,8 +49,8 @@ pub record Stand (L : Type 0) : Type 0 where
 abbrev pub stand : {L : Type 0} → L → Holding → Stand L
 stand links desk = record { links = links; desk = desk }
 
--- The next connection gave a device and a clock, and was served over these at the desk, which had as many receipts as is
--- told. Its error is Read or Write exactly if a read or a write failed.
+-- The next connection gave a device and a clock, and was served over these at the desk, which had as many receipts as
+-- is told. Its error is Read or Write exactly if a read or a write failed.
 pub record IsServed {L D C : Type 0} (linking : Linking L D C) (tree : Files) (before : Stand L)
     (connection : ConnectionEnd) (after : Stand L) : Type 0 where
   pub device : D

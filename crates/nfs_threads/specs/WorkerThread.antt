@@ -6,7 +6,8 @@ use Rattle.nfs_threads.specs.declared.worker_thread.Worker.{Worker}
 use Rattle.nfs_threads.specs.declared.worker_thread.Worker.TheVariants as workers
 use Rattle.nfs_threads.specs.Worker.{IsEndOf, Linking}
 
--- The worker is that of these links and this seat: what its thread promises is of these, or it gave back what is of them.
+-- The worker is that of these links and this seat: what its thread promises is of these, or it gave back what is of
+-- them.
 abbrev pub IsWorker : {N L D C : Type 0} → Linking L D C → Files → L → SeatView → Worker N L D C
     → Type 0
 IsWorker linking tree links seat (workers.Begun handle) =

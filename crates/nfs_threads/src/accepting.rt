@@ -1,3 +1,5 @@
+//! The thread that accepts TCP connections for a run that goes on.
+
 use crate::door::Arrival;
 use crate::{Door, Peer};
 use std::alloc::Global;
@@ -14,8 +16,8 @@ const TICK_MILLIS: u64 = 500;
 // How many milliseconds it is from an accept that failed to the next one.
 const PAUSE_MILLIS: u64 = 100;
 
-/// Accepts the listener's connections for this door, in a thread that nobody waits for: it may wait for a connection when
-/// the program ends. Returns whether there is such a thread.
+/// Accepts the listener's connections for this door, in a thread that nobody waits for: it may wait for a connection
+/// when the program ends. Returns whether there is such a thread.
 pub fn accept_for<R: Threads + Wait + Timer + Copy + Send + Sync + 'static>(
     rt: R,
     listener: TcpListener,
@@ -50,8 +52,8 @@ fn accept_each<R: Wait + Timer + Copy>(rt: R, listener: TcpListener, door: Arc<D
     }
 }
 
-// Has the reads and writes of a connection come back after a while; one whose calls can't would never see the end of the
-// run. Its replies go out at once; without that they only come later.
+// Has the reads and writes of a connection come back after a while; one whose calls can't would never see the end of
+// the run. Its replies go out at once; without that they only come later.
 fn comes_back(stream: &TcpStream) -> bool {
     let _ = stream.set_nodelay(true);
     let tick = Duration::from_millis(TICK_MILLIS);

@@ -1,5 +1,8 @@
+//! Tells all threads of a run that it has ended, and wakes those that wait for that.
+
+use mio::Waker;
 use std::sync::atomic::{AtomicBool, Ordering};
-use std::sync::{Condvar, Mutex, Wait};
+use std::sync::{Condvar, Mutex, OnceLock, Wait};
 use std::time::{Clock, Duration};
 
 /// Tells the end of a run.
@@ -7,8 +10,10 @@ use std::time::{Clock, Duration};
 pub(crate) struct Bell {
     ended: Mutex<bool>,
     rung: Condvar,
-    // The same once more, for those that only look: a look takes no lock.
+    // Whether the run has ended, for threads that only look: a look takes no lock.
     is_rung: AtomicBool,
+    // Ends the wait of the thread that calls clients back, which waits for connections.
+    waker: OnceLock<Waker>,
 }
 
 impl Bell {
@@ -17,7 +22,14 @@ impl Bell {
             ended: Mutex::new(false),
             rung: Condvar::new(),
             is_rung: AtomicBool::new(false),
+            waker: OnceLock::new(),
         }
+    }
+
+    /// Has the end wake a thread by this waker, too. If the end has come before this returns, it may not wake the
+    /// thread.
+    pub(crate) fn wake_by<R: Wait>(&self, rt: &R, waker: Waker) {
+        let _ = self.waker.set(rt, waker);
     }
 
     /// Waits for the end, but not longer than this, and returns whether it has come.
@@ -38,5 +50,8 @@ impl Bell {
         self.is_rung.store(true, Ordering::SeqCst);
         *self.ended.lock(rt) = true;
         self.rung.notify_all();
+        if let Some(waker) = self.waker.get() {
+            let _ = waker.wake();
+        }
     }
 }

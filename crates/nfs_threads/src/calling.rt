@@ -19,8 +19,8 @@ use std::time::{Clock as Timer, Duration};
 // For how many milliseconds a look waits at most.
 const LOOK_MILLIS: u64 = 100;
 
-/// The state that threads share, as the callback thread asks it. The handle by which it may wait for the lock is part of it,
-/// as it is asked without one. Contracts see what its sender took and knows.
+/// The state that threads share, as the callback thread asks it. The handle by which it may wait for the lock is part
+/// of it, as it is asked without one. Contracts see what its sender took and knows.
 #[derive(Drop)]
 pub(crate) struct SharedSource<'a, N: Naming, R: Wait, W: Watcher> {
     rt: &'a R,
@@ -125,6 +125,10 @@ pub(crate) fn call_back_until<N: Naming, R: Net + Wait + Timer, W: Watcher>(
     let Some(net) = network_until(setting) else {
         return sender;
     };
+    // Without a waker the end is seen when a look is over.
+    if let Ok(waker) = net.waker() {
+        setting.bell.wake_by(rt, waker);
+    }
     let source = SharedSource {
         rt,
         shared,

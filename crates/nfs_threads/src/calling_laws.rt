@@ -10,9 +10,9 @@ use nfs_shared::Naming;
 use std::net::Net;
 use std::sync::Wait;
 
-/// The law that no recall that the callback thread took is lost, doubled, sent to another client, or sent before an earlier
-/// one to the same client: of each client those that were taken are those that have left its line, and then those that are
-/// left there.
+/// The law that no recall that the callback thread took is lost, doubled, sent to another client, or sent before an
+/// earlier one to the same client: of each client those that were taken are those that have left its line, and then
+/// those that are left there.
 pub fn recalls_are_followed<N: Naming, R: Net + Wait>()
     ensures { (sender : SenderView) (called : HasCalled N.start sender)
         → NoneIsLost N.start sender called }
@@ -21,8 +21,8 @@ pub fn recalls_are_followed<N: Naming, R: Net + Wait>()
     nothing_is_overlooked::<SharedSource<'_, N, R, Nobody>, TcpNetwork<'_, R>>();
 }
 
-/// The law that the callback thread marks a client's path, as up or as down for a reason, only after a call to the client
-/// that ended so.
+/// The law that the callback thread marks a client's path, as up or as down for a reason, only after a call to the
+/// client that ended so.
 pub fn marks_are_of_calls<N: Naming, R: Net + Wait>()
     ensures { MarksAreEarned (calling N.start) }
 {

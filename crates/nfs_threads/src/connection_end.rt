@@ -1,3 +1,5 @@
+//! How a connection ended, and which of its worker's receipts came from it.
+
 use nfs_server::ServeError;
 
 /// How a connection ended.

@@ -1,3 +1,5 @@
+//! The service of a worker's connections: takes the lock once for a batch, and renews leases without the lock.
+
 ghost use Rattle.std.specs.Prelude.{◌≡◌, [], length, refl};
 ghost use Rattle.nfs_threads.specs.Holding.{AreAlikeButRoom, GivenBySeat};
 ghost use Rattle.nfs_shared.specs.Ends.{IsKept};

@@ -1,13 +1,15 @@
+//! Hands the connections that the acceptor takes to the workers that wait for them.
+
 ghost use Rattle.std.specs.Prelude.{◌≡◌};
 
 use crate::bell::Bell;
-use crate::{Peer, Watcher};
+use crate::{Orders, Peer, Watcher};
 use std::mem;
 use std::net::TcpStream;
 use std::sync::{Condvar, Mutex, Wait};
 
-/// Where the connections of a run come in. A thread of its own accepts the next one when a worker asks for it, so there
-/// are never more than workers, and workers that wait cost nothing.
+/// Where the connections of a run come in, and its orders, if it goes by orders. A thread of its own accepts the next
+/// one when a worker asks for it, so there are never more than workers, and workers that wait cost nothing.
 #[derive(Drop)]
 pub struct Door {
     workers: u32,
@@ -15,6 +17,7 @@ pub struct Door {
     asked: Condvar,
     come: Condvar,
     bell: Bell,
+    orders: Option<Orders>,
 }
 
 // What stands behind the door.
@@ -38,8 +41,8 @@ pub(crate) enum Arrival {
 }
 
 impl Door {
-    /// A door for so many workers.
-    pub fn new(workers: u32) -> Door
+    /// A door for so many workers, in a run that goes by these orders, if there are any.
+    pub fn new(workers: u32, orders: Option<Orders>) -> Door
         ensures { result.workers ≡ workers }
     {
         Door {
@@ -55,6 +58,7 @@ impl Door {
             asked: Condvar::new(),
             come: Condvar::new(),
             bell: Bell::new(),
+            orders,
         }
     }
 
@@ -65,16 +69,32 @@ impl Door {
         self.workers
     }
 
-    /// Ends the run: no further connection is taken, and the connections that are open see that their input is over.
+    /// Ends the run: no further connection is taken, no further order is done, and the connections that are open see
+    /// that their input is over.
     pub fn close<R: Wait>(&self, rt: &R) {
         self.bell.ring(rt);
+        if let Some(orders) = &self.orders {
+            orders.close(rt);
+        }
         self.lobby.lock(rt).is_closed = true;
         self.asked.notify_all();
         self.come.notify_all();
     }
 
+    /// Whether an order ended the run.
+    pub fn is_end_ordered<R: Wait>(&self, rt: &R) -> bool {
+        match &self.orders {
+            Some(orders) => orders.is_end_ordered(rt),
+            None => false,
+        }
+    }
+
     pub(crate) fn bell(&self) -> &Bell {
         &self.bell
+    }
+
+    pub(crate) fn orders(&self) -> Option<&Orders> {
+        self.orders.as_ref()
     }
 
     /// The next connection, for a worker that waits for it, or none if the door is closed. `returns` says whether the

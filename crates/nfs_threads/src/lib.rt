@@ -1,6 +1,6 @@
-//! The threads of a run. A worker serves connections at a seat of the state that all share; as many work at once as there
-//! are seats. The links of a TCP listener, the door by which connections come in one after the other, and the threads that
-//! sweep and call clients back beside the workers.
+//! The threads of a run. A worker serves connections at a seat of the state that all share; as many work at once as
+//! there are seats. The links of a TCP listener, the door by which connections come in one after the other, and the
+//! threads that sweep, or do orders, and call clients back beside the workers.
 #![tactic(auto)]
 
 mod accepting;
@@ -14,6 +14,10 @@ mod input;
 mod links;
 mod listening;
 mod lists;
+mod obeying;
+mod order_clock;
+mod orders;
+mod path_sight;
 mod peer;
 mod receipt_laws;
 mod renewal_laws;
@@ -23,6 +27,7 @@ mod shift;
 mod socket;
 mod sweeping;
 mod tcp_links;
+mod time_source;
 mod uptime;
 mod watcher;
 mod worker;
@@ -38,6 +43,8 @@ pub use door::Door;
 pub use input::close_at_end;
 pub use links::Links;
 pub use listening::{serve_on, serve_through};
+pub use order_clock::OrderClock;
+pub use orders::Orders;
 pub use peer::Peer;
 pub use receipt_laws::{receipts_are_questions, receipts_by_connection};
 pub use renewal_laws::{renewals_are_events, renewals_are_of_clients};
@@ -46,6 +53,7 @@ pub use serving::serve_all;
 pub use shift::Shift;
 pub use socket::Socket;
 pub use tcp_links::TcpLinks;
+pub use time_source::TimeSource;
 pub use uptime::Uptime;
 pub use watcher::Watcher;
 pub use worker_end::WorkerEnd;

@@ -1,3 +1,5 @@
+//! The trait of what a worker serves, so that workers can be proved and tried without sockets.
+
 ghost use Rattle.std.specs.Prelude.{◌≡◌, ◌-◌, ◌^◌, ◌<◌, IfNone, IfOk, IfSome, OnErr, false, true};
 
 use nfs_server::{Clock, Duplex, ServeError};
@@ -22,8 +24,8 @@ pub trait Links {
         ensures reads { IfSome result (λ r. Self.Device.read_failures r.0 < 2 ^ 64 - 1) }
         ensures writes { IfSome result (λ r. Self.Device.write_failures r.0 < 2 ^ 64 - 1) };
 
-    /// Is told that memory is refused for what the next connection needs. Where it may come back, this waits for a while, and
-    /// returns whether it is to be tried again; if not, no further connection is to be served.
+    /// Is told that memory is refused for what the next connection needs. Where it may come back, this waits for a
+    /// while, and returns whether it is to be tried again; if not, no further connection is to be served.
     fn wait_for_memory(&mut self) -> Result<bool, AllocError>
         ensures same { IfOk result (λ is_tried. is_tried ≡ true → self.new ≡ self.old) }
         ensures stops { IfOk result (λ is_tried. is_tried ≡ false → stops self.old self.new) }

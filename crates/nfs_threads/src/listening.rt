@@ -1,3 +1,5 @@
+//! A run over a TCP listener, from a core to its end, with the threads that sweep and send callbacks.
+
 ghost use Rattle.std.specs.Prelude.{◌≡◌, ◌≤◌, [], ℕ, IfErr, IfOk, IsFalse, length, vec_capacity, vec_len};
 ghost use Rattle.std.specs.List.{AllByRecursion};
 ghost use Rattle.nfs_server.specs.Serves.{served_by};
@@ -14,8 +16,10 @@ ghost use Rattle.nfs_shared.specs.Naming.{CanBegin};
 use crate::bell::Bell;
 use crate::calling::{CallingPromise, call_back_until};
 use crate::lists::Lists;
+use crate::orders::Orders;
 use crate::sweeping::sweep_until;
 use crate::tcp_links::Entrance;
+use crate::time_source::TimeSource;
 use crate::watcher::Nobody;
 use crate::{Door, RunEnd, TcpLinks, Watcher, WorkerEnd, serve_all, workers_keep_receipts};
 use nfs_core::Core;
@@ -30,10 +34,10 @@ use std::thread::{Scope, Threads};
 use std::time::{Clock as Timer, Duration};
 
 /// Serves the next connections that come to the listener, as many as `connections` says, each in a thread of its own,
-/// and ends when all of them have ended. Meanwhile one more thread removes clients whose leases are over, and another one
-/// calls clients back. It returns the core as the connections left it, how each of them ended, and whether these two
-/// threads could be made: if not, the connections are served all the same. If memory is refused for the state, the core
-/// comes back; if it is for the workers, each of them ends for want of memory, and no connection is accepted.
+/// and ends when all of them have ended. Meanwhile one more thread removes clients whose leases are over, and another
+/// one calls clients back. It returns the core as the connections left it, how each of them ended, and whether these
+/// two threads could be made: if not, the connections are served all the same. If memory is refused for the state, the
+/// core comes back; if it is for the workers, each of them ends for want of memory, and no connection is accepted.
 pub fn serve_on<R: Threads + Wait + Timer + Net<Listener = TcpListener, Stream = TcpStream> + Sync>(
     alloc: Global,
     rt: &R,
@@ -53,23 +57,23 @@ pub fn serve_on<R: Threads + Wait + Timer + Net<Listener = TcpListener, Stream =
     let Ok(opened) = Opened::new(alloc, core.journal().lease(), connections) else {
         return Err(core);
     };
-    // Where the clock can't be read now and can be later, moments count from its own beginning.
-    let start = rt.monotonic().unwrap_or(Duration::ZERO);
+    let source = since_now(rt);
     let (bell, watcher) = (Bell::new(), Nobody);
     let setting = Setting {
         alloc,
         rt,
         tree,
-        start,
+        source,
         bell: &bell,
+        door: None,
         watcher: &watcher,
     };
-    let links = TcpLinks::new(rt, start, &bell, &watcher, Entrance::Listener(listener));
+    let links = TcpLinks::new(rt, source, &bell, &watcher, Entrance::Listener(listener));
     run::<Brand, R, Nobody>(&setting, &links, connections, opened, core)
 }
 
-/// Serves the connections that come through the door, one after the other at each worker, and ends when the door is closed
-/// and all of them have ended. Else it is as `serve_on`; the watcher is told of the run, and sees the core.
+/// Serves the connections that come through the door, one after the other at each worker, and ends when the door is
+/// closed and all of them have ended. Else it is as `serve_on`; the watcher is told of the run, and sees the core.
 pub fn serve_through<
     R: Threads + Wait + Timer + Net<Listener = TcpListener, Stream = TcpStream> + Sync,
     W: Watcher + Sync,
@@ -86,28 +90,67 @@ pub fn serve_through<
     let Ok(opened) = Opened::new(alloc, core.journal().lease(), workers) else {
         return Err(core);
     };
-    let start = rt.monotonic().unwrap_or(Duration::ZERO);
+    let source = source_at(rt, door);
     let setting = Setting {
         alloc,
         rt,
         tree,
-        start,
+        source,
         bell: door.bell(),
+        door: Some(door),
         watcher,
     };
-    let links = TcpLinks::new(rt, start, door.bell(), watcher, Entrance::Door(door));
+    let links = TcpLinks::new(rt, source, door.bell(), watcher, Entrance::Door(door));
     run::<Brand, R, W>(&setting, &links, workers, opened, core)
 }
 
-/// What all connections have in common, the bell that tells their end, and who watches.
+// The monotonic clock from now on. Where it can't be read now and can be later, moments count from its own beginning.
+fn since_now<'a, R: Timer>(rt: &R) -> TimeSource<'a> {
+    TimeSource::Since(rt.monotonic().unwrap_or(Duration::ZERO))
+}
+
+// What tells the moments of the connections that come through this door.
+fn source_at<'a, R: Timer>(rt: &R, door: &'a Door) -> TimeSource<'a> {
+    match door.orders() {
+        Some(orders) => TimeSource::Orders(orders.clock()),
+        None => since_now(rt),
+    }
+}
+
+/// What all connections have in common, the bell that tells their end, the door through which they come, if there is
+/// one, and who watches.
 #[derive(Drop)]
 pub(crate) struct Setting<'a, R, W> {
     pub(crate) alloc: Global,
     pub(crate) rt: &'a R,
     pub(crate) tree: &'a Tree,
-    pub(crate) start: Duration,
+    pub(crate) source: TimeSource<'a>,
     pub(crate) bell: &'a Bell,
+    pub(crate) door: Option<&'a Door>,
     pub(crate) watcher: &'a W,
+}
+
+impl<'a, R: Wait, W> Setting<'a, R, W> {
+    /// The door and the orders of the run, if it goes by orders.
+    pub(crate) fn ordered(&self) -> Option<(&'a Door, &'a Orders)> {
+        let door = self.door?;
+        Some((door, door.orders()?))
+    }
+
+    // Tells the end of the connections if the run goes by orders, and there is no thread that does them.
+    fn end_unless_swept(&self, is_swept: bool) {
+        if !is_swept && self.ordered().is_some() {
+            self.end();
+        }
+    }
+
+    // Tells the end of the connections.
+    fn end(&self) {
+        match self.door {
+            Some(door) => door.close(self.rt),
+            None => self.bell.ring(self.rt),
+        }
+    }
 }
 
 // What the threads beside the workers need of the shared state.
@@ -222,9 +265,9 @@ fn serve_helped<
     )
 }
 
-// The same in a scope of threads. What a thread was to do that can't be made is done once the end is told, so it comes
-// back with nothing done. The promise stands in here and not in the closure above, since a closure that is passed on may
-// not hold a type with a promise of a type parameter.
+// Serves as `serve_helped` does, in a scope of threads. If no thread can be made for a task, the task runs when the end
+// is told, and comes back with nothing done. The promise is in here and not in the closure above, since a closure that
+// is passed on may not hold a type with a promise of a type parameter.
 fn serve_beside<
     's,
     E,
@@ -257,11 +300,12 @@ fn serve_beside<
             ensures { HasCalled N.start result }
         { call_back_until(setting, shared, sender) },
     );
+    setting.end_unless_swept(sweeping.is_ok());
     let all = match serve_all(setting.alloc, setting.rt, shared, setting.tree, links) {
         Ok(all) => all,
         Err(links) => refuse_all(setting.alloc, setting.tree, links, spare),
     };
-    setting.bell.ring(setting.rt);
+    setting.end();
     let has_helpers = sweeping.is_ok() && calling.is_ok();
     let sweeper = match sweeping {
         Ok(handle) => handle.join(setting.rt),

@@ -1,3 +1,5 @@
+//! Takes the memory for a run's outcome before the run begins, so that its end can't lack memory.
+
 ghost use Rattle.std.specs.Prelude.{IfOk};
 ghost use Rattle.nfs_threads.specs.Rooms.{HaveRoom};
 
@@ -5,8 +7,8 @@ use crate::{Shift, TcpLinks, WorkerEnd};
 use nfs_shared::{Naming, Receipt, Seat};
 use std::alloc::{AllocError, Global};
 
-/// The lists of a run, with room for each of its workers. They are made before the run begins, so that nothing is lost for
-/// want of memory when it ends.
+/// The lists of a run, with room for each of its workers. They are made before the run begins, so that nothing is lost
+/// for want of memory when it ends.
 #[derive(Drop)]
 pub(crate) struct Lists<'a, N: Naming, R, W> {
     pub(crate) links: Vec<(TcpLinks<'a, R, W>, Seat<N>)>,

@@ -1,3 +1,5 @@
+//! Names a connection in the lines of a run, by number and address.
+
 use std::net::SocketAddr;
 
 /// Who is at the other end of a connection.

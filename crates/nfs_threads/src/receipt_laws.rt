@@ -1,3 +1,5 @@
+//! Laws that a worker's receipts are exactly the entries of what its connections asked.
+
 ghost use Rattle.std.specs.Prelude.{ℕ};
 ghost use Rattle.nfs_server.specs.Exchange.{rules};
 ghost use Rattle.nfs_shared.specs.Seats.{SeatView};
@@ -26,8 +28,8 @@ pub fn receipts_are_questions<D: Duplex, R: Source, W: Sink, C: Clock>()
         (rules export (GivenBySeat epoch) AreAlikeButRoom C.tells) }
 {}
 
-/// The law that the receipts which a worker gives back are the parts of its connections, one after the other, and that each
-/// part is what its connection's questions gain.
+/// The law that the receipts which a worker gives back are the parts of its connections, one after the other, and that
+/// each part is what its connection's questions gain.
 pub fn receipts_by_connection<N: Naming, L: Links>()
     ensures { (tree : Files) (links : L) (seat : SeatView) (end : WorkerEnd N)
         → IsEndOf (linking L.Links L.Device.Duplex L.Clock.Clock (served_by N.start)) tree links seat end

@@ -1,3 +1,5 @@
+//! What a run leaves: the core, what each worker served, and the receipts.
+
 use crate::Shift;
 use nfs_core::Core;
 use nfs_shared::Receipt;

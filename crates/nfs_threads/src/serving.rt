@@ -1,3 +1,5 @@
+//! Serves links at once, with a thread for each, and waits for all of them.
+
 ghost use Rattle.std.specs.Prelude.{◌≡◌, ◌≤◌, List, [], length, vec_capacity, vec_len, IfOk, IfErr};
 ghost use Rattle.nfs_threads.specs.WorkerThread.{AreWorkers};
 ghost use Rattle.nfs_threads.specs.Worker.{AreEndsOf, AreUnused, linking, seats_of};
@@ -16,9 +18,10 @@ use std::sync::atomic::AtomicBool;
 use std::thread;
 use std::thread::{Scope, Threads};
 
-/// Serves these links, each at its seat in a thread of its own. All threads are begun before the first is waited for, and
-/// what each worker gives back stands in the order of the links. If memory is refused for the lists, nothing begins and
-/// the links come back. A worker for which no thread can be made gives its seat back at once, and took no connection.
+/// Serves these links, each at its seat in a thread of its own. All threads are begun before the first is waited for,
+/// and what each worker gives back stands in the order of the links. If memory is refused for the lists, nothing begins
+/// and the links come back. A worker for which no thread can be made gives its seat back at once, and took no
+/// connection.
 pub fn serve_all<N: Naming + Send + Sync, L: Links + Drop + Send, R: Threads + Wait + Sync>(
     alloc: Global,
     rt: &R,
@@ -57,8 +60,8 @@ pub fn serve_all<N: Naming + Send + Sync, L: Links + Drop + Send, R: Threads + W
 }
 
 // Serves these links, each in a thread of this scope: begins a worker for each, in order, and then waits for them. The
-// lists stand in here and not in the closure above, since a closure that is passed on may not hold a type with a promise
-// of a type parameter.
+// lists stand in here and not in the closure above, since a closure that is passed on may not hold a type with a
+// promise of a type parameter.
 fn serve_in<
     's,
     E,

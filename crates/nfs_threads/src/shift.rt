@@ -1,3 +1,5 @@
+//! What a worker did: the connections that it served, and why it took no further one.
+
 use crate::ConnectionEnd;
 use std::alloc::AllocError;
 

@@ -1,3 +1,5 @@
+//! TCP connections whose reads and writes end with the run, and whose last replies aren't lost when they are closed.
+
 ghost use Rattle.std.specs.Prelude.{◌≡◌, ◌<◌, ◌≤◌, None, Some, IfOk, IfSome, IsSome, OnOk, length};
 ghost use Rattle.nfs_threads.specs.Sockets.{HasFailed, KeepsConnection};
 
@@ -57,7 +59,7 @@ impl<'a, R> Socket<'a, R> {
         }
     }
 
-    /// This connection.
+    /// A connection that was accepted.
     pub(crate) fn of_stream(rt: &'a R, bell: &'a Bell, stream: TcpStream) -> Socket<'a, R>
         ensures none { result.listener ≡ None }
         ensures stream { IsSome result.stream }
@@ -140,8 +142,8 @@ impl<'a, R: Wait> Socket<'a, R> {
     }
 }
 
-// Reads some bytes. A read that comes back with nothing is made again, unless the run had ended before it: then the input
-// is over.
+// Reads some bytes. A read that comes back with nothing is made again, unless the run had ended before it: then the
+// input is over.
 fn read_waiting<R: Wait>(
     rt: &R,
     bell: &Bell,
@@ -166,8 +168,8 @@ fn read_waiting<R: Wait>(
     unreachable!()
 }
 
-// Writes some bytes. A write that comes back with nothing is made again, unless the run had ended before it. One that takes
-// nothing is a failure.
+// Writes some bytes. A write that comes back with nothing is made again, unless the run had ended before it. One that
+// takes nothing is a failure.
 fn write_waiting<R: Wait>(rt: &R, bell: &Bell, stream: &TcpStream, bytes: &[u8]) -> Option<usize>
     ensures within { IfSome result (λ n. (0 < n) × (n ≤ length bytes.now)) }
 {
@@ -202,9 +204,9 @@ fn write_to(mut stream: &TcpStream, bytes: &[u8]) -> io::Result<usize>
     stream.write(bytes)
 }
 
-// Tells the peer that no more replies come, and reads what it still sends until it has ended that, too, within the bounds
-// above. For where a connection is closed with bytes unread, as after a record that is too long, the system resets it, and
-// replies that are on their way may be lost.
+// Tells the peer that no more replies come, and reads what it still sends until it has ended that, too, within the
+// bounds above. For where a connection is closed with bytes unread, as after a record that is too long, the system
+// resets it, and replies that are on their way may be lost.
 fn read_out(bell: &Bell, stream: &TcpStream) {
     if stream.shutdown(Shutdown::Write).is_err() {
         return;

@@ -1,4 +1,7 @@
+//! The thread that sweeps once a second and shows the core to the run's watcher.
+
 use crate::listening::Setting;
+use crate::obeying::obey_until;
 use crate::{Uptime, Watcher};
 use nfs_server::Clock;
 use nfs_shared::{Naming, Shared, Sweeper};
@@ -11,14 +14,27 @@ const PERIOD: u64 = 1;
 // How many looks the watcher has after a sweep at most.
 const MOST_LOOKS: u32 = 4_096;
 
-/// Once a second removes the clients whose leases are over, revokes the delegations that are due and forgets the open owners
-/// that may be forgotten, and then has the watcher look, until the end of the connections is told. Gives the sweeper back.
+/// Sweeps until the end of the connections is told: by orders, if the run goes by them, or else once a second. Gives
+/// the sweeper back.
 pub(crate) fn sweep_until<N: Naming, R: Wait + Timer, W: Watcher>(
+    setting: &Setting<'_, R, W>,
+    shared: &Shared<N>,
+    sweeper: Sweeper<N>,
+) -> Sweeper<N> {
+    match setting.ordered() {
+        Some((door, orders)) => obey_until(setting, door, orders, shared, sweeper),
+        None => sweep_each_second(setting, shared, sweeper),
+    }
+}
+
+// Once a second removes the clients whose leases are over, revokes the delegations that are due and forgets the open
+// owners that may be forgotten, and then has the watcher look.
+fn sweep_each_second<N: Naming, R: Wait + Timer, W: Watcher>(
     setting: &Setting<'_, R, W>,
     shared: &Shared<N>,
     mut sweeper: Sweeper<N>,
 ) -> Sweeper<N> {
-    let mut uptime = Uptime::since(setting.rt, setting.start);
+    let mut uptime = Uptime::of(setting.rt, setting.source);
     for _ in setting.rt.forever() {
         if setting.bell.wait(setting.rt, Duration::from_secs(PERIOD)) {
             break;
@@ -29,8 +45,9 @@ pub(crate) fn sweep_until<N: Naming, R: Wait + Timer, W: Watcher>(
     sweeper
 }
 
-// Has the watcher look at the core, and write down what it sees, as often as it wants to, each time in a hold of its own.
-fn show<N: Naming, R: Wait, W: Watcher>(rt: &R, shared: &Shared<N>, watcher: &W) {
+/// Has the watcher look at the core, and write down what it sees, as often as it wants to, each time in a hold of its
+/// own.
+pub(crate) fn show<N: Naming, R: Wait, W: Watcher>(rt: &R, shared: &Shared<N>, watcher: &W) {
     for _ in 0..MOST_LOOKS {
         let hold = shared.hold(rt);
         let sees_more = watcher.look(hold.guard.core());

@@ -1,6 +1,9 @@
+//! The connections of a worker, which come from a listener or through the door.
+
 ghost use Rattle.std.specs.Prelude.{◌≡◌};
 
 use crate::bell::Bell;
+use crate::time_source::TimeSource;
 use crate::{Door, Links, Peer, Socket, Uptime, Watcher};
 use nfs_server::ServeError;
 use std::alloc::AllocError;
@@ -16,7 +19,7 @@ const PAUSE_MILLIS: u64 = 100;
 pub(crate) enum Entrance<'a> {
     /// The next connection that comes to the listener, which is accepted by its first read.
     Listener(&'a TcpListener),
-    /// No further one.
+    /// No further connection comes.
     Nowhere,
     /// All that come through the door, until it is closed.
     Door(&'a Door),
@@ -26,19 +29,19 @@ pub(crate) enum Entrance<'a> {
 #[derive(Drop)]
 pub struct TcpLinks<'a, R, W> {
     rt: &'a R,
-    start: Duration,
+    source: TimeSource<'a>,
     bell: &'a Bell,
     watcher: &'a W,
     entrance: Entrance<'a>,
-    // Whose connection came last through the door.
+    // The peer whose connection came last through the door.
     peer: Option<Peer>,
 }
 
 impl<'a, R, W> TcpLinks<'a, R, W> {
-    /// `start` is what the monotonic clock showed when the run began, and the bell tells its end.
+    /// The source tells the moments of the run, and the bell its end.
     pub(crate) fn new(
         rt: &'a R,
-        start: Duration,
+        source: TimeSource<'a>,
         bell: &'a Bell,
         watcher: &'a W,
         entrance: Entrance<'a>,
@@ -47,7 +50,7 @@ impl<'a, R, W> TcpLinks<'a, R, W> {
     {
         TcpLinks {
             rt,
-            start,
+            source,
             bell,
             watcher,
             entrance,
@@ -55,13 +58,13 @@ impl<'a, R, W> TcpLinks<'a, R, W> {
         }
     }
 
-    /// The same once more.
+    /// Links of one more worker, from the same entrance.
     pub(crate) fn again(&self) -> TcpLinks<'a, R, W>
         ensures { result ≡ self.now }
     {
         TcpLinks {
             rt: self.rt,
-            start: self.start,
+            source: self.source,
             bell: self.bell,
             watcher: self.watcher,
             entrance: self.entrance,
@@ -94,7 +97,7 @@ impl<'a, R: Timer + Wait + Sync, W: Watcher + Sync> Links for TcpLinks<'a, R, W>
                 Socket::of_stream(self.rt, self.bell, stream)
             }
         };
-        Some((socket, Uptime::since(self.rt, self.start)))
+        Some((socket, Uptime::of(self.rt, self.source)))
     }
 
     fn wait_for_memory(&mut self) -> Result<bool, AllocError> {

@@ -1,6 +1,9 @@
+//! The trait of a run's observer, which writes lines and keeps files without this crate.
+
 use crate::Peer;
 use nfs_callbacks::Fault;
 use nfs_core::Core;
+use nfs_orders::{Answer, OrderError};
 use nfs_server::ServeError;
 use nfs_xdr::Callback;
 
@@ -21,15 +24,21 @@ pub trait Watcher {
     /// Is told, once for a call, that it has had no reply from this client for five seconds. The call goes on.
     fn tell_no_reply(&self, client: u32, callback: &Callback);
 
-    /// Looks at the core, about once a second, while the lock is held. Returns whether there is something to write down,
-    /// and with it another look at once.
+    /// Looks at the core, about once a second, while the lock is held. Returns whether there is something to write
+    /// down, and with it another look at once.
     fn look(&self, core: &Core) -> bool;
 
     /// Writes down what was seen, while the lock is free.
     fn write_down(&self);
+
+    /// How many of the journal's entries are written down, or why they aren't.
+    fn count_written(&self) -> Result<usize, OrderError>;
+
+    /// Is told what came of an order.
+    fn tell_answer(&self, answer: Answer);
 }
 
-/// Nobody watches.
+/// The watcher of a run that nobody watches.
 #[derive(Drop)]
 pub(crate) struct Nobody;
 
@@ -49,4 +58,10 @@ impl Watcher for Nobody {
     }
 
     fn write_down(&self) {}
+
+    fn count_written(&self) -> Result<usize, OrderError> {
+        Err(OrderError::NoJournal)
+    }
+
+    fn tell_answer(&self, _answer: Answer) {}
 }

@@ -1,3 +1,5 @@
+//! A worker: serves one connection after another at its seat, and returns the seat with its receipts.
+
 ghost use Rattle.std.specs.Prelude.{◌≡◌, ◌<◌, [], false, true, IfOk, IsSome, IsTrue, OnErr, OnOk, vec_capacity, vec_len};
 ghost use Rattle.nfs_threads.specs.Worker.{HasServed, IsEndOf, linking, stand};
 ghost use Rattle.nfs_server.specs.Serves.{served_by};
@@ -60,8 +62,8 @@ pub(crate) fn work<N: Naming, L: Links + Drop, R: Wait>(
     }
 }
 
-// Serves the connections one after the other, until none is left, or memory is refused for the next one and the links don't
-// wait for it; none if no thread could be made for them. The room for a connection is made before it is taken.
+// Serves the connections one after the other, until none is left, or memory is refused for the next one and the links
+// don't wait for it; none if no thread could be made for them. The room for a connection is made before it is taken.
 fn serve_each<N: Naming, L: Links, R: Wait>(
     refused: bool,
     common: &Common<'_, N, R>,

@@ -1,3 +1,5 @@
+//! What a worker returns to the end of its run.
+
 ghost use Rattle.std.specs.Prelude.{◌≡◌, [], IsErr, length, map};
 ghost use Rattle.nfs_threads.specs.Rooms.{HasRoom};
 ghost use Rattle.nfs_threads.specs.Worker.{receipts_back, seats_back};

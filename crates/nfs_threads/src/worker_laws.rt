@@ -1,3 +1,5 @@
+//! States as a law that what workers return suffices to end the shared state.
+
 ghost use Rattle.std.specs.Prelude.{◌≡◌, ℕ, List, length};
 ghost use Rattle.nfs_threads.specs.Worker.{AreEndsOf, linking, receipts_back, seats_back, seats_of};
 ghost use Rattle.nfs_threads.specs.declared.worker_end.WorkerEnd.{WorkerEnd};

@@ -1,3 +1,5 @@
+//! Starts and joins a worker's thread, and does without if the system makes none.
+
 ghost use Rattle.std.specs.Prelude.{◌≡◌};
 ghost use Rattle.nfs_threads.specs.WorkerThread.{IsWorker};
 ghost use Rattle.nfs_threads.specs.Worker.{IsEndOf, linking};

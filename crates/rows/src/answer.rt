@@ -1,3 +1,5 @@
+//! The bytes that the program writes for an order: words with the highest byte first, and parts after their length.
+
 use crate::failure::Failure;
 use nfs_core::{CoreError, Journal, Recall};
 use nfs_journal::write_journal;
@@ -49,7 +51,8 @@ impl Answer {
         Ok(())
     }
 
-    /// How many clients a sweep treated in which way, how many delegations it revoked, and how many open owners it forgot.
+    /// How many clients a sweep treated in which way, how many delegations it revoked, and how many open owners it
+    /// forgot.
     pub(crate) fn put_swept(&mut self, swept: Swept) -> Result<(), AllocError> {
         self.put_word(swept.expired)?;
         self.put_word(swept.kept)?;
@@ -68,7 +71,8 @@ impl Answer {
         }
     }
 
-    /// Why a delegation or an open owner that is due wasn't removed, or 0; how many were; and the number of the entry, or 0.
+    /// Why a delegation or an open owner that is due wasn't removed, or 0; how many were; and the number of the entry,
+    /// or 0.
     pub(crate) fn put_removed(
         &mut self,
         removed: Result<Option<u32>, CoreError>,

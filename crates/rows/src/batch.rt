@@ -1,3 +1,5 @@
+//! The order to serve connections, as it is read: how their bytes come, and how time passes.
+
 use crate::connection::Connection;
 use crate::failure::Failure;
 use crate::input::Input;

@@ -1,7 +1,9 @@
+//! Counts the calls of all connections of an order, and derives the time of each call from the count.
+
 use nfs_core::Moment;
 use std::sync::atomic::{AtomicU64, Ordering};
 
-// The last moment that there is.
+// The last moment that a clock can give, in seconds.
 const LAST_SECOND: u64 = (1 << 40) - 3;
 
 /// The calls of all connections of an order so far.
@@ -28,7 +30,7 @@ impl Calls {
         self.moment_of(self.count.load(Ordering::SeqCst))
     }
 
-    /// One call more: its moment.
+    /// Counts one more call, and returns its moment.
     pub(crate) fn count_call(&self) -> Moment {
         self.moment_of(self.count.fetch_add(1, Ordering::SeqCst))
     }

@@ -1,3 +1,5 @@
+//! One connection of an order: the bytes that the client sends, and the replies that it got.
+
 use crate::calls::Calls;
 use crate::failure::Failure;
 use crate::input::Input;

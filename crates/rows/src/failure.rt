@@ -1,3 +1,5 @@
+//! Why the program ends before its input does.
+
 use nfs_core::NoRandomSeed;
 use std::alloc::{AllocError, AllocFailed};
 use thiserror::Error;

@@ -1,3 +1,5 @@
+//! What is read before the first order: the epoch, the lease, the bounds of the run, and the files.
+
 ghost use Rattle.std.specs.Prelude.{◌≤◌};
 ghost use Rattle.nfs_state.specs.declared.journal.TheConstants.{LEASE_MAX, LEASE_MIN};
 
@@ -11,7 +13,7 @@ use std::io::Read;
 #[derive(Drop)]
 pub(crate) struct Head {
     pub(crate) way: Way,
-    /// Seconds.
+    /// The lease in seconds.
     pub(crate) lease: u32,
     pub(crate) epoch: u32,
     /// How many connections there may be in all that are served together.

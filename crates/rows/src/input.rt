@@ -1,3 +1,5 @@
+//! Reads orders: words with the highest byte first, and parts after their length.
+
 use crate::failure::Failure;
 use nfs_core::Moment;
 use std::alloc::Global;

@@ -1,3 +1,5 @@
+//! Serves a connection from memory, in place of a socket.
+
 ghost use Rattle.std.specs.Prelude.{◌≡◌, None, IfSome, IsSome};
 
 use nfs_server::{Clock, Counted, ServeError, Sides};

@@ -1,3 +1,5 @@
+//! The orders that the program obeys, as they are read.
+
 use crate::batch::Batch;
 use crate::failure::Failure;
 use crate::input::Input;

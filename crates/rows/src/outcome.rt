@@ -1,3 +1,5 @@
+//! What the program answers for each connection that it served: its end, its replies, and its receipts.
+
 use crate::answer::Answer;
 use crate::sweeping::Sweeps;
 use nfs_server::ServeError;
@@ -13,7 +15,8 @@ pub(crate) struct ConnectionOutcome {
 }
 
 impl ConnectionOutcome {
-    // Its error's number, or 0 and how many bytes came after the last whole record; its replies, and its receipts.
+    // The number of the connection's error, or 0; how many bytes came after the last whole record, or 0; the replies;
+    // the receipts.
     fn put(&self, answer: &mut Answer) -> Result<(), AllocError> {
         match self.result {
             Ok(rest) => {
@@ -33,7 +36,7 @@ impl ConnectionOutcome {
 /// What came of connections that were served by one order.
 #[derive(Drop)]
 pub(crate) struct BatchOutcome {
-    /// In the order of the connections.
+    /// What came of each connection, in the order of the connections.
     pub(crate) outcomes: Vec<ConnectionOutcome>,
     pub(crate) sweeps: Sweeps,
 }

@@ -1,3 +1,5 @@
+//! A clock that counts calls, so that a test repeats the times of a run exactly.
+
 ghost use Rattle.std.specs.Prelude.{◌≡◌};
 
 use crate::calls::Calls;

@@ -1,3 +1,5 @@
+//! Collects the seats that workers return, since only all of them end the shared state.
+
 ghost use Rattle.std.specs.Prelude.{◌≡◌, ◌+◌, ◌∷◌, ◌++◌, [], OnErr, OnOk, length, map};
 ghost use Rattle.std.specs.Vec.Iter.{into_iter_items};
 ghost use Rattle.nfs_core.specs.Server.{IsLawful};
@@ -37,7 +39,7 @@ impl<N: Naming> Model for SeatsBack<N> {
 }
 
 impl<N: Naming> SeatsBack<N> {
-    /// Nothing came back yet.
+    /// A collection in which no worker has handed in its seat yet.
     pub(crate) fn new(alloc: Global) -> SeatsBack<N>
         ensures { result ≡ record { seats = []; receipts = [] } }
     {
@@ -97,8 +99,8 @@ impl<N: Naming> SeatsBack<N> {
         Ok(())
     }
 
-    /// The core, once the sweeper has ended and all workers have handed in their seats; and the receipts by the places of
-    /// their seats.
+    /// The core, once the sweeper has ended and all workers have handed in their seats; and the receipts by the places
+    /// of their seats.
     pub(crate) fn end(
         self,
         shared: Shared<N>,

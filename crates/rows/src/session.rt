@@ -1,3 +1,5 @@
+//! The dialogue with the test that drives the program: an order is read, then its answer is written.
+
 use crate::answer::Answer;
 use crate::failure::Failure;
 use crate::input::Input;
@@ -5,7 +7,7 @@ use crate::order::Order;
 use std::alloc::Global;
 use std::io::{Read, Write};
 
-/// Whoever gives the orders, and gets an answer to each before the next is read.
+/// The test's side of the program: it sends an order, and gets an answer before the next order is read.
 #[derive(Drop)]
 pub(crate) struct Session<I, O> {
     pub(crate) alloc: Global,

@@ -1,3 +1,5 @@
+//! Sweeps in a thread of its own while connections are served, so that tests try renewals beside sweeps.
+
 use crate::calls::Calls;
 use nfs_core::Moment;
 use nfs_leases::Swept;
@@ -19,7 +21,7 @@ impl Sweeps {
         expired: 0,
     };
 
-    // One sweep more.
+    // These sweeps, and one more sweep with this outcome.
     fn and(self, swept: Swept) -> Sweeps {
         Sweeps {
             count: self.count.saturating_add(1),

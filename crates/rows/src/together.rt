@@ -57,7 +57,7 @@ pub(crate) fn serve_together<R: Threads + Wait + Sync, I: Read + Drop, O: Write 
     }
 }
 
-// The same for a run of this name.
+// Serves the session as `serve_together` does, in a run that is named `N`.
 fn run<N: Naming + Send + Sync, R: Threads + Wait + Sync, I: Read + Drop, O: Write + Drop>(
     rt: &R,
     session: &mut Session<I, O>,
@@ -77,7 +77,7 @@ fn run<N: Naming + Send + Sync, R: Threads + Wait + Sync, I: Read + Drop, O: Wri
     }
 }
 
-// The same over a state that is shared.
+// Serves the session over the shared state that these parts make.
 fn run_parts<N: Naming + Send + Sync, R: Threads + Wait + Sync, I: Read + Drop, O: Write + Drop>(
     rt: &R,
     session: &mut Session<I, O>,
@@ -241,7 +241,8 @@ impl<'a, N: Naming + Send + Sync, R: Threads + Wait + Sync> Together<'a, N, R> {
                 answer.put_client(found.as_ref())?;
             }
             Order::Pending => answer.put_count(self.waiting())?,
-            // No call of the shared state revokes or forgets alone: its sweeps do. And who serves has the server by value.
+            // No call of the shared state revokes or forgets alone: its sweeps do. And who serves has the server by
+            // value.
             Order::Revoke(_) | Order::Forget(_) | Order::Serve(_) => return Err(Failure::Input),
         }
         Ok(())

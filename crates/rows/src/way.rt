@@ -1,3 +1,5 @@
+//! The two kinds of servers that are tried: a core of its own, and a state that threads share.
+
 /// How connections are served.
 #[derive(Clone, Copy, PartialEq, Eq)]
 pub(crate) enum Way {

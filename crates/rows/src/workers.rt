@@ -1,3 +1,5 @@
+//! Starts a worker for each link of a run, with or without a sweeper beside them.
+
 ghost use Rattle.std.specs.Prelude.{◌≡◌, IfOk};
 ghost use Rattle.nfs_threads.specs.Worker.{AreUnused, seats_of};
 ghost use Rattle.rows.specs.Places.{AreServed};
@@ -14,7 +16,7 @@ use std::sync::atomic::{AtomicBool, Ordering};
 use std::thread;
 use std::thread::Threads;
 
-/// Who serves the links of a run: a worker for each, in a thread of its own.
+/// The workers of a run: each link has a worker, in a thread of its own.
 #[derive(Drop)]
 pub(crate) struct Workers<'a, N: Naming, R> {
     pub(crate) rt: &'a R,
@@ -40,7 +42,7 @@ impl<'a, N: Naming + Send + Sync, R: Threads + Wait + Sync> Workers<'a, N, R> {
         Ok(ends)
     }
 
-    /// The same, while another thread sweeps. It gives the sweeper back.
+    /// Serves these links as `serve` does, while another thread sweeps. Returns the sweeper, too.
     pub(crate) fn serve_swept<L: Links + Drop + Send>(
         &self,
         links: Vec<(L, Seat<N>)>,

@@ -1,3 +1,5 @@
+//! A reader that yields to other threads before each piece, so that their calls interleave.
+
 ghost use Rattle.std.specs.Prelude.{Some};
 
 use std::io::{self, Read};

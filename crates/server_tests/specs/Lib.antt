@@ -1,0 +1,1 @@
+-- These tests have no definitions: they only call what they try.

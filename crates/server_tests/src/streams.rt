@@ -38,8 +38,8 @@ fn assert_no_next(rt: &impl Abort, records: &mut Records) {
     assert!(rt; records.next().is_none());
 }
 
-/// Three records, cut here and there. `test_growths.py` runs this with each of its growths refused in turn: a
-/// piece that is refused leaves all as it was, and is taken when it comes again.
+/// Three records, cut here and there. `test_allocations_crates.py` runs this test with each of its allocations refused
+/// in turn: a piece that is refused changes nothing, and is taken when it comes again.
 #[test]
 fn takes_records_cut_here_and_there(rt: HostRuntime) {
     let mut records = Records::new(rt.alloc());

@@ -1,5 +1,5 @@
-//! What no answer of the program shows yet of a tree: the bytes of a file, and the attributes of a file that was written
-//! to.
+//! What no answer of the program shows yet of a tree: the bytes of a file, and the attributes of a file that was
+//! written to.
 
 use nfs_tree::{DEFAULT_TREE, Profile, Subject, Tree};
 use std::alloc::{AllocError, Global};

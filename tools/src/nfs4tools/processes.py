@@ -21,8 +21,8 @@ SERVING = re.compile(rb"serving [0-9]+ files, lease [0-9]+ s, epoch [0-9]+(, mom
 # The files that a server has without a document, by a policy with which it calls no client back: so that its journal
 # has an entry for each call, and for what its sweeps end, and no other.
 NO_CALLBACKS = os.path.join(TOP, "samples/no_callbacks.toml")
-# The file by which a server of this program waits for the sockets of its callbacks.
-EPOLL = "anon_inode:[eventpoll]"
+# The files by which a server of this program waits for the sockets of its callbacks, and for its end.
+CALLER_FILES = {"anon_inode:[eventpoll]", "anon_inode:[eventfd]"}
 # The seconds that a server has to begin or to end, and those in which a reply has to come, on however busy a machine.
 PATIENCE, REPLY_PATIENCE = 180, 20
 
@@ -46,6 +46,17 @@ def link_of(entry: os.DirEntry[str]) -> str | None:
 def is_silent(stream: Any, seconds: float) -> bool:
     """Whether the stream neither brings a byte nor ends in so many seconds."""
     return not select.select([stream], [], [], seconds)[0]
+
+
+def line_from(stream: Any, seconds: float) -> bytes:
+    """The next line of a stream; or what comes before its end, or in so many seconds."""
+    line, until = b"", time.monotonic() + seconds
+    while not line.endswith(b"\n") and not is_silent(stream, max(0, until - time.monotonic())):
+        more = os.read(stream.fileno(), 1)
+        if not more:
+            break
+        line += more
+    return line
 
 
 P = TypeVar("P", bound="Process")
@@ -95,13 +106,11 @@ class Served(Process):
         return self.read_line() if SERVING.fullmatch(line) else line
 
     def read_line(self) -> bytes:
-        line, until = b"", time.monotonic() + PATIENCE
-        while not line.endswith(b"\n") and not is_silent(self.program.stderr, max(0, until - time.monotonic())):
-            more = os.read(self.program.stderr.fileno(), 1)
-            if not more:
-                break
-            line += more
-        return line
+        return line_from(self.program.stderr, PATIENCE)
+
+    def next_answer(self, seconds: float = PATIENCE) -> bytes:
+        """The next line on standard output; or what comes before its end, or in time."""
+        return line_from(self.program.stdout, seconds)
 
     def end(self, seconds: float = PATIENCE) -> tuple[int | None, bytes, bytes]:
         """How it ends by itself: its status, and what it has written on standard output and, behind the lines with the
@@ -126,9 +135,9 @@ class Served(Process):
 
     def has_caller(self, seconds: float = 5) -> bool:
         """Of a server that runs: whether its thread that calls clients back has begun within so many seconds, and has
-        the one file that it always has open."""
+        the two files that it always has open."""
         until = time.monotonic() + seconds
-        while not (found := EPOLL in self.open_files()) and time.monotonic() < until:
+        while not (found := CALLER_FILES.issubset(self.open_files())) and time.monotonic() < until:
             time.sleep(0.01)
         return found
 

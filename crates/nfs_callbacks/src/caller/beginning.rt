@@ -15,9 +15,9 @@ const BEGIN_LIMIT: usize = 1_024;
 #[derive(Clone, Copy, PartialEq, Eq)]
 enum Beginning {
     UnderWay,
-    // It was over at once.
+    // The call was over at once.
     Over,
-    // The system refused it a socket.
+    // The system refused the call a socket.
     Refused,
 }
 

@@ -26,8 +26,8 @@ use std::marker::Model;
 use std::sync::Wait;
 
 impl<N: Naming> Shared<N> {
-    // Takes the lock for the sender: what it took begins what was put, and its entries are among those that are no calls.
-    // It knows then all that was put.
+    // Takes the lock for the sender: what it took begins what was put, and its entries are among those that are no
+    // calls. It knows then all that was put.
     fn hold_for<'a, 'b, R: Wait>(&'a self, rt: &'b R, sender: &mut Sender<N>) -> Hold<'a, 'b, N, R>
         ensures known { SenderMayFind N.start sender.old result }
         ensures sender { sender.new ≡ with_known result.put sender.old }
@@ -37,8 +37,8 @@ impl<N: Naming> Shared<N> {
         hold
     }
 
-    /// Marks whether callbacks reach this client, in one hold of the lock, and returns the number of the entry. It fails,
-    /// and enters nothing, if the client isn't live, the journal is full, or memory ran out.
+    /// Marks whether callbacks reach this client, in one hold of the lock, and returns the number of the entry. It
+    /// fails, and enters nothing, if the client isn't live, the journal is full, or memory ran out.
     pub fn mark_path<R: Wait>(
         &self,
         rt: &R,
@@ -58,8 +58,8 @@ impl<N: Naming> Shared<N> {
         enter_held(&mut *hold.guard, sender, Event::Path(Path { client, up }))
     }
 
-    /// Marks whether callbacks reach this client, as `mark_path` does, in the hold of the lock in which it finds the client
-    /// live and called back so. Elsewhere it marks nothing, and returns no number.
+    /// Marks whether callbacks reach this client, as `mark_path` does, in the hold of the lock in which it finds the
+    /// client live and called back so. Elsewhere it marks nothing, and returns no number.
     pub fn mark_called<R: Wait>(
         &self,
         rt: &R,
@@ -93,8 +93,8 @@ impl<N: Naming> Shared<N> {
         }
     }
 
-    /// Takes the first recall out of the queue, or none, without the lock. It takes none only if all that the sender knows
-    /// to be put was taken. It takes no memory.
+    /// Takes the first recall out of the queue, or none, without the lock. It takes none only if all that the sender
+    /// knows to be put was taken. It takes no memory.
     pub fn take<R: Wait>(&self, rt: &R, sender: &mut Sender<N>) -> Option<Recall>
         ensures some { IfSome result (λ r. sender.new ≡ with_taken r sender.old) }
         ensures none { IfNone result (sender.new ≡ sender.old) }
@@ -103,8 +103,8 @@ impl<N: Naming> Shared<N> {
         self.queue.take(rt, &mut sender.pass)
     }
 
-    /// How a live client is called back, as a copy, if there is such a client. It fails only where memory is refused for
-    /// the copy.
+    /// How a live client is called back, as a copy, if there is such a client. It fails only where memory is refused
+    /// for the copy.
     pub fn callback<R: Wait>(
         &self,
         rt: &R,
@@ -158,8 +158,8 @@ impl<N: Naming> Shared<N> {
         hold.guard.core().has_delegation(stateid)
     }
 
-    /// A copy of what the record of a live client has of whose path to its callbacks nothing is known: of the client with
-    /// the least number above this one, if there is one. It fails only where memory is refused for the copy.
+    /// A copy of what the record of a live client has of whose path to its callbacks nothing is known: of the client
+    /// with the least number above this one, if there is one. It fails only where memory is refused for the copy.
     pub fn probe<R: Wait>(
         &self,
         rt: &R,

@@ -18,6 +18,7 @@ from nfs4tools.client.connection import Connection
 from nfs4tools.client.journals import Entry, Journal, JournalError, read_journal
 from nfs4tools.client.listener import CallbackListener, NoCallback, Recall
 from nfs4tools.client.operations import ANONYMOUS, Clientid, Request, TO_THE_END
+from nfs4tools.client.ordered import OrderRefused, OrderedServer, Swept
 from nfs4tools.client.relay import Relay, RelayError
 from nfs4tools.client.replies import Attributes, BadReply, CallRefused, ClientError, NoReply, Reply, Result, StatusError
 from nfs4tools.client.server import Server, ServerError
@@ -78,6 +79,8 @@ __all__ = [
     "OpenFile",
     "OpenOwner",
     "Opnum",
+    "OrderRefused",
+    "OrderedServer",
     "Outcome",
     "READ",
     "READW_LT",
@@ -94,6 +97,7 @@ __all__ = [
     "Stateid",
     "Status",
     "StatusError",
+    "Swept",
     "TO_THE_END",
     "WRITE",
     "WRITEW_LT",

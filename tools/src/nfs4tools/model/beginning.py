@@ -18,12 +18,14 @@ class Beginning:
         # How many entries it has, and whether the run is over.
         self.count, self.is_over = 0, False
         self.file: BinaryIO | None = None
+        # Why there is none from the start on, which is to be told behind the first lines of the run.
+        self.failed: OSError | None = None
         try:
             self.set_aside()
             self.file = open(self.path, "wb", buffering=0)
             self.write(journal_bytes(shared.server.journal()._replace(entries=[])))
         except OSError as failed:
-            self.give_up(failed)
+            self.file, self.failed = None, failed
 
     def set_aside(self) -> None:
         """What an earlier run left has another name then."""
@@ -36,6 +38,11 @@ class Beginning:
         rest = memoryview(data)
         while rest and self.file is not None:
             rest = rest[self.file.write(rest) :]
+
+    def tell_start(self) -> None:
+        """Says why there is no file from the start on, if there is none."""
+        if self.failed is not None:
+            self.give_up(self.failed)
 
     def give_up(self, failed: OSError) -> None:
         say(f"{self.path}: {error_words(failed)}; the run goes on without it")

@@ -5,11 +5,9 @@ from collections import Counter
 from typing import Any
 
 PAGE = 4096
-# The fewest bytes of an answer that may be a part of a page itself.
-PART = 2048
 
 # How many bytes are read or written, where that is chosen by pages.
-LENGTHS = [1, 2, PART - 1, PART, PART + 1, PAGE - 1, PAGE, PAGE, PAGE + 1, 2 * PAGE]
+LENGTHS = [1, 2, PAGE // 2, PAGE - 1, PAGE, PAGE, PAGE + 1, 2 * PAGE]
 
 # The cases: how the bytes of a READ or a WRITE lie.
 WITHIN = "within a page"
@@ -64,8 +62,7 @@ class Pages:
         """These bytes are answered."""
         if begin < end:
             self.counts[f"READs {way_of(begin, end)}"] += 1
-        if end - begin >= PART and len(pages_of(begin, end)) == 1:
-            self.had[file, begin // PAGE] = ANSWERED
+            self.had.update(((file, page), ANSWERED) for page in pages_of(begin, end))
 
     def resize(self, file: int, before: int, size: int) -> None:
         """A file that had so many bytes has this size. Its page that is cut, or the last one that it had, may be in a

@@ -22,6 +22,8 @@ from nfs4tools.model.callback_source import CallbackSource
 from nfs4tools.model.caller import Caller, LOOK
 from nfs4tools.model.lines import RatedLines, error_words
 from nfs4tools.model.once import options, server_of, within
+from nfs4tools.model.order_queue import Answers, OrderQueue, read_lines
+from nfs4tools.model.orders import Orders
 from nfs4tools.model.tcp import StopFlag, SharedServer, Run, address_text, listen, say
 from nfs4tools.model.traces import Tracer
 from nfs4tools.trace.watching import Watcher
@@ -30,6 +32,8 @@ from nfs4tools.wire import Fault
 
 # The seconds that a call has to come to its end when the run does.
 PATIENCE = 5
+# The seconds that the reader of answers has at the end of the run.
+READING = 1
 
 
 def read_options() -> Any:
@@ -59,12 +63,28 @@ def read_options() -> Any:
         "tell each call in a line on standard output",
     )
     parser.add_argument("--each", action="store_true", help="a new server for each connection; no lease ends")
+    parser.add_argument(
+        "--orders",
+        action="store_true",
+        help="as --until-input-ends; time moves by orders, a line each on standard input, each answered by a line "
+        "on standard output (docs/PROGRAM.md)",
+    )
     given = parser.parse_args()
     if given.each and given.journal is not None:
         parser.error("--each has no journal")
+    expect_orders(parser, given)
     given.goes_on = given.until_input_ends or given.until_killed
     given.connections = given.connections or (64 if given.goes_on else 4)
     return given
+
+
+def expect_orders(parser: Any, given: Any) -> None:
+    """Refuses what can't stand beside --orders."""
+    if given.orders and given.until_killed:
+        parser.error("--orders reads standard input, and --until-killed doesn't look at it")
+    if given.orders and (given.each or given.trace is True):
+        parser.error("--orders doesn't go with --each, and --trace wants a FILE beside it")
+    given.until_input_ends = given.until_input_ends or given.orders
 
 
 def stop_at_end(stop_flag: StopFlag) -> None:
@@ -129,6 +149,7 @@ class Service:
         self.served, self.listener = self.shared(self.first), listen(given.listen)
         self.heard = stop_at_signals(self.stop_flag)
         self.beginning: Beginning | None = None
+        self.orders: Orders | None = None
         self.lines = RatedLines("callbacks") if given.goes_on else None
         self.links = Run(self.listener, self.next_server, self.stop_flag, given.connections, given.goes_on)
 
@@ -142,11 +163,26 @@ class Service:
         return self.shared(self.kind(self.first.tree, self.first.lease, self.first.epoch))
 
     def begin_threads(self) -> None:
-        """Those of sweeps and callbacks, whose faults come before those of connections, and that of the input."""
-        self.links.begin_sweeps(self.served, self.look)
+        """Those of sweeps or orders, and of callbacks, whose faults come before those of connections; and that of the
+        input."""
+        if self.given.orders:
+            self.begin_orders()
+        else:
+            self.links.begin_sweeps(self.served, self.look)
         if not self.given.each:
             self.links.spawn(0, self.call_back)
-        if self.given.until_input_ends and not self.links.spawn(0, stop_at_end, self.stop_flag):
+        reads_input = self.given.until_input_ends and self.orders is None
+        if reads_input and not self.links.spawn(0, stop_at_end, self.stop_flag):
+            self.stop_flag.set()
+
+    def begin_orders(self) -> None:
+        """Has orders read, done and answered, at moments that they move."""
+        queue, answers = OrderQueue(), Answers()
+        self.served.ordered_moment = 0
+        self.orders = Orders(self.served, queue, answers, self.stop_flag, self.beginning)
+        if not all([self.links.spawn(0, task) for task in (self.orders.run, answers.write_all)]):
+            self.stop_flag.set()
+        if not self.links.spawn(0, read_lines, queue):
             self.stop_flag.set()
 
     def look(self) -> None:
@@ -176,17 +212,27 @@ class Service:
 
     def run(self) -> tuple[list[Any], str | None]:
         """The signals that it heard, and its fault, or None."""
-        self.say_first()
         if self.given.goes_on and self.given.journal is not None:
             self.beginning = Beginning(self.given.journal, self.served)
+        self.say_first()
+        if self.beginning is not None:
+            self.beginning.tell_start()
         self.begin_threads()
         fault = self.links.serve()
-        if self.given.until_input_ends and not self.heard and self.links.come == 0:
+        if self.given.until_input_ends and self.orders is None and not self.heard and self.links.come == 0:
             say("the input ended before a connection came; `--until-killed` doesn't look at it")
         if self.lines is not None:
             self.lines.end()
         of_the_file = self.end_journal()
+        if self.orders is not None:
+            self.end_orders(self.orders)
         return self.heard, of_the_file if self.heard else fault or of_the_file
+
+    def end_orders(self, orders: Orders) -> None:
+        """Answers the order to end, if it came, and waits for the reader of answers, but not for long."""
+        if orders.is_end_ordered:
+            orders.answers.give("ended")
+        orders.answers.end(READING)
 
     def end_journal(self) -> str | None:
         """Writes the journal: the fault of a file, or None."""

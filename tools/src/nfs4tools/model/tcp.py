@@ -16,6 +16,7 @@ from typing import Any, TextIO
 from nfs4tools import wire
 from nfs4tools.model.server import CLIENTS_LIMIT
 from nfs4tools.model.state import JOURNAL_LIMIT
+from nfs4tools.model.sweeps import Swept
 from nfs4tools.model.traces import call_line, entry_line
 from nfs4tools.trace.watching import Place, Watcher
 from nfs4tools.wire import Fault, records
@@ -97,6 +98,8 @@ class SharedServer:
     ) -> None:
         self.server, self.is_traced, self.watcher = server, is_traced, watcher
         self.turn, self.begun = threading.Lock(), time.monotonic()
+        # The moment, if it doesn't move by itself.
+        self.ordered_moment: int | None = None
         # What there is no more of when there is so much, each told once.
         limits: list[tuple[str, Callable[[], Any], int]] = [
             ("no client slot is left", lambda: len(server.renewals), CLIENTS_LIMIT),
@@ -105,7 +108,7 @@ class SharedServer:
         self.limits = limits if is_limit_told else []
 
     def moment(self) -> int:
-        return int(time.monotonic() - self.begun)
+        return int(time.monotonic() - self.begun) if self.ordered_moment is None else self.ordered_moment
 
     def answer(self, number: int, record: bytes) -> Any:
         """The reply to a record of the connection of this number, or None."""
@@ -120,13 +123,32 @@ class SharedServer:
             self.tell_limits()
         return reply
 
-    def sweep(self) -> None:
+    def sweep(self) -> Swept:
         with self.turn:
-            before = len(self.server.recorded)
-            self.server.sweep(self.moment())
-            for entry in self.server.recorded[before:]:
-                self.tell_entry(entry_line(self.server, entry))
-            self.tell_limits()
+            return self.sweep_now()
+
+    def advance(self, seconds: int) -> Swept:
+        """Moves the moment on that doesn't move by itself, and sweeps."""
+        with self.turn:
+            self.ordered_moment = self.moment() + seconds
+            return self.sweep_now()
+
+    def sweep_now(self) -> Swept:
+        """Sweeps, within a turn."""
+        before = len(self.server.recorded)
+        swept: Swept = self.server.sweep(self.moment())
+        for entry in self.server.recorded[before:]:
+            self.tell_entry(entry_line(self.server, entry))
+        self.tell_limits()
+        return swept
+
+    def path_of(self, client: int) -> str | None:
+        """What is known of the callback path of a client; of one that isn't live that is None."""
+        with self.turn:
+            if not self.server.is_live(client):
+                return None
+            path: str | None = self.server.live_record(client).path
+            return path
 
     def mark(self, client: int, is_up: bool) -> None:
         """Marks a client's callback path, within a turn; or Unchanged."""

@@ -74,7 +74,7 @@ Status = IntEnum(
 )
 
 
-# The statuses that this server gives.
+# The statuses that this server knows. It gives each of them, except SAME and CB_PATH_DOWN.
 GIVEN_STATUSES = set(Status) - {
     Status.PERM,
     Status.IO,
@@ -87,7 +87,6 @@ GIVEN_STATUSES = set(Status) - {
     Status.STALE,
     Status.SERVERFAULT,
     Status.BADTYPE,
-    Status.SAME,
     Status.GRACE,
     Status.FHEXPIRED,
     Status.WRONGSEC,
@@ -105,5 +104,4 @@ GIVEN_STATUSES = set(Status) - {
     Status.DEADLOCK,
     Status.FILE_OPEN,
     Status.ADMIN_REVOKED,
-    Status.CB_PATH_DOWN,
 }

@@ -7,7 +7,7 @@ use Rattle.nfs_shared.proofs.Deeds.{deeds_of_event, deeds_same}
 use Rattle.nfs_shared.proofs.Holding.{KeepsRules, gains_one, held_more}
 use Rattle.nfs_shared.proofs.RecallsOut.{queued_kept, queued_same}
 use Rattle.nfs_shared.proofs.Receipts.{event_no_call, others_in_more}
-use Rattle.nfs_shared.proofs.held.enter_held.Goals as goal
+use Rattle.nfs_shared.proofs.held.enter_counted.Goals as goal
 use Rattle.nfs_shared.specs.Deeds.{RenewNone}
 use Rattle.nfs_shared.specs.Held.{HeldView}
 use Rattle.nfs_shared.specs.Naming.{start_of}
@@ -47,7 +47,7 @@ invariant_of-held g c =
       lawful = entered.ensures.lawful;
       safe = c.lawful_is_safe.ensures.safe _ _ entered.ensures.lawful;
       agrees = entered.new.self.agrees;
-      deeds = deeds_of_event old.server new.server c.args.event c.in-Ok.number old.leases new.leases c.held.invariant.0.deeds c.requires c.in-Ok.ensures.enters entered.ensures.book;
+      deeds = deeds_of_event old.server new.server c.args.event c.in-Ok.number old.leases new.leases c.held.invariant.0.deeds c.requires.ends c.in-Ok.ensures.enters entered.ensures.book;
       renews_none = subst (λ (s : Sitting). RenewNone s.view.own) (sym entered.ensures.book) c.held.invariant.0.renews_none;
       recalls = c.recalls_are_left.ensures;
       queued =

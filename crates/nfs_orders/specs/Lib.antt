@@ -1,0 +1,1 @@
+-- No contract of this crate speaks of definitions of its own.
