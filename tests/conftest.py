@@ -13,18 +13,25 @@ from typing import Any
 
 import pytest
 
-from helpers.needs import expect_programs, pytest_addoption, pytest_runtest_setup, require
+from helpers import needs, second_try
+from helpers.needs import expect_programs, pytest_runtest_setup, require
 from helpers.preload import preloading
 from helpers.refused_allocations import Memory
 from nfs4tools.built import SERVER
 from nfs4tools.processes import PROGRAM, TOP
 from nfs4tools.program import Program
 
-# These are hooks.
-__all__ = ["pytest_addoption", "pytest_runtest_setup"]
+# This is a hook.
+__all__ = ["pytest_runtest_setup"]
+
+
+def pytest_addoption(parser: pytest.Parser) -> None:
+    needs.pytest_addoption(parser)
+    second_try.add_option(parser)
 
 
 def pytest_configure(config: pytest.Config) -> None:
+    second_try.register(config)
     config.addinivalue_line("markers", "alone: judged by a clock, by memory or by processor time")
     config.addinivalue_line("markers", "by_hand: too long for the gate, and run with --by-hand alone")
     config.addinivalue_line("markers", "long: begins before the others, which go on beside it")
