@@ -425,10 +425,15 @@ def test_server_that_has_no_file(tmp_path, command):
 
 
 def test_server_that_can_not_write(tmp_path, command):
-    server = Server("--tree", NO_CALLBACKS, journal=tmp_path, command=command)
+    """A journal that nobody reads at the end, and one that can't be written from the beginning."""
+    path = tmp_path / "run.journal"
+    os.mkfifo(path)
+    server = Server("--tree", NO_CALLBACKS, journal=path, command=command)
     with pytest.raises(ServerError, match="status 1"), server:
         Client(*server.address, "c1").null()
     assert not server.served.is_running()
+    with pytest.raises(ServerError, match="no server, and status 1: .*: Is a directory"):
+        Server("--tree", NO_CALLBACKS, journal=tmp_path, command=command)
 
 
 def test_server_of_a_failed_test(command):

@@ -236,6 +236,8 @@ FOLDED: tuple[tuple[Callable[[], Story], dict[int, list[str]]], ...] = (
                 "entries 16 to 21: 5 times NFS4ERR_DELAY, delegation 5 not returned, because the recall could not be delivered "
                 "(entry 20)"
             ],
+            # The path that is marked down.
+            20: [],
             22: [],
             23: [],
         },

@@ -16,7 +16,7 @@ from helpers.reason_cases_repeated import FOLDED, STORIES_OF_REQUESTS
 from helpers.row_journals import ROW_FILES, journal_of, rows_of
 from nfs4tools.explain import Replay, again_words, is_refusal, sentence
 from nfs4tools.explain.lines import Paragraphs
-from nfs4tools.journal.entries import Call
+from nfs4tools.journal.entries import Call, Path
 from nfs4tools.processes import TOP
 from nfs4tools.send.servers import is_refused as is_refused_tree
 from nfs4tools.wire import Status
@@ -121,8 +121,9 @@ def folded(journal, is_each=False):
 
 @pytest.mark.parametrize("story_of, wanted", FOLDED, ids=lambda it: getattr(it, "__name__", ""))
 def test_folded(story_of, wanted):
-    """Equal refusals are one paragraph; with --each all are shown."""
+    """Equal refusals are one paragraph; with --each all are shown, and each path that is marked down."""
     story = story_of()
     journal = story.server.journal()
     assert folded(journal) == wanted
-    assert folded(journal, is_each=True) == {number: [] for number in story.wanted}
+    marked = [number for number, entry in enumerate(journal.entries) if isinstance(entry, Path) and not entry.is_up]
+    assert folded(journal, is_each=True) == {number: [] for number in [*story.wanted, *marked]}

@@ -370,14 +370,13 @@ def test_background():
 
 def test_file(path_of):
     """A journal that can't be written is a fault of the run, however it ends."""
-    missing = path_of("missing/run.journal")
-    why, fault = b"No such file or directory (os error 2)", b"fault: file not written\n"
-    part = b"%s.part: %s; the run goes on without it\n" % (missing.encode(), why)
-    fault = part + b"%s: %s\n" % (missing.encode(), why) + fault
-    with serve_on("--journal", missing) as served, peer_of(served) as peer:
+    path = path_of("fifo")
+    os.mkfifo(path)
+    fault = b"%s: No such device or address (os error 6)\nfault: file not written\n" % path.encode()
+    with serve_on("--journal", path) as served, peer_of(served) as peer:
         Client(peer, 1).introduce()
         expect("the end of the input", served.end(), (1, b"", fault))
-    with serve("--until-killed", "--journal", missing) as served, peer_of(served) as peer:
+    with serve("--until-killed", "--journal", path) as served, peer_of(served) as peer:
         Client(peer, 1).introduce()
         served.program.send_signal(signal.SIGTERM)
         expect("the end by a signal", served.end(), (1, b"", fault))

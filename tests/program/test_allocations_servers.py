@@ -135,7 +135,9 @@ def test_serve(since, memory, tell):
 # What a run that goes on may tell where memory is refused to a part of it; and the seconds after which the thread that
 # sweeps has looked at the journal.
 TOLD = re.compile(
-    rb"(connection [0-9]+ from 127\.0\.0\.1:[0-9]+: no memory|.*\.part: .*; the run goes on without it|"
+    rb"(connection [0-9]+ from 127\.0\.0\.1:[0-9]+: no memory|"
+    rb".*\.part: .*; entries are lacking until a write succeeds|"
+    rb"no thread for a worker: .*; it is tried again each second|all workers run: 2 of 2|"
     rb"the input ended before a connection came; .*|no more connections: 2 of 2|"
     rb"client [0-9]+: callback to .*)\n"
 )

@@ -5,7 +5,6 @@ import signal
 import subprocess
 import sys
 import time
-from resource import RLIMIT_FSIZE, setrlimit
 
 import pytest
 
@@ -142,51 +141,18 @@ def test_long_entries(path_of):
 
 
 def test_unwritten(command, path_of):
-    """Where the journal as it goes can't be written, or can't take the place of an earlier one, a line says so, and the
-    run goes on; where the journal can't be, the other is brought up to the last entry, and stays."""
-    missing, folder, taken = path_of("missing/run.journal"), path_of("folder"), path_of("taken.journal")
-    clients, open_long = {}, opening(0, 3, 0, NOBODY, bytes(90000))
+    """If the journal can't be written in place at the end, its file as it goes is brought up to the last entry, and
+    stays."""
+    path, open_long = path_of("fifo"), opening(0, 3, 0, NOBODY, bytes(90000))
     long_call = compound(1, words(PUTROOTFH), open_long, uid=2)
-    os.mkdir(folder)
-    os.mkdir(part_name(taken) + ".old")
-    with open(part_name(taken), "wb") as file:
-        file.write(b"an earlier one")
-    for path, told_first, fault in [
-        (missing, [re.escape(f"{missing}.part: ") + ".*"], "No such file.*"),
-        (folder, [], "Is a directory.*"),
-        (taken, [re.escape(f"{taken}.part: ") + ".*"], None),
-    ]:
-        with serve("--journal", path, command=command) as served:
-            clients[path] = be_client(served, 1, 2)
-            # More than is written at once.
-            with peer_of(served) as peer:
-                expect_replies(peer, long_call, LONG)
-            lines = [re.escape(f"{path}: ") + fault, "fault: file not written"] if fault else []
-            expect_end(served, *told_first, *lines, status=1 if fault else 0)
-    judge = Judge(beginning(bytes_of(part_name(folder))))
-    expect_in_journal(judge, clients[folder])
+    os.mkfifo(path)
+    with serve("--journal", path, command=command) as served:
+        client = be_client(served, 1, 2)
+        # More than is written at once.
+        with peer_of(served) as peer:
+            expect_replies(peer, long_call, LONG)
+        expect_end(served, re.escape(f"{path}: ") + ".*", "fault: file not written", status=1)
+    judge = Judge(beginning(bytes_of(part_name(path))))
+    expect_in_journal(judge, client)
     users = [entry.principal for entry in judge.journal.entries]
     expect("the long entries", users.count((1, 2)), LONG)
-    expect("the earlier one", bytes_of(part_name(taken)), b"an earlier one")
-    lawful_journal(PROGRAM, taken)
-
-
-def limit_files():
-    """In a new process: its files take no more than 100,000 bytes, and it goes on where they would."""
-    signal.signal(signal.SIGXFSZ, signal.SIG_IGN)
-    setrlimit(RLIMIT_FSIZE, (100000, 100000))
-
-
-def test_cut(command, path_of):
-    """Where a write of the journal as it goes fails after a while, a line says so, once, and a beginning stands."""
-    path, open_long = path_of("cut.journal"), opening(0, 3, 0, NOBODY, bytes(90000))
-    long_call = compound(1, words(PUTROOTFH), open_long)
-    with serve("--journal", path, command=command, preexec_fn=limit_files) as served:
-        for _ in range(2):
-            with peer_of(served) as peer:
-                expect_replies(peer, long_call, 2)
-            time.sleep(LATELY)
-        lost = re.escape(f"{path}.part: ") + "File too large .*; the run goes on without it"
-        expect_end(served, lost, re.escape(f"{path}: ") + "File too large.*", "fault: file not written", status=1)
-    growing = Growing()
-    expect("the entries that were written", len(growing.take(bytes_of(part_name(path)))), 1)

@@ -34,6 +34,7 @@ from nfs4tools.model.orders import (
 )
 from nfs4tools.model.state import JOURNAL_LIMIT
 from nfs4tools.processes import NO_CALLBACKS, PROGRAM, Peer, Served, TOP, is_silent
+from serve.edge_runs import limit_files
 
 pytestmark = pytest.mark.quick
 
@@ -385,7 +386,8 @@ def test_end(command, path_of):
 
 
 def test_end_without_a_journal(command, path_of):
-    with served(command, "--journal", path_of("missing/run.journal")) as server:
+    """A limit on the size of files leaves the journal's file no room for what stands before the entries."""
+    with served(command, "--journal", path_of("run.journal"), preexec_fn=limit_files(100)) as server:
         server.program.stdin.write(b"journal\nend\n")
         status, answers, lines = ended(server)
     assert (status, len(answers), lines[-1]) == (1, 2, "fault: file not written")

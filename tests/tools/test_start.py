@@ -68,7 +68,8 @@ def test_wrong_words(tree, words, line):
 
 def test_journal_that_can_not_be_written(tree):
     status, _, lines = tree.run("--journal", "/nonexistent/run.journal", "--", *ROW)
-    assert status == 1 and "start: the server ended with a fault\n" in lines and "start: there is no journal\n" in lines
+    assert status == 2 and "/run.journal.part: No such file or directory" in lines
+    assert lines.endswith("fault: file not written\nstart: the server didn't begin\n")
 
 
 def test_unlawful_journal(tree):

@@ -262,8 +262,10 @@ def test_files_of_between(option, path_of):
 
 def test_files_of_the_model(path_of):
     command = [sys.executable, os.path.join(TOP, "tools/model/serve.py"), "--listen", "127.0.0.1:0", "--trace"]
-    ran = subprocess.run([*command, path_of("no folder/file")], capture_output=True)
-    assert (ran.returncode, ran.stderr) == (1, b"fault: file not written\n")
+    path = path_of("no folder/file")
+    ran = subprocess.run([*command, path], capture_output=True, text=True)
+    reason = f"{path}: No such file or directory (os error 2)\n"
+    assert (ran.returncode, ran.stderr) == (1, f"{reason}fault: file not written\n")
 
 
 # Captures.

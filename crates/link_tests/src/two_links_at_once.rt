@@ -10,7 +10,7 @@ use crate::board_link::BoardLink;
 use nfs_core::{Core, Moment, Seeds};
 use nfs_server::ServeError;
 use nfs_shared::{Naming, Opened, Receipt, Seat, Shared, SharedParts};
-use nfs_threads::{WorkerEnd, serve_all, workers_keep_receipts};
+use nfs_threads::{NoRetry, WorkerEnd, serve_all, workers_keep_receipts};
 use nfs_tree::Tree;
 use std::alloc::Global;
 use std::marker::Brand;
@@ -133,7 +133,7 @@ fn serve_seats<N: Naming + Send + Sync, R: Threads + Wait + Sleeper + Sync>(
 {
     let board = Board::new(alloc, seats.len()).ok()?;
     let links = links_at(alloc, rt, &board, seats)?;
-    let Ok(all) = serve_all(alloc, rt, shared, tree, links) else {
+    let Ok(all) = serve_all(alloc, rt, &NoRetry, shared, tree, links) else {
         return None;
     };
     let (served, read_failures) = count(&all);

@@ -2,12 +2,14 @@
 
 use crate::told::tell;
 use jiff::Timestamp;
+use libc::net::listen;
 use nfs_options::ServeOptions;
 use nfs_program::Fault;
 use nfs_tree::{NodeKind, Tree};
 use std::io;
 use std::io::Eprint;
 use std::net::{SocketAddr, TcpListener};
+use std::os::fd::AsRawFd;
 use std::time::Clock;
 
 /// A listener, and the address that it got.
@@ -55,7 +57,9 @@ impl Listening {
     }
 }
 
+// The queue of connections that weren't accepted is as long as the system allows. Where it can't be, it stays as it is.
 fn with_address(listener: TcpListener) -> io::Result<Listening> {
     let address = listener.local_addr()?;
+    let _ = listen(listener.as_raw_fd(), i32::MAX);
     Ok(Listening { listener, address })
 }

@@ -1,14 +1,15 @@
 //! `serve --until-input-ends` and `--until-killed`: serves until the run is ended, keeps the journal as it goes, and
 //! writes lines.
 
-ghost use Rattle.std.specs.Prelude.{◌≡◌, [], ℕ, IsFalse};
+ghost use Rattle.std.specs.Prelude.{◌≡◌, [], ℕ, IfSome, IsFalse};
 ghost use Rattle.nfs_owners.specs.Registry.{is_live};
 
-use crate::inputs::journal_file;
+use crate::journal_place::{JournalPlace, OngoingFile};
 use crate::listening::Listening;
-use crate::part_file::{PartFile, PartNames};
+use crate::part_file::PartDraft;
 use crate::report;
 use nfs_core::{Core, Journal};
+use nfs_journal::AuditError;
 use nfs_options::{ServeOptions, Until};
 use nfs_orders::Answer;
 use nfs_program::{
@@ -18,6 +19,7 @@ use nfs_program::{
 use nfs_threads::{Door, Orders, RunEnd, Shift, accept_for, close_at_end, serve_through};
 use nfs_tree::Tree;
 use std::alloc::{AllocError, Global};
+use std::io::Eprint;
 use std::net::{Net, TcpListener, TcpStream};
 use std::sync::{Arc, Wait};
 use std::thread::Threads;
@@ -113,18 +115,49 @@ impl<
         requires nobody { (number : ℕ) → IsFalse (is_live number core.stored.clients) }
         requires nodes { core.journal.nodes ≡ tree.now.nodes }
     {
+        let Ok(mut buffer) = file_buffer(self.rt.alloc(), &self.options.journal) else {
+            drop(core);
+            return self.report_no_memory();
+        };
+        match self.journal_place() {
+            Ok(place) => self.serve_into(&place, &mut buffer, listening, core, tree),
+            Err(fault) => {
+                drop(core);
+                report(&self.teller(LineKind::Run), fault)
+            }
+        }
+    }
+
+    // The place of the journal, if it is to be written, which was tried.
+    fn journal_place(&self) -> Result<Option<JournalPlace<'a, 'a>>, Fault> {
+        match self.options.journal {
+            Some(path) => {
+                let teller = self.teller(LineKind::Journal);
+                Ok(Some(JournalPlace::new(self.rt, path, &teller)?))
+            }
+            None => Ok(None),
+        }
+    }
+
+    // Serves likewise, with the journal at this place.
+    fn serve_into(
+        &self,
+        place: &Option<JournalPlace<'a, 'a>>,
+        buffer: &mut Vec<u8>,
+        listening: Listening,
+        core: Core,
+        tree: &Tree,
+    ) -> u8
+        requires empty { core.journal.entries ≡ [] }
+        requires nobody { (number : ℕ) → IsFalse (is_live number core.stored.clients) }
+        requires nodes { core.journal.nodes ≡ tree.now.nodes }
+    {
         let alloc = self.rt.alloc();
-        let path = self.options.journal;
-        let Ok(names) = part_names(alloc, path) else {
+        let mut journal = journal_of(place, self.teller(LineKind::Journal));
+        let Ok(beginning) = beginning_of(alloc, place, core.journal()) else {
             drop(core);
             return self.report_no_memory();
         };
-        let mut journal = journal_file(self.rt, path, self.teller(LineKind::Journal));
-        let Ok(mut buffer) = file_buffer(alloc, &journal) else {
-            drop(core);
-            return self.report_no_memory();
-        };
-        let beginning = beginning_of(self.rt, &names, core.journal());
         listening.tell(&self.teller(LineKind::Run), self.rt, tree, self.options);
         let memory = self.options.memory;
         let answers = self.answers.as_deref();
@@ -137,7 +170,7 @@ impl<
         match serve_through(alloc, self.threads, &door, &reporter, core, tree) {
             Ok(run) => {
                 self.tell_no_connection(&run);
-                let status = end_ongoing_run(&mut buffer, &run, reporter, &mut journal);
+                let status = end_ongoing_run(buffer, &run, reporter, &mut journal);
                 self.answer_end(&door);
                 drop(run);
                 status
@@ -200,27 +233,30 @@ impl<
     }
 }
 
-// The names of the journal's file as it goes, if there is to be one.
-fn part_names(alloc: Global, path: Option<&str>) -> Result<Option<PartNames>, AllocError> {
-    match path {
-        Some(path) => Ok(Some(PartNames::beside(alloc, path)?)),
-        None => Ok(None),
+// The journal's file at its place, if it has one, which isn't touched yet. What is wrong with it goes to `errors`.
+fn journal_of<'f, 'a, E: Eprint + Drop>(
+    place: &'f Option<JournalPlace<'a, 'a>>,
+    errors: E,
+) -> Option<OngoingFile<'f, 'a, 'a, E>>
+    ensures { IfSome result (λ file. file.failures ≡ 0) }
+{
+    match place {
+        Some(place) => Some(place.file(errors)),
+        None => None,
     }
 }
 
 // The beginning of the journal, if its file is to be kept as it goes.
-fn beginning_of<'r, 'n>(
-    rt: &'r HostRuntime,
-    names: &'n Option<PartNames>,
+fn beginning_of<'f, 'a>(
+    alloc: Global,
+    place: &'f Option<JournalPlace<'a, 'a>>,
     journal: &Journal,
-) -> Option<Beginning<'n, PartFile<'r, 'n>>>
+) -> Result<Option<Beginning<'f, PartDraft<'f, 'a>>>, AuditError>
     requires none { journal.now.history.entries ≡ [] }
 {
-    match names {
-        Some(names) => {
-            let file = PartFile::new(rt, names);
-            Some(Beginning::new(rt.alloc(), names.part(), file, journal))
-        }
-        None => None,
-    }
+    let Some(part) = place.as_ref().and_then(|place| place.part()) else {
+        return Ok(None);
+    };
+    let beginning = Beginning::new(alloc, part.name(), PartDraft::new(part), journal)?;
+    Ok(Some(beginning))
 }

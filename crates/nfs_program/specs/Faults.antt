@@ -1,7 +1,7 @@
 -- The fault of a run that served connections.
 use Rattle.std.specs.Prelude.{Bool, if◌then◌else◌, List, [], ◌∷◌, Option, Some, None, is_err}
 use Rattle.std.specs.Option.{option_or}
-use Rattle.std.specs.List.{list_any}
+use Rattle.std.specs.List.{list_all}
 use Rattle.nfs_threads.specs.declared.connection_end.ConnectionEnd.{ConnectionEnd}
 use Rattle.nfs_threads.specs.declared.shift.Shift.{Shift}
 use Rattle.nfs_program.specs.Once.{fault_of}
@@ -36,12 +36,12 @@ abbrev pub fault_of_run : Bool → List Shift → Option Fault → Option Fault
 fault_of_run has_helpers shifts filed =
     if has_helpers then option_or (first_fault_of_shifts shifts) filed else Some NoMemory
 
--- Whether memory or a thread was refused for one of the workers.
-abbrev pub is_memory_refused : List Shift → Bool
-is_memory_refused = list_any is_refused
+-- Whether memory or a thread was refused for each of the workers, so that none served.
+abbrev pub is_each_refused : List Shift → Bool
+is_each_refused = list_all is_refused
 
--- The fault of a run that goes on, in which no peer has a part: that memory or a thread was refused for a worker, for
--- the sweeps or for callbacks; or else that of the journal's file.
+-- The fault of a run that goes on, in which no peer has a part: that memory or a thread was refused for each worker,
+-- for the sweeps or for callbacks; or else that of the journal's file.
 abbrev pub fault_of_ongoing_run : Bool → List Shift → Option Fault → Option Fault
 fault_of_ongoing_run has_helpers shifts filed =
-    if has_helpers then (if is_memory_refused shifts then Some NoMemory else filed) else Some NoMemory
+    if has_helpers then (if is_each_refused shifts then Some NoMemory else filed) else Some NoMemory

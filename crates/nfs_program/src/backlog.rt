@@ -1,11 +1,12 @@
 //! Encodes a growing journal piece by piece, so that its file can be written while the run goes on.
 
-ghost use Rattle.std.specs.Prelude.{◌≡◌, ◌+◌, ◌-◌, ◌^◌, ◌<◌, ◌≤◌, ◌⊎◌, ◌↔◌, [], IfOk, IsTrue, OnErr, OnOk, length, vec_capacity};
+ghost use Rattle.std.specs.Prelude.{◌≡◌, ◌+◌, ◌-◌, ◌^◌, ◌<◌, ◌≤◌, ◌⊎◌, ◌↔◌, [], IfOk, IsFalse, IsTrue, OnErr, OnOk, length, vec_capacity};
 ghost use Rattle.std.specs.Io.KnownBytes.{Appends};
 ghost use Rattle.nfs_journal.specs.File.{file};
 ghost use Rattle.nfs_journal.specs.Journals.{file_of};
 ghost use Rattle.nfs_program.specs.Backlog.{HasNoPlaceAt, Puts, TakesTo};
 
+use crate::BUFFER_LEN;
 use nfs_core::{Entry, Journal};
 use nfs_journal::{AuditError, write_journal};
 use std::alloc::Global;
@@ -25,14 +26,16 @@ pub(crate) struct Backlog {
 }
 
 impl Backlog {
-    /// The file of a journal that has no entries.
+    /// The file of a journal that has no entries. All the memory that pieces take is taken now.
     pub(crate) fn of(alloc: Global, journal: &Journal) -> Result<Backlog, AuditError>
         requires none { journal.now.history.entries ≡ [] }
         ensures bytes { IfOk result
             (λ b. b.bytes.items ≡ file.encoding (file_of journal.now.history)) }
         ensures count { IfOk result (λ b. b.count ≡ 0) }
     {
-        let mut bytes = Vec::new(alloc);
+        let Ok(mut bytes) = Vec::with_capacity(alloc, BUFFER_LEN) else {
+            return Err(AuditError::Memory);
+        };
         match write_journal(&mut bytes, journal) {
             Ok(()) => Ok(Backlog { bytes, count: 0 }),
             Err(error) => Err(error),
@@ -44,6 +47,20 @@ impl Backlog {
         ensures { result ≡ self.now.count }
     {
         self.count
+    }
+
+    /// How many bytes wait.
+    pub(crate) fn len(&self) -> usize
+        ensures { result ≡ length self.now.bytes.items }
+    {
+        self.bytes.len()
+    }
+
+    /// Whether bytes wait.
+    pub(crate) fn is_waiting(&self) -> bool
+        ensures { IsFalse result ↔ self.now.bytes.items ≡ [] }
+    {
+        !self.bytes.is_empty()
     }
 
     /// Takes the next entries of the journal, which begins with those that were taken before, and returns whether some
@@ -82,6 +99,9 @@ impl Backlog {
         ensures { Puts self.old entry.now most result self.new }
     {
         let end = self.bytes.len();
+        if end > most {
+            return Ok(false);
+        }
         entry.write(&mut self.bytes)?;
         if self.bytes.len() > most {
             self.bytes.truncate(end);
@@ -91,11 +111,12 @@ impl Backlog {
         Ok(true)
     }
 
-    /// Writes what waits. At Ok nothing waits any more.
+    /// Writes what waits. At Ok nothing waits any more; at Err the same bytes wait, to be written again from the first.
     pub(crate) fn write_to<W: Write>(&mut self, file: &mut W) -> io::Result<()>
         ensures bytes { OnOk result
             (Appends (W.contents file.old) (W.contents file.new) self.old.bytes.items) }
         ensures none { OnOk result (self.new.bytes.items ≡ []) }
+        ensures kept { OnErr result (self.new.bytes.items ≡ self.old.bytes.items) }
         ensures count { self.new.count ≡ self.old.count }
     {
         file.write_all(self.bytes.as_slice())?;

@@ -5,93 +5,146 @@ ghost use Rattle.std.specs.Prelude.{◌≡◌, []};
 use crate::Draft;
 use crate::backlog::Backlog;
 use nfs_core::Journal;
+use nfs_journal::AuditError;
 use nfs_orders::OrderError;
 use std::alloc::Global;
 use std::io::{Error, ErrorKind, Write};
 use xdr::WireError;
 
 /// The beginning of a journal that grows, kept in a file of its own: that of the journal before its first entry, and
-/// then whole entries to the end. Where it can't be kept any further, that is told once.
+/// then whole entries. A piece that can't be written is told once, and is written again each time that the journal is
+/// looked at, from the place where the last whole piece ended.
 #[derive(Drop)]
 pub struct Beginning<'a, D> {
     name: &'a str,
     draft: D,
-    state: State,
+    backlog: Backlog,
+    // How many bytes the whole pieces have that were written.
+    len: u64,
+    trouble: Trouble,
 }
 
-// Whether the file can be kept.
+// Why the file lacks entries that were seen.
 #[derive(Drop)]
-enum State {
-    Kept(Backlog),
-    // The file can't be kept any further, and no line has told that yet.
-    Lost(Error),
-    GivenUp,
+enum Trouble {
+    Absent,
+    Untold(Error),
+    Told,
 }
 
-impl<'a, D: Draft> Beginning<'a, D> {
-    /// The beginning of this journal, which has no entries, in the file of this name, where what an earlier run left is
-    /// set aside.
-    pub fn new(alloc: Global, name: &'a str, draft: D, journal: &Journal) -> Beginning<'a, D>
+impl<'a, D: Draft + Drop> Beginning<'a, D> {
+    /// The beginning of this journal, which has no entries, in the file of this name. Without memory for it, the file
+    /// is removed.
+    pub fn new(
+        alloc: Global,
+        name: &'a str,
+        draft: D,
+        journal: &Journal,
+    ) -> Result<Beginning<'a, D>, AuditError>
         requires none { journal.now.history.entries ≡ [] }
     {
         let mut draft = draft;
-        let state = match Backlog::of(alloc, journal) {
-            Ok(backlog) => match draft.set_aside() {
-                Ok(()) => State::Kept(backlog),
-                Err(error) => State::Lost(error),
-            },
-            Err(_) => State::Lost(Error::from(ErrorKind::OutOfMemory)),
+        let backlog = match Backlog::of(alloc, journal) {
+            Ok(backlog) => backlog,
+            Err(error) => {
+                let _ = draft.remove();
+                return Err(error);
+            }
         };
-        let mut beginning = Beginning { name, draft, state };
-        beginning.write();
-        beginning
+        let mut beginning = Beginning {
+            name,
+            draft,
+            backlog,
+            len: 0,
+            trouble: Trouble::Absent,
+        };
+        let _ = beginning.write();
+        Ok(beginning)
     }
+}
 
-    /// Takes the next of the journal's entries, and returns whether some were left. Nothing is written yet.
+impl<'a, D: Draft> Beginning<'a, D> {
+    /// Takes the next of the journal's entries, unless some wait that couldn't be written, and returns whether some
+    /// were left. Nothing is written yet.
     pub(crate) fn take(&mut self, journal: &Journal) -> bool {
-        let State::Kept(backlog) = &mut self.state else {
+        if self.backlog.is_waiting() {
             return false;
-        };
-        match backlog.take(journal) {
+        }
+        match self.backlog.take(journal) {
             Ok(are_left) => are_left,
             Err(error) => {
-                self.state = State::Lost(Error::from(kind_of(error)));
+                self.note(Error::from(kind_of(error)));
                 false
             }
         }
     }
 
-    /// Writes what was taken.
-    pub(crate) fn write(&mut self) {
-        if let State::Kept(backlog) = &mut self.state {
-            if let Err(error) = backlog.write_to(&mut self.draft) {
-                self.state = State::Lost(error);
+    /// Writes what was taken, and returns whether that was a piece that couldn't be written before.
+    pub(crate) fn write(&mut self) -> bool {
+        if !self.backlog.is_waiting() {
+            return false;
+        }
+        let len = self.backlog.len();
+        match self.backlog.write_to(&mut self.draft) {
+            Ok(()) => {
+                let was_troubled = self.is_troubled();
+                self.len = self.len.saturating_add(len as u64);
+                self.trouble = Trouble::Absent;
+                was_troubled
+            }
+            Err(error) => {
+                self.draft.go_back(self.len);
+                self.note(error);
+                false
             }
         }
     }
 
-    /// How many entries it has, if it is kept.
+    // Whether it lacks entries that were seen.
+    fn is_troubled(&self) -> bool {
+        match &self.trouble {
+            Trouble::Absent => false,
+            Trouble::Untold(_) | Trouble::Told => true,
+        }
+    }
+
+    // Notes what is wrong, unless that was noted before.
+    fn note(&mut self, error: Error) {
+        if !self.is_troubled() {
+            self.trouble = Trouble::Untold(error);
+        }
+    }
+
+    /// How many entries it has, unless it lacks some that were seen.
     pub(crate) fn count_written(&self) -> Result<usize, OrderError> {
-        match &self.state {
-            State::Kept(backlog) => Ok(backlog.count()),
-            State::Lost(_) | State::GivenUp => Err(OrderError::JournalLost),
+        if self.is_troubled() {
+            return Err(OrderError::JournalLost);
         }
+        Ok(self.backlog.count())
     }
 
-    /// Tells where it can't be kept any further, if that wasn't told.
+    /// Tells why it lacks entries, if it does and that wasn't told.
     pub(crate) fn tell<E: Write>(&mut self, lines: &mut E) {
-        if let State::Lost(error) = &self.state {
-            let _ = writeln!(lines, "{}: {error}; the run goes on without it", self.name);
-            self.state = State::GivenUp;
+        if let Trouble::Untold(error) = &self.trouble {
+            let name = self.name;
+            let _ = writeln!(
+                lines,
+                "{name}: {error}; entries are lacking until a write succeeds"
+            );
+            self.trouble = Trouble::Told;
         }
     }
 
-    /// Brings the file up to the journal's last entry.
+    /// Brings the file up to the last entry of the journal, which grows no more.
     pub(crate) fn complete(&mut self, journal: &Journal) {
         for _ in 0..=journal.len() {
-            let are_left = self.take(journal);
-            self.write();
-            if !are_left {
+            let _ = self.take(journal);
+            let _ = self.write();
+            if self.is_troubled() {
+                return;
+            }
+            if self.backlog.count() == journal.len() {
+                self.draft.note_whole(self.len);
                 return;
             }
         }

@@ -1,13 +1,16 @@
-//! The trait by which this crate writes, renames and removes the file of a journal whose run isn't over.
+//! The trait by which this crate writes and removes the file of a journal whose run isn't over.
 
 use std::io;
 use std::io::Write;
 
 /// A file that is written while a run goes on, and that isn't wanted any more once the journal's own file stands.
 pub trait Draft: Write {
-    /// Gives another name to a file that an earlier run left, if there is one. Nothing was written yet.
-    fn set_aside(&mut self) -> io::Result<()>;
+    /// Has the next byte written at this place of the file, over what is there.
+    fn go_back(&mut self, place: u64);
 
-    /// Removes the file, if it was made.
+    /// Is told how long the file is, once it has each entry of a journal that grows no more.
+    fn note_whole(&mut self, len: u64);
+
+    /// Removes the file, unless it has become the journal's own.
     fn remove(&mut self) -> io::Result<()>;
 }

@@ -1,7 +1,7 @@
 //! Chooses the fault that a run reports, if several connections, threads or files failed.
 
 ghost use Rattle.std.specs.Prelude.{◌≡◌, map};
-ghost use Rattle.nfs_program.specs.Faults.{fault_of_ongoing_run, fault_of_run, first_fault_of, first_fault_of_shifts, is_memory_refused};
+ghost use Rattle.nfs_program.specs.Faults.{fault_of_ongoing_run, fault_of_run, first_fault_of, first_fault_of_shifts, is_each_refused};
 
 use crate::Fault;
 use nfs_threads::{ConnectionEnd, Shift};
@@ -34,11 +34,11 @@ fn first_fault_of_shifts(shifts: &[Shift]) -> Option<Fault>
     None
 }
 
-// Whether memory or a thread was refused for one of the workers.
-fn is_memory_refused(shifts: &[Shift]) -> bool
-    ensures { result ≡ is_memory_refused shifts.now }
+// Whether memory or a thread was refused for each of the workers, so that none served.
+fn is_each_refused(shifts: &[Shift]) -> bool
+    ensures { result ≡ is_each_refused shifts.now }
 {
-    shifts.iter().any(|shift| shift.end.is_err())
+    shifts.iter().all(|shift| shift.end.is_err())
 }
 
 /// The fault of a run: that nobody swept or nobody called clients back, since no thread could be made for that; or else
@@ -54,7 +54,7 @@ pub(crate) fn run_fault(has_helpers: bool, shifts: &[Shift], filed: Option<Fault
 }
 
 /// The fault of a run that goes on, of which none of its connections has a part: that memory or a thread was refused
-/// for a worker, for the sweeps or for callbacks; or else that of the journal's file.
+/// for each worker, for the sweeps or for callbacks; or else that of the journal's file.
 pub(crate) fn ongoing_run_fault(
     has_helpers: bool,
     shifts: &[Shift],
@@ -62,7 +62,7 @@ pub(crate) fn ongoing_run_fault(
 ) -> Option<Fault>
     ensures { result ≡ fault_of_ongoing_run has_helpers shifts.now filed }
 {
-    if !has_helpers || is_memory_refused(shifts) {
+    if !has_helpers || is_each_refused(shifts) {
         return Some(Fault::NoMemory);
     }
     filed

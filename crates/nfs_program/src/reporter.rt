@@ -25,7 +25,7 @@ pub struct Reporter<'a, R, D> {
 
 impl<'a, R: Wait + Clock, D: Draft + Drop> Reporter<'a, R, D> {
     /// For a run that begins, in which the memory of the entries has a bound of so many MiB, if it has one. Where the
-    /// beginning of its journal can't be kept, that is told.
+    /// beginning of its journal can't be written, that is told.
     pub fn new(
         rt: &'a R,
         lines: &'a Lines,
@@ -45,20 +45,19 @@ impl<'a, R: Wait + Clock, D: Draft + Drop> Reporter<'a, R, D> {
         }
     }
 
-    /// Looks once more, when the run has ended, how much memory its entries count, and whether a call was refused for
-    /// that.
-    pub(crate) fn look_at_memory(&self, journal: &Journal) {
+    /// Looks once more, when the run has ended: how much memory its entries count, whether a call was refused for that,
+    /// and which entries the beginning of the journal lacks. These are written.
+    pub(crate) fn look_last(&self, journal: &Journal) {
         let mut sight = self.sight.lock(self.rt);
-        sight.look_at_memory(journal);
+        sight.look_last(journal);
         let mut text = Line::new();
         sight.tell(&mut text);
         self.lines.tell(self.rt, LineKind::Journal, &text);
     }
 
-    /// Ends with the run. The beginning of the journal is brought up to the last entry of this one; where there is
-    /// none, it isn't wanted any more, and is removed. How many lines were left out is told. Returns what tells the
-    /// rest.
-    pub fn end(self, journal: Option<&Journal>) -> Teller<'a, R> {
+    /// Ends with the run. The beginning of the journal is removed, unless this fault kept the journal's file from being
+    /// written. How many lines were left out is told. Returns what tells the rest.
+    pub fn end(self, unfiled: Option<Fault>) -> Teller<'a, R> {
         let Reporter {
             rt,
             lines,
@@ -66,13 +65,9 @@ impl<'a, R: Wait + Clock, D: Draft + Drop> Reporter<'a, R, D> {
             sight,
         } = self;
         if let Some(mut beginning) = sight.into_inner().into_beginning() {
-            match journal {
-                Some(journal) => beginning.complete(journal),
-                None => beginning.remove(),
+            if unfiled.is_none() {
+                beginning.remove();
             }
-            let mut text = Line::new();
-            beginning.tell(&mut text);
-            lines.tell(rt, LineKind::Journal, &text);
         }
         lines.tell_left_out(rt);
         Teller::new(rt, lines, LineKind::Run)
@@ -119,6 +114,18 @@ impl<'a, R: Wait + Clock, D: Draft> Watcher for Reporter<'a, R, D> {
     fn tell_refusal(&self) {
         let teller = self.teller(LineKind::Run);
         let _ = eprintln!(teller; "a connection isn't accepted; it is tried again");
+    }
+
+    fn tell_thread_refused(&self, begun: u32, workers: u32) {
+        let teller = self.teller(LineKind::Run);
+        let _ = eprintln!(teller;
+            "no thread for a worker: {begun} of {workers} run; it is tried again each second"
+        );
+    }
+
+    fn tell_all_begun(&self, workers: u32) {
+        let teller = self.teller(LineKind::Run);
+        let _ = eprintln!(teller; "all workers run: {workers} of {workers}");
     }
 
     fn tell_path_down(&self, client: u32, callback: &Callback, fault: CallbackFault) {

@@ -46,8 +46,9 @@ pub fn end_run<E: Write, J: Sink>(
 }
 
 /// Ends a run that goes on, by what it left, likewise. What ended a connection is no fault of such a run: if it had its
-/// helpers, and memory for each worker was there, the fault is that of the journal's file. Where that file stands, the
-/// beginning of the journal is removed.
+/// helpers, and memory for a worker was there, the fault is that of the journal's file. Before that file is written,
+/// the beginning of the journal is brought up to the last entry. Once it stands, the beginning is removed, unless the
+/// file was made of it.
 pub fn end_ongoing_run<R: Wait + Clock, D: Draft + Drop, J: Sink>(
     buffer: &mut Vec<u8>,
     run: &RunEnd,
@@ -62,10 +63,9 @@ pub fn end_ongoing_run<R: Wait + Clock, D: Draft + Drop, J: Sink>(
         → ¬ (HasRoomForFileOf (vec_capacity buffer.old) run.now.core.journal))
         × (result ≡ status_of (fault_of_ongoing_run run.now.has_helpers run.now.shifts.items filed)) }
 {
-    reporter.look_at_memory(run.core.journal());
+    reporter.look_last(run.core.journal());
     let filed = file_journal(buffer, run.core.journal(), journal);
-    let unfiled = filed.map(|_| run.core.journal());
-    let teller = reporter.end(unfiled);
+    let teller = reporter.end(filed);
     let fault = ongoing_run_fault(run.has_helpers, run.shifts.as_slice(), filed);
     let mut text = Line::new();
     let status = exit_status(&mut text, fault);

@@ -41,19 +41,25 @@ impl<'a, D: Draft> Sight<'a, D> {
         true
     }
 
-    /// Looks once more at the memory of the journal's entries, when the run has ended.
-    pub(crate) fn look_at_memory(&mut self, journal: &Journal) {
+    /// Looks once more, when the run has ended: at the memory of the journal's entries, and at those that the beginning
+    /// lacks, which are written.
+    pub(crate) fn look_last(&mut self, journal: &Journal) {
         self.limits.look_at_memory(journal);
-    }
-
-    /// Writes what was seen of the journal.
-    pub(crate) fn write(&mut self) {
         if let Some(beginning) = &mut self.beginning {
-            beginning.write();
+            beginning.complete(journal);
         }
     }
 
-    /// How many entries the beginning of the journal has, if it is kept.
+    /// Writes what was seen of the journal. Behind a piece that waited for long, there may be entries at once.
+    pub(crate) fn write(&mut self) {
+        if let Some(beginning) = &mut self.beginning {
+            if beginning.write() {
+                self.is_level = false;
+            }
+        }
+    }
+
+    /// How many entries the beginning of the journal has, if there is one that lacks none.
     pub(crate) fn count_written(&self) -> Result<usize, OrderError> {
         match &self.beginning {
             Some(beginning) => beginning.count_written(),

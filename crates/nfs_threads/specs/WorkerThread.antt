@@ -11,8 +11,9 @@ use Rattle.nfs_threads.specs.Worker.{IsEndOf, Linking}
 abbrev pub IsWorker : {N L D C : Type 0} → Linking L D C → Files → L → SeatView → Worker N L D C
     → Type 0
 IsWorker linking tree links seat (workers.Begun handle) =
-    (handle.promise.tree.value ≡ tree) × (handle.promise.links.value ≡ links)
-    × (handle.promise.seat.value ≡ seat)
+    (handle.promise.promise.value.tree.value ≡ tree)
+    × (handle.promise.promise.value.links.value ≡ links)
+    × (handle.promise.promise.value.seat.value ≡ seat)
 IsWorker linking tree links seat (workers.Refused end) = IsEndOf linking tree links seat end
 
 -- each worker is that of the links and the seat at its place

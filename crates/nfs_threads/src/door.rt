@@ -28,9 +28,12 @@ struct Lobby {
     busy: u32,
     arrival: Option<Arrival>,
     is_closed: bool,
-    // Whether it was told that all workers are busy, and that the system gave an error.
+    // How many workers have begun.
+    begun: u32,
+    // Whether it was told that all workers are busy, that the system gave an error, and that it made no thread.
     is_full_told: bool,
     is_refusal_told: bool,
+    is_thread_told: bool,
 }
 
 // What came of an accept.
@@ -52,8 +55,10 @@ impl Door {
                 busy: 0,
                 arrival: None,
                 is_closed: false,
+                begun: 0,
                 is_full_told: false,
                 is_refusal_told: false,
+                is_thread_told: false,
             }),
             asked: Condvar::new(),
             come: Condvar::new(),
@@ -164,6 +169,23 @@ impl Door {
     fn becomes_refused<R: Wait>(&self, rt: &R) -> bool {
         let mut lobby = self.lobby.lock(rt);
         !mem::replace(&mut lobby.is_refusal_told, true)
+    }
+
+    /// One more worker has begun. Returns whether these are all, after it was told that a thread was refused.
+    pub(crate) fn note_begun<R: Wait>(&self, rt: &R) -> bool {
+        let mut lobby = self.lobby.lock(rt);
+        lobby.begun = lobby.begun.saturating_add(1);
+        lobby.begun == self.workers && lobby.is_thread_told
+    }
+
+    /// The system made no thread for a worker. At the first time, how many workers have begun.
+    pub(crate) fn first_refused_thread<R: Wait>(&self, rt: &R) -> Option<u32> {
+        let mut lobby = self.lobby.lock(rt);
+        if mem::replace(&mut lobby.is_thread_told, true) {
+            None
+        } else {
+            Some(lobby.begun)
+        }
     }
 
     /// Waits until a worker asks for a connection, and returns whether the door is still open.

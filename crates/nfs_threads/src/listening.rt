@@ -21,7 +21,7 @@ use crate::sweeping::sweep_until;
 use crate::tcp_links::Entrance;
 use crate::time_source::TimeSource;
 use crate::watcher::Nobody;
-use crate::{Door, RunEnd, TcpLinks, Watcher, WorkerEnd, serve_all, workers_keep_receipts};
+use crate::{Door, Retry, RunEnd, TcpLinks, Watcher, WorkerEnd, serve_all, workers_keep_receipts};
 use nfs_core::Core;
 use nfs_shared::{Naming, Opened, Seat, Sender, Shared, SharedParts, Sweeper};
 use nfs_tree::Tree;
@@ -32,6 +32,9 @@ use std::sync::Wait;
 use std::thread;
 use std::thread::{Scope, Threads};
 use std::time::{Clock as Timer, Duration};
+
+// How many seconds it is from a thread that was refused to the next try.
+const RETRY_SECONDS: u64 = 1;
 
 /// Serves the next connections that come to the listener, as many as `connections` says, each in a thread of its own,
 /// and ends when all of them have ended. Meanwhile one more thread removes clients whose leases are over, and another
@@ -150,6 +153,27 @@ impl<'a, R: Wait, W> Setting<'a, R, W> {
             Some(door) => door.close(self.rt),
             None => self.bell.ring(self.rt),
         }
+    }
+}
+
+impl<'a, R: Wait + Timer, W: Watcher> Retry for Setting<'a, R, W> {
+    fn note_begun(&self) {
+        if let Some(door) = self.door {
+            if door.note_begun(self.rt) {
+                self.watcher.tell_all_begun(door.workers());
+            }
+        }
+    }
+
+    // A run that goes on tries it once a second until its end.
+    fn wait_for_thread(&self) -> bool {
+        let Some(door) = self.door else {
+            return false;
+        };
+        if let Some(begun) = door.first_refused_thread(self.rt) {
+            self.watcher.tell_thread_refused(begun, door.workers());
+        }
+        !self.bell.wait(self.rt, Duration::from_secs(RETRY_SECONDS))
     }
 }
 
@@ -301,9 +325,10 @@ fn serve_beside<
         { call_back_until(setting, shared, sender) },
     );
     setting.end_unless_swept(sweeping.is_ok());
-    let all = match serve_all(setting.alloc, setting.rt, shared, setting.tree, links) {
+    let (alloc, tree) = (setting.alloc, setting.tree);
+    let all = match serve_all(alloc, setting.rt, setting, shared, tree, links) {
         Ok(all) => all,
-        Err(links) => refuse_all(setting.alloc, setting.tree, links, spare),
+        Err(links) => refuse_all(alloc, tree, links, spare),
     };
     setting.end();
     let has_helpers = sweeping.is_ok() && calling.is_ok();

@@ -12,8 +12,8 @@ use nfs_shared::{Naming, Shared, Sweeper};
 use std::sync::Wait;
 use std::time::{Clock as Timer, Duration};
 
-// How many seconds it is from a look of the watcher to the next one.
-const PERIOD: u64 = 1;
+// How many milliseconds it is from a look of the watcher to the next one.
+const WATCH_MILLIS: u64 = 100;
 
 // How many milliseconds it is from a look for the mark of a path to the next one.
 const LOOK_MILLIS: u64 = 5;
@@ -22,7 +22,8 @@ const LOOK_MILLIS: u64 = 5;
 const LAST_MOMENT: u64 = (1 << 40) - 3;
 
 /// Does what is ordered, one order after the other, and has the watcher told of each answer, until the orders end or
-/// one of them ends the run. Then it closes the door. The watcher looks about once a second. Gives the sweeper back.
+/// one of them ends the run. Then it closes the door. The watcher looks about ten times a second. Gives the sweeper
+/// back.
 pub(crate) fn obey_until<N: Naming, R: Wait + Timer, W: Watcher>(
     setting: &Setting<'_, R, W>,
     door: &Door,
@@ -40,7 +41,7 @@ pub(crate) fn obey_until<N: Naming, R: Wait + Timer, W: Watcher>(
         watched: setting.rt.monotonic().unwrap_or(Duration::ZERO),
     };
     for _ in setting.rt.forever() {
-        let goes_on = match orders.next(setting.rt, Duration::from_secs(PERIOD)) {
+        let goes_on = match orders.next(setting.rt, Duration::from_millis(WATCH_MILLIS)) {
             Next::Line(line) => helm.answer(line),
             Next::Nothing => true,
             Next::End => false,
@@ -195,7 +196,8 @@ impl<N: Naming, R: Wait + Timer, W: Watcher> Helm<'_, N, R, W> {
 
     // Has the watcher look, if its last look was a while ago.
     fn watch(&mut self) {
-        if self.time().saturating_sub(self.watched).as_secs() >= PERIOD {
+        let since = self.time().saturating_sub(self.watched);
+        if since >= Duration::from_millis(WATCH_MILLIS) {
             self.show();
         }
     }

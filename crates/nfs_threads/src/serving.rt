@@ -9,7 +9,7 @@ ghost use Rattle.nfs_server.specs.Serves.{served_by};
 
 use crate::worker::Common;
 use crate::worker_thread::{Worker, begin, finish};
-use crate::{Links, WorkerEnd};
+use crate::{Links, Retry, WorkerEnd};
 use nfs_shared::{Naming, Seat, Shared};
 use nfs_tree::Tree;
 use std::alloc::{AllocError, Global};
@@ -20,11 +20,17 @@ use std::thread::{Scope, Threads};
 
 /// Serves these links, each at its seat in a thread of its own. All threads are begun before the first is waited for,
 /// and what each worker gives back stands in the order of the links. If memory is refused for the lists, nothing begins
-/// and the links come back. A worker for which no thread can be made gives its seat back at once, and took no
-/// connection.
-pub fn serve_all<N: Naming + Send + Sync, L: Links + Drop + Send, R: Threads + Wait + Sync>(
+/// and the links come back. The thread of a worker is tried as often as `retry` says, before the next worker begins. A
+/// worker for which no thread can be made gives its seat back, and took no connection.
+pub fn serve_all<
+    N: Naming + Send + Sync,
+    L: Links + Drop + Send,
+    R: Threads + Wait + Sync,
+    Y: Retry,
+>(
     alloc: Global,
     rt: &R,
+    retry: &Y,
     shared: &Shared<N>,
     tree: &Tree,
     links: Vec<(L, Seat<N>)>,
@@ -55,7 +61,7 @@ pub fn serve_all<N: Naming + Send + Sync, L: Links + Drop + Send, R: Threads + W
                 (linking L.Links L.Device.Duplex L.Clock.Clock (served_by N.start))
                 common.entry.now.tree.now links.items ends.items) }
             ensures back { IfErr result (λ back. back ≡ links) }
-        { serve_in(scope, common, flags, links) },
+        { serve_in(scope, common, retry, flags, links) },
     )
 }
 
@@ -68,9 +74,11 @@ fn serve_in<
     N: Naming + Send + Sync + 's,
     L: Links + Drop + Send + 's,
     R: Threads + Wait + Sync,
+    Y: Retry,
 >(
     scope: &Scope<'s, E>,
     common: &'s Common<'s, N, R>,
+    retry: &Y,
     mut flags: &'s [AtomicBool],
     links: Vec<(L, Seat<N>)>,
 ) -> Result<Vec<WorkerEnd<N>>, Vec<(L, Seat<N>)>>
@@ -93,7 +101,7 @@ fn serve_in<
             unreachable!()
         };
         flags = others;
-        workers.push_reserved(begin(scope, common, refused, link, seat));
+        workers.push_reserved(begin(scope, common, retry, refused, link, seat));
     }
     finish_all(common.rt, workers, &mut ends);
     Ok(ends)

@@ -1,4 +1,4 @@
-//! The thread that sweeps once a second and shows the core to the run's watcher.
+//! The thread that sweeps once a second and shows the core to the run's watcher, more often.
 
 use crate::listening::Setting;
 use crate::obeying::obey_until;
@@ -8,8 +8,11 @@ use nfs_shared::{Naming, Shared, Sweeper};
 use std::sync::Wait;
 use std::time::{Clock as Timer, Duration};
 
-// How many seconds it is from a sweep to the next one.
-const PERIOD: u64 = 1;
+// How many milliseconds it is from a look of the watcher to the next one.
+const LOOK_MILLIS: u64 = 100;
+
+// How many of these the watcher has between two sweeps, which takes a second.
+const LOOKS: u32 = 10;
 
 // How many looks the watcher has after a sweep at most.
 const MOST_LOOKS: u32 = 4_096;
@@ -28,7 +31,7 @@ pub(crate) fn sweep_until<N: Naming, R: Wait + Timer, W: Watcher>(
 }
 
 // Once a second removes the clients whose leases are over, revokes the delegations that are due and forgets the open
-// owners that may be forgotten, and then has the watcher look.
+// owners that may be forgotten. The watcher looks ten times as often.
 fn sweep_each_second<N: Naming, R: Wait + Timer, W: Watcher>(
     setting: &Setting<'_, R, W>,
     shared: &Shared<N>,
@@ -36,13 +39,29 @@ fn sweep_each_second<N: Naming, R: Wait + Timer, W: Watcher>(
 ) -> Sweeper<N> {
     let mut uptime = Uptime::of(setting.rt, setting.source);
     for _ in setting.rt.forever() {
-        if setting.bell.wait(setting.rt, Duration::from_secs(PERIOD)) {
+        if watch_on(setting, shared) {
             break;
         }
         shared.sweep(setting.rt, &mut sweeper, uptime.now());
-        show(setting.rt, shared, setting.watcher);
     }
     sweeper
+}
+
+// Has the watcher look for a second, unless the run ends before. Returns whether it has ended.
+fn watch_on<N: Naming, R: Wait + Timer, W: Watcher>(
+    setting: &Setting<'_, R, W>,
+    shared: &Shared<N>,
+) -> bool {
+    for _ in 0..LOOKS {
+        if setting
+            .bell
+            .wait(setting.rt, Duration::from_millis(LOOK_MILLIS))
+        {
+            return true;
+        }
+        show(setting.rt, shared, setting.watcher);
+    }
+    false
 }
 
 /// Has the watcher look at the core, and write down what it sees, as often as it wants to, each time in a hold of its

@@ -18,13 +18,19 @@ pub trait Watcher {
     /// Is told, once, that the system gave an error in place of a connection.
     fn tell_refusal(&self);
 
+    /// Is told, once, that the system made no thread for a worker, so that only so many have begun. It is tried again.
+    fn tell_thread_refused(&self, begun: u32, workers: u32);
+
+    /// Is told that all workers have begun, after a thread was refused.
+    fn tell_all_begun(&self, workers: u32);
+
     /// Is told why a call to this client, at this address, failed, so that its callback path is down.
     fn tell_path_down(&self, client: u32, callback: &Callback, fault: Fault);
 
     /// Is told, once for a call, that it has had no reply from this client for five seconds. The call goes on.
     fn tell_no_reply(&self, client: u32, callback: &Callback);
 
-    /// Looks at the core, about once a second, while the lock is held. Returns whether there is something to write
+    /// Looks at the core, about ten times a second, while the lock is held. Returns whether there is something to write
     /// down, and with it another look at once.
     fn look(&self, core: &Core) -> bool;
 
@@ -48,6 +54,10 @@ impl Watcher for Nobody {
     fn tell_full(&self, _workers: u32) {}
 
     fn tell_refusal(&self) {}
+
+    fn tell_thread_refused(&self, _begun: u32, _workers: u32) {}
+
+    fn tell_all_begun(&self, _workers: u32) {}
 
     fn tell_path_down(&self, _client: u32, _callback: &Callback, _fault: Fault) {}
 

@@ -7,8 +7,9 @@ ghost use Rattle.nfs_shared.specs.Seats.{SeatView};
 ghost use Rattle.nfs_tree.specs.Tree.{Files};
 ghost use Rattle.nfs_server.specs.Serves.{served_by};
 
+use crate::retry::{Again, spawn_again};
 use crate::worker::{Common, ServicePromise, work};
-use crate::{Links, WorkerEnd};
+use crate::{Links, Retry, WorkerEnd};
 use nfs_shared::{Naming, Seat};
 use std::snapshot::Snapshot;
 use std::sync::Wait;
@@ -18,20 +19,22 @@ use std::thread::{PromisedHandle, Scope, Threads};
 /// The thread of a worker; or, where no thread could be made for it, what the worker gave back at once.
 #[derive(Drop)]
 pub(crate) enum Worker<N: Naming, L: Links> {
-    Begun(PromisedHandle<WorkerEnd<N>, ServicePromise<N, L>>),
+    Begun(PromisedHandle<WorkerEnd<N>, Again<ServicePromise<N, L>>>),
     Refused(WorkerEnd<N>),
 }
 
-/// Begins the worker of these links and a seat.
+/// Begins the worker of these links and a seat, and tries that as often as the run does.
 pub(crate) fn begin<
     's,
     E,
     N: Naming + Send + Sync + 's,
     L: Links + Drop + Send + 's,
     R: Wait + Sync,
+    Y: Retry,
 >(
     scope: &Scope<'s, E>,
     common: &'s Common<'s, N, R>,
+    retry: &Y,
     refused: &'s AtomicBool,
     links: L,
     seat: Seat<N>,
@@ -46,8 +49,11 @@ pub(crate) fn begin<
         links: Snapshot::of(&links),
         seat: Snapshot::of(&seat),
     };
-    let begun = scope.spawn_with(
-        promise,
+    let begun = spawn_again(
+        scope,
+        common.rt,
+        retry,
+        &promise,
         move || -> WorkerEnd<N>
             requires { (N.start.nodes ≡ common.now.tree.now.nodes) × (seat.receipts.given ≡ 0) }
             ensures { IsEndOf (linking L.Links L.Device.Duplex L.Clock.Clock (served_by N.start))

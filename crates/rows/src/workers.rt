@@ -8,7 +8,7 @@ use crate::calls::Calls;
 use crate::failure::Failure;
 use crate::sweeping::{Sweeps, sweep_until};
 use nfs_shared::{Naming, Seat, Shared, Sweeper};
-use nfs_threads::{Links, WorkerEnd, receipts_by_connection, serve_all};
+use nfs_threads::{Links, NoRetry, WorkerEnd, receipts_by_connection, serve_all};
 use nfs_tree::Tree;
 use std::alloc::Global;
 use std::sync::Wait;
@@ -35,7 +35,8 @@ impl<'a, N: Naming + Send + Sync, R: Threads + Wait + Sync> Workers<'a, N, R> {
         requires unused { AreUnused (seats_of links.items) }
         ensures { IfOk result (λ ends. AreServed links.items ends.items) }
     {
-        let Ok(ends) = serve_all(self.alloc, self.rt, self.shared, self.tree, links) else {
+        let (alloc, rt) = (self.alloc, self.rt);
+        let Ok(ends) = serve_all(alloc, rt, &NoRetry, self.shared, self.tree, links) else {
             return Err(Failure::Memory);
         };
         receipts_by_connection::<N, L>();

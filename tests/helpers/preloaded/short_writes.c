@@ -9,6 +9,7 @@
 #include <unistd.h>
 
 static ssize_t (*next)(int, const void *, size_t);
+static ssize_t (*next_at)(int, const void *, size_t, off_t);
 
 static void note(const char *path, size_t size) {
     char line[32];
@@ -18,10 +19,20 @@ static void note(const char *path, size_t size) {
     close(file);
 }
 
-ssize_t write(int file, const void *bytes, size_t size) {
-    if (!next) next = (ssize_t (*)(int, const void *, size_t))dlsym(RTLD_NEXT, "write");
+static size_t taken(int file, size_t size) {
     const char *path = getenv("WRITES"), *most = getenv("MOST_WRITTEN");
+    if (!next) next = (ssize_t (*)(int, const void *, size_t))dlsym(RTLD_NEXT, "write");
     if (file > 2 && path) note(path, size);
-    if (file > 2 && most && size > strtoul(most, NULL, 10)) size = strtoul(most, NULL, 10);
+    return file > 2 && most && size > strtoul(most, NULL, 10) ? strtoul(most, NULL, 10) : size;
+}
+
+ssize_t write(int file, const void *bytes, size_t size) {
+    size = taken(file, size);
     return next(file, bytes, size);
+}
+
+ssize_t pwrite(int file, const void *bytes, size_t size, off_t place) {
+    size = taken(file, size);
+    if (!next_at) next_at = (ssize_t (*)(int, const void *, size_t, off_t))dlsym(RTLD_NEXT, "pwrite");
+    return next_at(file, bytes, size, place);
 }

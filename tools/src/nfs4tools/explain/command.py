@@ -1,7 +1,8 @@
-"""Prints each refusal of a journal, and below it why the call was refused.
+"""Prints each refusal of a journal, and below it why the call was refused; and each callback path that is marked down.
 
 The cause comes from the independent model: it replays the entries before the refusal. After the cause come the
-heading of docs/RULES.md that has the rule, and the section of RFC 7530. Answers of OK aren't shown.
+heading of docs/RULES.md that has the rule, and the section of RFC 7530. Answers of OK aren't shown. Why a callback
+failed isn't in the journal: the run's standard error has a line on it.
 
 Equal refusals are shown once, with a line that says how often they came. Refusals are equal if they have one cause,
 and their requests differ only in sequence ids and stateids. With --each all refusals are shown.

@@ -1,5 +1,5 @@
-"""The lines of tools/explain: why calls are refused, what becomes of delegations, and which answers are kept ones.
-Equal refusals are told once: who asks again and again would else fill the screen."""
+"""The lines of tools/explain: why calls are refused, which callback paths fail, what becomes of delegations, and which
+answers are kept ones. Equal refusals are told once: who asks again and again would else fill the screen."""
 import argparse
 import itertools
 import sys
@@ -12,6 +12,7 @@ from nfs4tools.explain.at import Renewals, State
 from nfs4tools.explain.differences import differences
 from nfs4tools.journal.entries import Call
 from nfs4tools.journal.entries import Entry as Recorded
+from nfs4tools.journal.entries import Path
 from nfs4tools.journal.history import History
 from nfs4tools.journal.named_words import named_line_of
 from nfs4tools.journal.partial import end_line, tell_end
@@ -35,7 +36,8 @@ MANY = 200
 
 @dataclass
 class Paragraph:
-    """What is printed of an entry; and if it is a refusal how many are equal to it, and the last of them."""
+    """What is printed of an entry; how many are equal to it, with it; and the last of them, with its reason if it is a
+    refusal."""
 
     lines: list[str]
     first: int
@@ -44,39 +46,43 @@ class Paragraph:
     last: int = 0
     reason: Reason | None = None
 
-    def add(self, number: int, reason: Reason) -> None:
+    def add(self, number: int, reason: Reason | None) -> None:
         self.count, self.last, self.reason = self.count + 1, number, reason
 
     def text(self) -> Iterator[str]:
         yield from self.lines
-        if self.reason is not None:
-            times = repeated_words(self.reason, self.count)
+        if self.count > 1:
+            times = f"{self.count} times" if self.reason is None else repeated_words(self.reason, self.count)
             yield f"    entries {self.first} to {self.last}: {times}"
 
 
 class Paragraphs:
     """Those of a journal, in their order."""
 
-    def __init__(self, given: argparse.Namespace, server: History, entries: Sequence[Entry] = ()) -> None:
-        self.given, self.server, self.entries = given, server, entries
+    def __init__(
+        self, given: argparse.Namespace, server: History, entries: Sequence[Entry] = (), begin: int = 0
+    ) -> None:
+        self.given, self.server = given, server
+        # The entries from the number on that `begin` is.
+        self.entries, self.begin = entries, begin
         self.all: list[Paragraph] = []
-        self.refusals: dict[Any, Paragraph] = {}
+        # The first of equal ones, by what they have in common.
+        self.first: dict[Any, Paragraph] = {}
         # All refusals by their numbers, with their reasons.
         self.reasons: list[tuple[int, Reason]] = []
 
     def add(self, told: ExplainedEntry) -> None:
         if told.reason is not None and is_refusal(told.entry):
             self.reasons.append((told.number, told.reason))
-        key = None if self.given.each or self.given.again else request_and_cause(told)
-        if key in self.refusals:
-            assert told.reason is not None
-            self.refusals[key].add(told.number, told.reason)
+        key = None if self.given.each or self.given.again else what_is_equal(told)
+        if key in self.first:
+            self.first[key].add(told.number, told.reason)
             return
         lines = self.lines_of(told)
         if lines:
             self.all.append(Paragraph(lines, told.number, is_refusal(told.entry)))
         if lines and key is not None:
-            self.refusals[key] = self.all[-1]
+            self.first[key] = self.all[-1]
 
     def count_refusals(self) -> int:
         """How many refusals are printed, of which equal ones are one; none if replays are asked for."""
@@ -90,7 +96,7 @@ class Paragraphs:
             first = paragraph.first
             self.show_entries(range(max(told + 1, first - context), first), own)
             print("\n".join(paragraph.text()))
-            following = range(first + 1, min(first + 1 + context, len(self.entries)))
+            following = range(first + 1, min(first + 1 + context, self.begin + len(self.entries)))
             told = self.show_entries(itertools.takewhile(lambda number: number not in own, following), own, first)
         sys.stdout.flush()
 
@@ -98,7 +104,7 @@ class Paragraphs:
         """Prints entries that have no paragraph: the number of the last."""
         for number in numbers:
             if number not in own:
-                print(f"{number}: {self.words_of(self.entries[number].recorded)}")
+                print(f"{number}: {self.words_of(self.entries[number - self.begin].recorded)}")
             last = number
         return last
 
@@ -117,14 +123,32 @@ class Paragraphs:
         if is_refusal(told.entry):
             assert told.reason is not None
             below.append(f"{sentence(told.reason, self.server)} ({place_of(told.reason)})")
+        if path := failed_path(told.entry):
+            below.append(path_words(path))
         below += told.events if self.given.delegations else []
         head = [f"{told.number}: {self.words_of(told.entry)}"] if below else []
         return head + [f"    {line}" for line in below]
 
 
-def request_and_cause(told: ExplainedEntry) -> Any:
-    """What equal refusals have in common: the request, but for its sequence ids and stateids, and the cause. It is None
-    for other entries."""
+def failed_path(entry: Recorded) -> Path | None:
+    """The entry, if it marks a callback path down."""
+    return entry if isinstance(entry, Path) and not entry.is_up else None
+
+
+def path_words(path: Path) -> str:
+    """Where the reason is of a path that is marked down, which no entry has."""
+    line = f"`client {path.client}: callback to ..`"
+    return (
+        "a callback to the client failed, or an order marked the path; the run's standard error has the reason of a "
+        f"callback, in a line {line} (RULES: Paths)"
+    )
+
+
+def what_is_equal(told: ExplainedEntry) -> Any:
+    """What equal entries have in common, of which the first is told: of refusals the request, but for its sequence ids
+    and stateids, and the cause; of paths that are marked down the client. It is None for other entries."""
+    if path := failed_path(told.entry):
+        return None if told.events else path.client
     if told.reason is None or not is_refusal(told.entry) or told.events:
         return None
     assert isinstance(told.entry, Call)
@@ -156,7 +180,7 @@ def explain(given: argparse.Namespace) -> None:
     if given.summary and given.no_reasons:
         summarize(given.path, selection)
         return
-    run = run_of_file(given.path, selection.last(), given.json)
+    run = run_of_file(given.path, selection.last(), given.json, selection.first())
     expect_names(selection, run.entries)
     replayed = Replayed(run, given.delegations)
     if given.summary:
@@ -183,10 +207,10 @@ def end(run: Run[Entry], fault: str | None, is_json: bool = False) -> None:
 
 def show_state(path: str, number: int, selection: Selection) -> None:
     """The state after the entry of this number."""
-    run = run_of_file(path, number)
-    if len(run.entries) <= number:
+    run = run_of_file(path, number, first=0 if selection.has_names() else number)
+    if run.count() <= number:
         end(run, None)
-        sys.exit(f"fault: entry {number} isn't there: there are {len(run.entries)} entries, from 0 on")
+        sys.exit(f"fault: entry {number} isn't there: there are {run.count()} entries, from 0 on")
     expect_names(selection, run.entries)
     replayed = Replayed(run)
     renewals = Renewals(replayed.server)
@@ -199,9 +223,10 @@ def show_state(path: str, number: int, selection: Selection) -> None:
 
 def show_differences(given: argparse.Namespace, selection: Selection) -> None:
     """Where this run and another one part; the status is 1 if they do."""
-    runs = [run_of_file(path, selection.last()) for path in (given.path, given.diff)]
+    first, last = selection.first(), selection.last()
+    runs = [run_of_file(path, last, first=first) for path in (given.path, given.diff)]
     expect_names(selection, [*runs[0].entries, *runs[1].entries])
-    found = list(differences(*(selection.chosen(run.entries) for run in runs)))
+    found = list(differences(*(selection.chosen(run.entries, run.passed) for run in runs)))
     print(f"- {given.path}\n+ {given.diff}")
     for _, lines in found:
         print("\n".join(lines))
@@ -213,15 +238,16 @@ def show_differences(given: argparse.Namespace, selection: Selection) -> None:
 
 def show_paragraphs(given: argparse.Namespace, selection: Selection, replayed: Replayed[Entry]) -> None:
     """Refusals, or what else is asked for; on a terminal the summary in the place of very many."""
-    paragraphs = Paragraphs(given, replayed.server, replayed.run.entries)
+    run = replayed.run
+    paragraphs = Paragraphs(given, replayed.server, run.entries, len(run.passed))
     for _, told in replayed.told(selection=selection):
         paragraphs.add(told)
     if paragraphs.count_refusals() <= MANY or not sys.stdout.isatty():
         paragraphs.show(selection.context)
         return
-    summary = summary_of(replayed.run, selection)
+    summary = summary_of(run, selection)
     for number, reason in paragraphs.reasons:
-        summary.add_reason(replayed.run.entries[number], reason)
+        summary.add_reason(run.at(number), reason)
     show_summary(summary, replayed.server)
     print(f"\nThese are {paragraphs.count_refusals()} refusals, more than {MANY}. All of them: explain FILE | less")
     print("Some of them: --client, --file, --owner, --status, --entries, --moments")
@@ -231,8 +257,8 @@ def show_json(given: argparse.Namespace, selection: Selection, replayed: Replaye
     """A line for each entry that has what is asked for."""
     for entry, told in replayed.told(selection=selection):
         is_again = told.reason is not None and told.reason.again is not None
-        is_asked = is_again if given.again else entry.is_refusal or given.delegations and told.events
-        if is_asked:
+        is_told = entry.is_refusal or failed_path(told.entry) is not None or given.delegations and told.events
+        if is_again if given.again else is_told:
             data = entry_data(entry, given.whole)
             data["reason"] = None if told.reason is None else reason_data(told.reason, replayed.server)
             if given.delegations:
@@ -245,9 +271,11 @@ def show_json(given: argparse.Namespace, selection: Selection, replayed: Replaye
 
 def summarize(path: str, selection: Selection) -> None:
     """The summary without reasons, for which no entry has to be kept."""
-    reading, names, summary, chooser = Reading(path, Entry, selection.last()), Names(), Summary(), Chooser(selection)
+    reading = Reading(path, Entry, selection.last(), selection.first())
+    names, summary, chooser = Names(), Summary(), Chooser(selection)
     for piece in pieces_of(reading):
-        for entry in piece:
+        chooser.pass_over(piece.passed)
+        for entry in piece.entries:
             if selection.has_names():
                 names.add(entry)
             if chooser.is_wanted(entry):
@@ -260,7 +288,7 @@ def summarize(path: str, selection: Selection) -> None:
 
 def summary_of(run: Run[Entry], selection: Selection) -> Summary:
     summary = Summary()
-    for entry in selection.chosen(run.entries):
+    for entry in selection.chosen(run.entries, run.passed):
         summary.add(entry)
     return summary
 

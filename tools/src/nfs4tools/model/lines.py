@@ -1,4 +1,5 @@
 """Lines of a run on standard error: those that may be many, and the words of errors."""
+import errno
 import threading
 import time
 
@@ -9,7 +10,9 @@ MOST_LINES = 10
 
 
 def error_words(failed: OSError) -> str:
-    """What the system says of an error, as the program has it."""
+    """What the system says of an error, as the program has it; and how a limit is lifted that is the reason."""
+    if failed.errno == errno.EFBIG:
+        return "File too large; `ulimit -f unlimited` lifts the limit"
     return f"{failed.strerror} (os error {failed.errno})"
 
 

@@ -6,7 +6,8 @@ from collections.abc import Callable
 from typing import Any
 
 from nfs4tools.journal.entries import MOMENT_LIMIT
-from nfs4tools.journal.journal import LEASE_LIMIT, Recorder, journal_bytes
+from nfs4tools.journal.journal import LEASE_LIMIT, Recorder
+from nfs4tools.model.journal_file import write_journal
 from nfs4tools.model.lines import error_words
 from nfs4tools.model.server import Server
 from nfs4tools.model.tree import DEFAULT, Refused, SYNTAX, Tree
@@ -103,11 +104,7 @@ def main() -> None:
     sys.stdout.buffer.write(replies)
     sys.stdout.flush()
     if given.journal is not None:
-        try:
-            with open(given.journal, "wb") as file:
-                file.write(journal_bytes(server.journal()))
-        except OSError as error:
-            print(f"{given.journal}: {error_words(error)}", file=sys.stderr)
-            fault = fault or "file not written"
+        of_the_file = write_journal(given.journal, server.journal())
+        fault = fault or of_the_file
     if fault:
         sys.exit(f"fault: {fault}")

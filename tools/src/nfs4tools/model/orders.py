@@ -1,7 +1,7 @@
 """What a test orders a server to do, by a line each: moments, marks of callback paths, waits, and the end.
 docs/PROGRAM.md has the table of the orders and their answers.
 
-The orders are done one after the other, by one thread, which also keeps the beginning of the journal."""
+The orders are done one after the other, by one thread."""
 import re
 import time
 from collections.abc import Callable
@@ -15,7 +15,7 @@ from nfs4tools.model.tcp import StopFlag, SharedServer
 
 # The seconds between two looks of a wait, those of a wait that says none, and the most.
 LOOK, WAIT, LONGEST_WAIT = 0.005, 5, 600
-# The seconds between two updates of the journal's beginning.
+# The most seconds without a look at whether the run ends.
 PERIOD = 1.0
 # The last moment, and the greatest number of a client.
 LAST_MOMENT, LAST_CLIENT = MOMENT_LIMIT - 1, 2**32 - 1
@@ -75,8 +75,7 @@ class Orders:
     ) -> None:
         self.served, self.queue, self.answers = served, queue, answers
         self.stop_flag, self.beginning = stop_flag, beginning
-        # Whether the end was ordered; and when the beginning was updated last.
-        self.is_end_ordered, self.updated = False, time.monotonic()
+        self.is_end_ordered = False
         self.tasks: dict[str, Callable[..., str]] = {
             "advance": self.advance,
             "sweep": self.sweep,
@@ -93,7 +92,6 @@ class Orders:
             line = self.queue.take(PERIOD)
             if line is not None:
                 self.do(line)
-            self.update()
         self.stop_flag.set()
 
     def do(self, line: Line) -> None:
@@ -109,12 +107,6 @@ class Orders:
         if not self.is_end_ordered:
             for _ in range(line.refused):
                 self.answers.give(TOO_MANY)
-
-    def update(self) -> None:
-        """Writes what is new of the journal, once a second."""
-        if self.beginning is not None and time.monotonic() - self.updated >= PERIOD:
-            self.updated = time.monotonic()
-            self.beginning.update()
 
     # The orders.
 
@@ -148,7 +140,6 @@ class Orders:
                 return f"client {found} {mark}"
             if time.monotonic() - begun >= most:
                 raise NotDone(f"not within {most} s")
-            self.update()
             time.sleep(LOOK)
         raise NotDone(RUN_ENDS)
 

@@ -16,10 +16,11 @@ import time
 from datetime import UTC, datetime
 from typing import Any
 
-from nfs4tools.journal.journal import Recorder, journal_bytes
+from nfs4tools.journal.journal import Recorder
 from nfs4tools.model.beginning import Beginning
 from nfs4tools.model.callback_source import CallbackSource
 from nfs4tools.model.caller import Caller, LOOK
+from nfs4tools.model.journal_file import NOT_WRITTEN, fault_of_file, part_of, write_journal
 from nfs4tools.model.lines import RatedLines, error_words
 from nfs4tools.model.once import options, server_of, within
 from nfs4tools.model.order_queue import Answers, OrderQueue, read_lines
@@ -112,17 +113,6 @@ def stop_at_signals(stop_flag: StopFlag) -> list[Any]:
     return heard
 
 
-def write_journal(path: str, server: Recorder) -> Any:
-    """The fault of the journal's file, or None."""
-    try:
-        with open(path, "wb") as file:
-            file.write(journal_bytes(server.journal()))
-    except OSError as failed:
-        say(f"{path}: {error_words(failed)}")
-        return "file not written"
-    return None
-
-
 def wall_time_of_start(served: SharedServer) -> str:
     """The wall time of moment 0, in UTC to the millisecond."""
     begun = datetime.fromtimestamp(time.time() - (time.monotonic() - served.begun), UTC)
@@ -133,8 +123,8 @@ def watcher_of(path: str | None, lease: int) -> Watcher:
     """What writes a trace to this file; or sees nothing where there is none."""
     try:
         return Watcher() if path is None else TraceWriter(path, "tools/model/serve.py", lease)
-    except OSError:
-        raise Fault("file not written") from None
+    except OSError as failed:
+        raise Fault(fault_of_file(str(path), error_words(failed))) from None
 
 
 class Service:
@@ -163,14 +153,16 @@ class Service:
         return self.shared(self.kind(self.first.tree, self.first.lease, self.first.epoch))
 
     def begin_threads(self) -> None:
-        """Those of sweeps or orders, and of callbacks, whose faults come before those of connections; and that of the
-        input."""
+        """Those of sweeps or orders, of callbacks and of the journal's file, whose faults come before those of
+        connections; and that of the input."""
         if self.given.orders:
             self.begin_orders()
         else:
-            self.links.begin_sweeps(self.served, self.look)
+            self.links.begin_sweeps(self.served)
         if not self.given.each:
             self.links.spawn(0, self.call_back)
+        if self.beginning is not None:
+            self.links.spawn(0, self.beginning.keep)
         reads_input = self.given.until_input_ends and self.orders is None
         if reads_input and not self.links.spawn(0, stop_at_end, self.stop_flag):
             self.stop_flag.set()
@@ -184,11 +176,6 @@ class Service:
             self.stop_flag.set()
         if not self.links.spawn(0, read_lines, queue):
             self.stop_flag.set()
-
-    def look(self) -> None:
-        """What is done behind a sweep."""
-        if self.beginning is not None:
-            self.beginning.update()
 
     def call_back(self) -> None:
         """Calls clients back until the stop flag is set."""
@@ -213,10 +200,9 @@ class Service:
     def run(self) -> tuple[list[Any], str | None]:
         """The signals that it heard, and its fault, or None."""
         if self.given.goes_on and self.given.journal is not None:
-            self.beginning = Beginning(self.given.journal, self.served)
+            part = part_of(self.given.journal)
+            self.beginning = None if part is None else Beginning(part, self.served)
         self.say_first()
-        if self.beginning is not None:
-            self.beginning.tell_start()
         self.begin_threads()
         fault = self.links.serve()
         if self.given.until_input_ends and self.orders is None and not self.heard and self.links.come == 0:
@@ -236,14 +222,17 @@ class Service:
 
     def end_journal(self) -> str | None:
         """Writes the journal: the fault of a file, or None."""
+        if self.beginning is not None:
+            self.beginning.stop()
         # Nothing changes any more, whatever a connection does that isn't let go yet. One that has no room for its line
         # of the trace keeps the turn.
         self.served.turn.acquire(timeout=PATIENCE)
-        path = self.given.journal
-        fault = None if path is None else write_journal(path, self.served.server)
+        path, fault = self.given.journal, None
         if self.beginning is not None:
-            self.beginning.end(fault is None)
-        return fault or (self.watcher.fault and "file not written")
+            fault = self.beginning.end()
+        elif path is not None:
+            fault = write_journal(path, self.served.server.journal())
+        return fault or (NOT_WRITTEN if self.watcher.fault else None)
 
 
 def main() -> None:

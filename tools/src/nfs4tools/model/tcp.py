@@ -27,6 +27,10 @@ TICK, SWEEP = 0.25, 1
 AT_ONCE, LATE = 0.001, 1
 # The most bytes of a read.
 PIECE = 16384
+# The connections that wait for a worker: more than any system lets wait, so that its own limit holds.
+QUEUE = 65535
+# The kind of the line that a thread is refused.
+NO_THREAD = "no thread"
 # After a connection's end: the bytes that are still read of it, and the seconds, those of a silent peer and all.
 LEFT, SILENT, LONGEST = 4 << 20, 0.5, 30
 
@@ -59,7 +63,7 @@ def listen(text: str) -> socket.socket:
     why = "no address"
     for family, _, _, _, address in found:
         try:
-            return socket.create_server(address, family=family, backlog=128)
+            return socket.create_server(address, family=family, backlog=QUEUE)
         except OSError as error:
             why = f"{os.strerror(error.errno or 0)} (os error {error.errno})"
     raise fault_of_address(text, why)
@@ -266,15 +270,38 @@ class Run:
             self.faults[number] = "no memory"
             return False
 
-    def begin_sweeps(self, server: SharedServer, look: Callable[[], Any]) -> None:
-        """Has a thread sweep about once a second, and then look. That there is no thread comes before the faults of
-        connections."""
+    def spawn_patiently(self, number: int, task: Callable[..., Any], *given: Any) -> bool:
+        """The same. In a run that goes on a thread that is refused is asked for again, until the run ends. That is no
+        fault then, unless it is the first connection's, so that none was served."""
+        is_refused = False
+        while not self.spawn(number, task, *given):
+            if self.goes_on and number > 1:
+                del self.faults[number]
+            if not self.goes_on or self.stop_flag.is_set():
+                return False
+            is_refused = True
+            running = f"{self.there - 1} of {self.most} run"
+            self.tell_once(f"no thread for a worker: {running}; it is tried again each second", NO_THREAD)
+            self.wait_for_end(SWEEP)
+        if is_refused:
+            self.faults.pop(number, None)
+        if is_refused and not self.stop_flag.is_set():
+            self.tell_once("each connection has a worker again")
+        return True
+
+    def wait_for_end(self, seconds: float) -> None:
+        """Waits so long, but not beyond the end of the run."""
+        until = time.monotonic() + seconds
+        while time.monotonic() < until and not self.stop_flag.is_set():
+            time.sleep(TICK)
+
+    def begin_sweeps(self, server: SharedServer) -> None:
+        """Has a thread sweep about once a second. That there is no thread comes before the faults of connections."""
 
         def sweep() -> None:
             while True:
                 time.sleep(SWEEP)
                 server.sweep()
-                look()
 
         self.spawn(0, sweep)
 
@@ -306,7 +333,7 @@ class Run:
             return
         self.come += 1
         self.count(1)
-        if not self.spawn(self.come, self.attend, self.come, stream, address):
+        if not self.spawn_patiently(self.come, self.attend, self.come, stream, address):
             stream.close()
             self.count(-1)
 
@@ -326,9 +353,11 @@ class Run:
             self.come += 1
             self.faults[self.come] = "input not read"
 
-    def tell_once(self, line: str) -> None:
-        if line not in self.told:
-            self.told.add(line)
+    def tell_once(self, line: str, kind: str | None = None) -> None:
+        """Says the first line of this kind, or of these words."""
+        kind = kind or line
+        if kind not in self.told:
+            self.told.add(kind)
             say(line)
 
     def attend(self, number: int, stream: socket.socket, address: tuple[str, int]) -> None:
