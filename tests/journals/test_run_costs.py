@@ -25,6 +25,10 @@ OF_LONG = [
     ([EXPLAIN, "--status", "DENIED"], 15),
     ([SHOW, "--client", "alpha"], 15),
     ([SHOW, "--html", PAGE], 20),
+    # As small a part as of the longest run. On a quiet machine each takes half as long.
+    ([EXPLAIN, "--entries", "99000-"], 10),
+    ([SHOW, "--entries", "99000-"], 10),
+    ([SHOW, "--html", PAGE, "--entries", "99000-"], 10),
 ]
 OF_LONGEST = [
     ([EXPLAIN, "--entries", "990000-"], 60),

@@ -6,12 +6,15 @@ import pytest
 
 from helpers.hand_made_run import entries, hand_made, introduced
 from helpers.journal_cases import beginning_of
+from helpers.row_journals import journal_of, rows_of
 from helpers.run_commands import call, path, put, run_of
 from nfs4tools.explain.command import main as explain
 from nfs4tools.journal.entries import Answer, Call, Path
 from nfs4tools.journal.journal import head_bytes, journal_bytes
 from nfs4tools.runs.options import span
-from nfs4tools.runs.run import Entry, read_run
+from nfs4tools.runs.reasons import reason_data
+from nfs4tools.runs.replayed import Replayed
+from nfs4tools.runs.run import Entry, Reading, read_run
 from nfs4tools.runs.selection import NoSuch, Selection, Span
 from nfs4tools.runs.summary import Summary
 from nfs4tools.show.command import main as show_journal
@@ -195,6 +198,45 @@ def test_explain_filtered(path, call):
         "7",
     ]
     assert call(explain, "--owner", "Z", path)[::2] == (1, "fault: no entry has the owner 'Z': there is A, B, L\n")
+
+
+# Rows in which requests come again, and calls are refused for what stands.
+REPEATING = ["owners.rows", "delays.rows", "lock_sequences.rows", "delegation_conflicts.rows"]
+
+
+def told_from(path, first):
+    """Of each refusal from this entry on: whom it is about, and its reason as data."""
+    reading = Reading(path, Entry, first=first)
+    run = reading.run_of(list(reading.pieces()))
+    assert [it.number for it in run.entries] == list(range(first, run.count()))
+    replayed = Replayed(run)
+    told = replayed.told(selection=Selection(entries=Span(first)))
+    return [
+        (entry, entry.client, entry.path, entry.owners, reason_data(it.reason, replayed.server))
+        for entry, it in told
+        if it.reason is not None
+    ]
+
+
+@pytest.mark.parametrize("name", REPEATING)
+def test_from_an_entry_on(put, name):
+    """What is said of the last entries is the same if nothing is wanted of those before them."""
+    journals = [it for it in map(journal_of, rows_of(name)) if it is not None and len(it.entries) > 1]
+    for journal in journals:
+        path = put("run.journal", journal_bytes(journal))
+        whole = told_from(path, 0)
+        for first in range(1, len(journal.entries)):
+            assert told_from(path, first) == [it for it in whole if it[0].number >= first]
+    assert journals
+
+
+def test_parts_of_a_range(path, call):
+    """Moments, context and the state after an entry, where all of it stands behind entries that aren't wanted."""
+    lines = call(show_journal, path)[1]
+    assert call(show_journal, "--entries", "11-", "--moments", "-94", path)[1] == [lines[11]]
+    assert call(show_journal, "--entries", "12-", "--context", "2", path)[1] == lines[10:]
+    assert call(explain, "--entries", "6-8", "--context", "1", path)[1] == [lines[5], *REFUSED, lines[7]]
+    assert call(explain, "--summary", "--no-reasons", "--entries", "13-", path)[1][-1] == "no client  1 from 13"
 
 
 TABLE = [

@@ -1,6 +1,8 @@
 """The reason of a call's answer: `Causes` goes through the rules of its operation in their order, as the model does,
 and takes the first that refuses it. `tests/journals/test_reasons.py` sees that each refusal has one, of the status that was
 answered, and that no other call has any."""
+from collections.abc import Set
+
 from nfs4tools.explain.common import Reasons
 from nfs4tools.explain.kinds import Reason
 from nfs4tools.explain.of_transfers import OfTransfers
@@ -12,7 +14,10 @@ from nfs4tools.wire import Status
 
 
 class Causes(OfTransfers):
-    """Why calls are refused, in the present state of a server that follows a journal."""
+    """Why calls are refused, in the present state of a server that follows a journal. If `later` isn't None, it has the
+    requests of all calls whose reasons are wanted."""
+
+    later: Set[Request] | None = None
 
     def reason_of(self, call: Call) -> Reason | None:
         """The reason of the answer that the next entry has; or None if the call is OK, and no kept request again."""
@@ -21,10 +26,11 @@ class Causes(OfTransfers):
     def reason_of_lawful(self, call: Call, is_wanted: bool = True) -> Reason | None:
         """The same, if the answer is known to be the one that the rules give: one of OK has a reason only if it is a
         stored reply. A reason that isn't wanted is left out, unless the reason of a later stored reply may name it."""
-        status, is_request = call.answer.status, OPERATIONS[call.opnum].subject == Subject.REQUEST
-        if status != Status.OK:
-            return self.reason_of(call) if is_wanted or is_request and status not in NOT_COUNTED else None
-        if not is_request:
+        if not is_wanted and not self.is_for_later(call):
+            return None
+        if call.answer.status != Status.OK:
+            return self.reason_of(call)
+        if OPERATIONS[call.opnum].subject != Subject.REQUEST:
             return None
         request = Request(call.opnum, call.arguments, call.filehandle)
         try:
@@ -33,6 +39,13 @@ class Causes(OfTransfers):
             return None
         is_again = owner is not None and replay(owner.kept, sequence_id_of(request), request) is not None
         return self.note(self.kept_answer(owner)) if owner is not None and is_again else None
+
+    def is_for_later(self, call: Call) -> bool:
+        """Whether the call may get a stored reply, or its answer may be stored for a later call whose reason is
+        wanted."""
+        if call.answer.status in NOT_COUNTED or OPERATIONS[call.opnum].subject != Subject.REQUEST:
+            return False
+        return self.later is None or Request(call.opnum, call.arguments, call.filehandle) in self.later
 
     def note(self, reason: Reason | None) -> Reason | None:
         """Keeps the reason of the next entry, as later ones may be stored replies."""

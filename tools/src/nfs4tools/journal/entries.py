@@ -16,6 +16,8 @@ from nfs4tools.wire import (
     Form,
     OPEN_DELEGATE_NONE,
     OPEN_DELEGATE_WRITE,
+    OWNER_LIMIT,
+    Open,
     OpenOwner,
     Opnum,
     Principal,
@@ -25,11 +27,15 @@ from nfs4tools.wire import (
     Unreadable,
     Word,
     form_of,
+    read_claim,
+    read_openhow,
     u32,
     u64,
 )
 
 MOMENT_LIMIT = 2**40 - 2
+# A number of 32 bits.
+WORD = struct.Struct(">I")
 
 # The statuses that an answer may have; and those of an operation without a rule that changes directories.
 STATUSES = wire.GIVEN_STATUSES
@@ -60,11 +66,12 @@ class StrictReader(wire.Reader):
         return value
 
     def u32(self) -> int:
-        begin, end = self.at, self.at + 4
-        if end > len(self.data):
-            raise EndsEarly("it ends too early")
-        self.at = end
-        return int.from_bytes(self.data[begin:end], "big")
+        try:
+            number: int = WORD.unpack_from(self.data, self.at)[0]
+        except struct.error:
+            raise EndsEarly("it ends too early") from None
+        self.at += 4
+        return number
 
     def u32s(self, count: int) -> Sequence[int]:
         begin, end = self.at, self.at + 4 * count
@@ -88,7 +95,7 @@ class StrictReader(wire.Reader):
         self.at = end + -length % 4
         if self.at > len(self.data):
             raise EndsEarly("it ends too early")
-        if any(self.data[end : self.at]):
+        if end < self.at and any(self.data[end : self.at]):
             raise NotJournal("padding that isn't zero")
         return self.data[begin:end]
 
@@ -226,8 +233,25 @@ RESTS: dict[tuple[int, int], Callable[[Any], Any]] = {
 }
 
 
+# How many bytes follow the status, where whatever they are is right: a stateid.
+GIVING_STATEIDS = Opnum.CLOSE, Opnum.LOCK, Opnum.LOCKU, Opnum.OPEN_CONFIRM, Opnum.OPEN_DOWNGRADE
+LENGTHS: dict[tuple[int, int], int] = {(opnum, Status.OK): 16 for opnum in GIVING_STATEIDS}
+
+
 def read_answer(reader: StrictReader) -> Answer:
     number, status = reader.u32s(2)
+    length = LENGTHS.get((number, status))
+    if length is not None:
+        return Answer(number, status, reader.fixed(length))
+    expect_answer(number, status)
+    begin, read = reader.at, RESTS.get((number, status))
+    if read is not None and not ((number, status) == OPENED and passes_plain_open(reader)):
+        read(reader)
+    return Answer(number, status, reader.data[begin : reader.at])
+
+
+def expect_answer(number: int, status: int) -> None:
+    """An operation may have this status."""
     if not 3 <= number <= 39 and number != Opnum.ILLEGAL:
         raise NotJournal("an answer to no operation")
     if status not in STATUSES:
@@ -235,10 +259,6 @@ def read_answer(reader: StrictReader) -> Answer:
     has_rule = number in wire.ARGUMENTS or number == Opnum.ILLEGAL
     if not has_rule and status not in WITHOUT_RULE.get(number, {Status.NOTSUPP}):
         raise NotJournal("an operation without a rule has another answer than NOTSUPP")
-    begin, read = reader.at, RESTS.get((number, status))
-    if read is not None and not ((number, status) == OPENED and passes_plain_open(reader)):
-        read(reader)
-    return Answer(number, status, reader.data[begin : reader.at])
 
 
 # The answer to an OPEN that brings no attributes and no delegation: the stateid, whether the change is atomic, the
@@ -287,29 +307,41 @@ def read_operation(reader: StrictReader, profile: str) -> tuple[Opnum, Any]:
     return OPNUMS[number], wire.ARGUMENTS[number](reader)
 
 
-# What a Call begins with: the moment, the flavor, the uid, whether there is a filehandle, and its node.
-CALL_HEAD = struct.Struct(">QIIII")
+# What a Call has before its arguments: its kind, the moment, the flavor, the uid, whether there is a filehandle, its
+# node, and the operation.
+CALL_HEAD = struct.Struct(">IQIIIII")
+
+
+def read_open(reader: StrictReader) -> Open:
+    """The arguments of an OPEN, as their form has them, in fewer steps: no other operation has more entries."""
+    seqid, access, deny, epoch, client = reader.u32s(5)
+    owner = OpenOwner(epoch, client, reader.opaque(OWNER_LIMIT))
+    return Open(seqid, access, deny, owner, read_openhow(reader), read_claim(reader))
+
+
+READS: dict[int, Callable[[Any], Any]] = wire.ARGUMENTS | {Opnum.OPEN: read_open}
 
 
 def read_call(reader: StrictReader, tree: Tree) -> Call:
-    head = read_whole_head(reader, len(tree.nodes)) or (
-        read_moment(reader),
-        read_principal(reader),
-        read_filehandle(reader, len(tree.nodes)),
-    )
-    return Call(*head, *read_operation(reader, tree.policy.profile), read_answer(reader))
+    moment, principal = read_moment(reader), read_principal(reader)
+    filehandle = read_filehandle(reader, len(tree.nodes))
+    return Call(moment, principal, filehandle, *read_operation(reader, tree.policy.profile), read_answer(reader))
 
 
-def read_whole_head(reader: StrictReader, nodes: int) -> tuple[int, Principal, int | None] | None:
-    """What a Call begins with, if it is whole and nothing is wrong with it: it is read at once, since most are so."""
+def read_whole_call(reader: StrictReader, tree: Tree) -> Call | None:
+    """The next entry, if it is a Call whose head is whole and has nothing wrong: that is read at once, since most are
+    so."""
     if reader.at + CALL_HEAD.size > len(reader.data):
         return None
-    moment, flavor, uid, is_present, node = CALL_HEAD.unpack_from(reader.data, reader.at)
-    is_right = moment < MOMENT_LIMIT and flavor < 2 and is_present < 2 and node < nodes
-    if not is_right or flavor == wire.AUTH_NONE and uid != 0 or node != 0 and not is_present:
+    kind, moment, flavor, uid, is_present, node, number = CALL_HEAD.unpack_from(reader.data, reader.at)
+    is_right = moment < MOMENT_LIMIT and flavor < 2 and is_present < 2 and node < len(tree.nodes)
+    if kind != CALL or not is_right or number not in STATEFUL_BY_PROFILE[tree.policy.profile]:
+        return None
+    if flavor == wire.AUTH_NONE and uid != 0 or node != 0 and not is_present:
         return None
     reader.at += CALL_HEAD.size
-    return moment, (flavor, uid), node if is_present else None
+    filehandle, arguments = node if is_present else None, READS[number](reader)
+    return Call(moment, (flavor, uid), filehandle, OPNUMS[number], arguments, read_answer(reader))
 
 
 def request_bytes(call: Call) -> bytes:
@@ -321,6 +353,9 @@ def request_bytes(call: Call) -> bytes:
 
 def read_entry(reader: StrictReader, tree: Tree, has_forgets: bool = True) -> Entry:
     """The next entry of a journal over this tree. Journals of an earlier version have no Forget."""
+    call = read_whole_call(reader, tree)
+    if call is not None:
+        return call
     kind = reader.u32()
     if kind == CALL:
         return read_call(reader, tree)

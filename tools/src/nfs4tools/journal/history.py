@@ -94,11 +94,9 @@ class History(Recorder):
     states_of: dict[OwnerKey, set[int]] = field(default_factory=dict)
     locks_of: dict[int, set[int]] = field(default_factory=dict)
 
-    def apply(
-        self, opnum: Opnum, arguments: Any, filehandle: int | None, principal: Principal, is_refused: bool = False
-    ) -> Result:
+    def result_of(self, opnum: Opnum, arguments: Any, filehandle: int | None, principal: Principal) -> Result:
         entry, opens = self.entries, self.opens
-        result = super().apply(opnum, arguments, filehandle, principal, is_refused)
+        result = super().result_of(opnum, arguments, filehandle, principal)
         if opnum == Opnum.OPEN and self.opens is not opens:
             left = {it.number for it in self.opens if it.owner == arguments.owner}
             self.note_ends(self.states_of.get(key_of(arguments.owner), set()) - left, entry)

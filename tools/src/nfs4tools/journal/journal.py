@@ -5,6 +5,7 @@ A journal has what a server began with, and an entry for each operation on its s
 docs/JOURNAL.md has the layout of the file. A journal is lawful if the model's rules allow each entry after the
 entries before it. `Recorder` is a model that keeps its journal. `Growing` reads a file that is no whole journal yet."""
 import argparse
+import gc
 import json
 import sys
 from collections.abc import Callable, Iterator
@@ -79,6 +80,15 @@ class Recorder(Server):
             answer = Answer(opnum, result.status, result.rest)
             self.recorded.append(Call(self.moment, principal, filehandle, opnum, arguments, answer))
         return result
+
+    def follow(self, call: Call) -> bool:
+        """Whether the server gives this answer; it has the entry then, and keeps it as it is."""
+        self.moment = call.moment
+        result = super().apply(call.opnum, call.arguments, call.filehandle, call.principal)
+        if result.status == Status.RESOURCE:
+            return False
+        self.recorded.append(call)
+        return (call.opnum, *result) == call.answer
 
     def expire(self, number: int, seen: int, now: int) -> int:
         entry = super().expire(number, seen, now)
@@ -192,9 +202,10 @@ class Growing:
             if self.head is None:
                 self.head, self.count = read_head(reader)
                 whole = reader.at
+            tree, has_forgets = self.head.tree, self.head.head != EARLIER
             while reader.at < len(reader.data) and self.fault is None:
                 self.expect_more(len(taken))
-                taken.append(read_next(reader, self.head))
+                taken.append(read_entry(reader, tree, has_forgets))
                 whole = reader.at
         except EndsEarly:
             pass
@@ -249,16 +260,6 @@ def states(journal: Journal, limit: int = JOURNAL_LIMIT, kind: type[Any] = Recor
         yield server
 
 
-def follow_call(server: Recorder, call: Call) -> bool:
-    """Whether the server gives this answer; it has the entry then, and keeps it only once."""
-    server.moment = call.moment
-    result = server.apply(call.opnum, call.arguments, call.filehandle, call.principal)
-    if result.status == Status.RESOURCE or server.recorded[-1] != call:
-        return False
-    server.recorded[-1] = call
-    return True
-
-
 def follow_expire(server: Recorder, expire: Expire) -> bool:
     """Whether the client may be removed: it is live, and more seconds than the lease have passed since it was seen (RFC
     7530, section 9.5). The server has removed it then."""
@@ -294,7 +295,7 @@ def is_made(change: Callable[[], Any]) -> bool:
 
 
 STEPS: dict[Any, Callable[[Any, Any], bool]] = {
-    Call: follow_call,
+    Call: Recorder.follow,
     Expire: follow_expire,
     Revoke: follow_revoke,
     Path: follow_path,
@@ -350,6 +351,8 @@ def main() -> int:
     parser.add_argument("--json", action="store_true", help="print a line of JSON instead (docs/run.schema.json)")
     parser.add_argument("journal", metavar="FILE", help="a journal, or a beginning of one, which is no journal")
     given = parser.parse_args()
+    # All entries are kept to the end, so there is nothing to look for that can be freed.
+    gc.disable()
     try:
         with open(given.journal, "rb") as source:
             data = source.read()

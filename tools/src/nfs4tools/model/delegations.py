@@ -62,26 +62,25 @@ class Delegating(State):
     def expect_none_in_the_way(self, held: list[Delegation], share: tuple[int, int]) -> None:
         """None of these delegations bars an open with this share; those that do are called back."""
         barring = [it for it in held if bars(it.kind, share)]
-        self.recall(barring)
         if barring:
+            self.recall(barring)
             raise Refusal(Status.DELAY)
 
     def kind_given(self, arguments: Open, file: int) -> int:
         """The kind of the delegation that an OPEN brings whose owner was confirmed before."""
         client, share = arguments.owner.client, (arguments.access, arguments.deny)
-        path = self.live_record(client).path
-        has_one = any((it.client, it.file) == (client, file) for it in self.delegations)
-        if arguments.claim.kind != CLAIM_NULL or path != UP or has_one:
-            return OPEN_DELEGATE_NONE
         kind = kind_wanted(self.tree.policy.delegations, share)
-        return OPEN_DELEGATE_NONE if self.is_barred(kind, client, file) else kind
+        if kind == OPEN_DELEGATE_NONE or arguments.claim.kind != CLAIM_NULL or self.live_record(client).path != UP:
+            return OPEN_DELEGATE_NONE
+        has_one = any(it.file == file and it.client == client for it in self.delegations)
+        return OPEN_DELEGATE_NONE if has_one or self.is_barred(kind, client, file) else kind
 
     def is_barred(self, kind: int, client: int, file: int) -> bool:
         """Whether an open or a delegation of another client is in the way of a delegation of this kind."""
-        opens = [it for it in self.opens_of(file) if it.client != client]
-        held = self.delegations_of_others(client, file)
+        opens = [it for it in self.opens_of(file) if it.owner.client != client]
         if kind == OPEN_DELEGATE_WRITE:
-            return bool(opens or held)
+            return bool(opens or self.delegations_of_others(client, file))
+        held = self.delegations_of_others(client, file)
         return any(bars(kind, it.share()) for it in opens) or any(it.kind == OPEN_DELEGATE_WRITE for it in held)
 
     def delegate(self, client: int, file: int, kind: int) -> bytes:

@@ -85,7 +85,7 @@ class Ranges:
 
     def runs(self) -> int:
         """How many runs are held."""
-        return sum(mode is not None for mode in self.modes)
+        return len(self.modes) - self.modes.count(None)
 
     def is_empty(self) -> bool:
         return self.runs() == 0

@@ -58,8 +58,8 @@ class Sequencing(State):
                 return Result(Status.BAD_SEQID)
         if begins or owner is None:
             return self.begin_owner(request, owner)
-        lock_owner = self.next_lock_owner(request)
-        result = answer(lambda: self.effect(request.opnum, request.arguments, request.filehandle))
+        lock_owner = self.next_lock_owner(request) if request.opnum == Opnum.LOCK else None
+        result = answer(self.effect, *request)
         if result.status not in NOT_COUNTED:
             owner.kept = self.kept(seqid, request, result)
             if lock_owner is not None or is_first_lock(request) and result.status == Status.OK:
@@ -72,7 +72,7 @@ class Sequencing(State):
         if owner is not None:
             del self.open_owners[owner.name]
             self.opens = [it for it in self.opens if it.owner != owner.name]
-        result = answer(lambda: self.effect(request.opnum, request.arguments, request.filehandle))
+        result = answer(self.effect, *request)
         if result.status == Status.OK:
             name = request.arguments.owner
             self.open_owners[name] = Owner(name, self.kept(request.arguments.seqid, request, result), self.entries)

@@ -190,7 +190,7 @@ class Server(Files, Sequencing, Sweeping):
             return opnum, refused(opnum, Status.RESOURCE)
         self.renew_by(opnum, arguments)
         if OPERATIONS[opnum].subject == Subject.HANDLES:
-            return opnum, answer(lambda: self.effect(opnum, arguments, handles))
+            return opnum, answer(self.effect, opnum, arguments, handles)
         result = self.apply(opnum, arguments, handles.current, call.principal, is_refused)
         if opnum == Opnum.OPEN and result.status == Status.OK and handles.current is not None:
             handles.current = self.tree.child(handles.current, arguments.claim.name)
@@ -209,14 +209,17 @@ class Server(Files, Sequencing, Sweeping):
         """Runs an operation that asks the state, which makes an entry of the journal, unless it is RESOURCE."""
         if is_refused or self.entries >= self.journal_limit:
             return refused(opnum, Status.RESOURCE)
-        kind = OPERATIONS[opnum].subject
-        if kind == Subject.REQUEST:
-            result = self.sequenced(Request(opnum, arguments, filehandle))
-        else:
-            subject = filehandle if kind == Subject.NODE else principal
-            result = answer(lambda: self.effect(opnum, arguments, subject))
+        result = self.result_of(opnum, arguments, filehandle, principal)
         self.entries += result.status != Status.RESOURCE
         return result
+
+    def result_of(self, opnum: Opnum, arguments: Any, filehandle: int | None, principal: Principal) -> Result:
+        """What the rules answer, by what the operation works on."""
+        kind = OPERATIONS[opnum].subject
+        if kind == Subject.REQUEST:
+            return self.sequenced(Request(opnum, arguments, filehandle))
+        subject = filehandle if kind == Subject.NODE else principal
+        return answer(self.effect, opnum, arguments, subject)
 
     def effect(self, opnum: Opnum, arguments: Any, subject: Any) -> bytes:
         """What the operation's rule answers."""

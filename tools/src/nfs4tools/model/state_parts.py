@@ -54,7 +54,7 @@ class Result(NamedTuple):
     rest: bytes = b""
 
 
-@dataclass
+@dataclass(slots=True)
 class Filehandles:
     """Of a COMPOUND: nodes of the tree, or None."""
 
@@ -62,7 +62,7 @@ class Filehandles:
     saved: int | None = None
 
 
-@dataclass
+@dataclass(slots=True)
 class ClientRecord:
     """A client that has introduced itself (section 9.1.1)."""
 
@@ -85,7 +85,7 @@ class Request(NamedTuple):
     filehandle: int | None
 
 
-@dataclass
+@dataclass(slots=True)
 class LastRequest:
     """The last request of an owner that counted, with its answer, its entry in the journal, and when it came (section
     9.1.8)."""
@@ -100,7 +100,7 @@ class LastRequest:
 OwnerName = OpenOwner | LockOwner
 
 
-@dataclass
+@dataclass(slots=True)
 class Owner:
     """An open owner or a lock owner that is known (section 9.1.5); only an open owner is confirmed (section 9.1.11)."""
 
@@ -111,7 +111,7 @@ class Owner:
     is_confirmed: bool = False
 
 
-@dataclass
+@dataclass(slots=True)
 class OpenState:
     """An open of an owner on a file (sections 9.9 and 9.11)."""
 
@@ -129,7 +129,7 @@ class OpenState:
         return self.owner.client
 
 
-@dataclass
+@dataclass(slots=True)
 class LockState:
     """What a lock owner has locked of a file, by an open of its client (section 9.1.4.1)."""
 
@@ -148,7 +148,7 @@ class LockState:
         return self.owner.client
 
 
-@dataclass
+@dataclass(slots=True)
 class Delegation:
     """A file that is lent to a client, for reading or for writing (section 10.4). Its seqid is one for good."""
 
@@ -218,10 +218,10 @@ def is_special(stateid: Stateid) -> bool:
     return stateid in SPECIAL
 
 
-def answer(rule: Callable[[], bytes]) -> Result:
-    """What the rule answers: OK and its bytes, or its refusal."""
+def answer(rule: Callable[..., bytes], *given: Any) -> Result:
+    """What the rule answers to what it is given: OK and its bytes, or its refusal."""
     try:
-        return Result(Status.OK, rule())
+        return Result(Status.OK, rule(*given))
     except Refusal as refusal:
         return Result(refusal.status, refusal.rest)
 

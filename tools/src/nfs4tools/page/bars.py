@@ -1,6 +1,7 @@
 """The opens, lock states and delegations of a run: each from the entry that gave it to the one that ended it, with what
 it was meanwhile."""
 from dataclasses import dataclass, field
+from functools import cache, partial
 from itertools import islice
 
 from nfs4tools.explain import Reason, ExplainedEntry
@@ -8,7 +9,8 @@ from nfs4tools.journal.entries import Call, Entry
 from nfs4tools.journal.history import History
 from nfs4tools.model.ranges import LAST_BYTE, READ_MODE, Run
 from nfs4tools.model.state_parts import Delegation, KeptState, LockState, OpenState
-from nfs4tools.runs.parties import path_of, text_of
+from nfs4tools.page.names import name_of
+from nfs4tools.runs.parties import path_of
 from nfs4tools.wire import OPEN_DELEGATE_WRITE, Opnum, Status
 
 # The operations whose answers begin with the stateid of the state that they change.
@@ -43,6 +45,7 @@ class Bars:
     def __init__(self, server: History) -> None:
         self.server = server
         self.of: dict[int, Bar] = {}
+        self.path_of = cache(partial(path_of, tree=server.tree))
         # How many states have ended, and how many were recalled and marked, by the last entry.
         self.ended = self.recalled = self.marked = 0
 
@@ -51,8 +54,8 @@ class Bars:
 
     def after(self, told: ExplainedEntry) -> None:
         server, entry = self.server, told.entry
-        for state in range(len(self.of) + 1, server.last_state + 1):
-            self.begin(told.number, server.given[state])
+        if server.last_state > len(self.of):
+            self.begin_new(told.number)
         changed = changed_by(entry)
         if changed in self.of:
             self.note(told.number, server.given[changed])
@@ -61,9 +64,14 @@ class Bars:
         if len(server.ended) > self.ended:
             self.note_ends(told.number)
 
+    def begin_new(self, number: int) -> None:
+        """The states that the entry of this number gave."""
+        for state in range(len(self.of) + 1, self.server.last_state + 1):
+            self.begin(number, self.server.given[state])
+
     def begin(self, number: int, state: KeptState) -> None:
-        owner = "" if isinstance(state, Delegation) else text_of(state.owner.name)
-        path = path_of(state.file, self.server.tree)
+        owner = "" if isinstance(state, Delegation) else name_of(state.owner.name)
+        path = self.path_of(state.file)
         self.of[state.number] = Bar(KINDS[type(state)], state.number, state.client, path, owner, number)
         self.note(number, state)
 

@@ -11,6 +11,7 @@ from nfs4tools.page.bars import Bars
 from nfs4tools.page.lives import Lives
 from nfs4tools.page.sequences import Sent, SequenceIds
 from nfs4tools.page.names import name_of
+from nfs4tools.runs.parties import last_moment
 from nfs4tools.runs.reasons import kind_name
 from nfs4tools.runs.replayed import Replayed
 from nfs4tools.runs.run import Entry, Run
@@ -59,16 +60,16 @@ def page_values(run: Run[Entry], title: str, selection: Selection = Selection())
         raise TooLarge(f"fault: {count} entries, and a page has at most {MOST}: --entries FROM-TO chooses some")
     replayed = Replayed(run)
     server = replayed.server
-    bars, lives, sequences = Bars(server), Lives(server), SequenceIds(server, span)
+    bars, lives, sequences = Bars(server), Lives(server), SequenceIds(server)
     rows: list[Row] = []
-    moment = moment_before(run.entries[: span.first])
-    for entry, told in replayed.told([bars, lives, sequences], Selection(entries=span)):
+    moment = last_moment([*run.passed, *(it.recorded for it in run.entries[: max(0, span.first - len(run.passed))])])
+    for entry, told in replayed.told([bars, lives], Selection(entries=span), [sequences]):
         moment = moment if entry.moment is None else entry.moment
         rows.append(row_of(entry, told, moment, server, count <= WITH_WORDS))
     return {
         "title": title,
         "lease": run.head.lease,
-        "total": len(run.entries) if run.is_at_end else run.growing.count,
+        "total": run.count() if run.is_at_end else run.growing.count,
         "end": replayed.fault or run.ending,
         "begin": address_of(selection),
         "bars": [vars(it) for it in bars.of.values() if is_within(it.begin, it.end, span)],
@@ -77,11 +78,6 @@ def page_values(run: Run[Entry], title: str, selection: Selection = Selection())
         "rows": rows,
         "sequences": sequences.all,
     }
-
-
-def moment_before(entries: list[Entry]) -> int:
-    """The moment of the last of these entries that has one."""
-    return next((it.moment for it in reversed(entries) if it.moment is not None), 0)
 
 
 def is_within(begin: int, end: int | None, span: Span) -> bool:

@@ -16,7 +16,6 @@ from nfs4tools.model.state_parts import (
     sequence_id_of,
 )
 from nfs4tools.page.names import name_of
-from nfs4tools.runs.selection import Span
 from nfs4tools.wire import OpenOwner, Opnum
 
 
@@ -34,17 +33,17 @@ class Sent(NamedTuple):
 
 
 class SequenceIds:
-    """Looks at a replay, and has the sequence ids of the entries that are in the span."""
+    """Looks at entries of a replay, and has their sequence ids."""
 
-    def __init__(self, server: History, span: Span) -> None:
-        self.server, self.span = server, span
+    def __init__(self, server: History) -> None:
+        self.server = server
         self.all: list[Sent] = []
         # Those of the entry that is looked at.
         self.now: list[Sent] = []
 
     def before(self, number: int, entry: Entry, reason: Reason | None) -> None:
         self.now = []
-        if number in self.span and isinstance(entry, Call) and OPERATIONS[entry.opnum].subject == Subject.REQUEST:
+        if isinstance(entry, Call) and OPERATIONS[entry.opnum].subject == Subject.REQUEST:
             self.now = self.sent_by(number, Request(entry.opnum, entry.arguments, entry.filehandle))
 
     def after(self, told: ExplainedEntry) -> None:

@@ -67,12 +67,12 @@ def written(value: Any) -> str:
 def write_page(path: str, target: str, selection: Selection) -> None:
     """Writes the page of a journal's file, or ends the program with what is wrong. The page of a run that ends by a
     fault has what is before it."""
-    reading, entries = reading_of(path, selection.last())
+    reading, pieces = reading_of(path, selection.last(), selection.first())
     growing = reading.growing
     if growing.entries == 0 and growing.fault is None and not growing.is_whole():
         print(f"fault: no page is written: {growing.ending()}", file=sys.stderr)
         sys.exit(2)
-    run = reading.run_of(entries)
+    run = reading.run_of(pieces)
     expect_names(selection, run.entries)
     try:
         values = page_values(run, Path(path).name, selection)

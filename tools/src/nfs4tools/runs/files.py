@@ -5,11 +5,11 @@ from collections.abc import Iterable, Iterator
 
 from nfs4tools.journal.entries import NotJournal
 from nfs4tools.journal.partial import end_without_journal, tell_end
-from nfs4tools.runs.run import E, Entry, Reading, Run
+from nfs4tools.runs.run import E, Entry, Piece, Reading, Run
 from nfs4tools.runs.selection import Names, NoSuch, Selection
 
 
-def pieces_of(reading: Reading[E]) -> Iterator[list[E]]:
+def pieces_of(reading: Reading[E]) -> Iterator[Piece[E]]:
     """The entries of each piece; or the end of the program."""
     try:
         yield from reading.pieces()
@@ -19,21 +19,26 @@ def pieces_of(reading: Reading[E]) -> Iterator[list[E]]:
         end_without_journal(str(wrong))
 
 
-def reading_of(path: str, last: int | None = None) -> tuple[Reading[Entry], list[Entry]]:
-    """The file as it was read, up to this entry, and its entries; or the end of the program."""
-    # They are kept to the end, so to look for what can be freed takes a fifth of the time and finds nothing.
+def reading_of(path: str, last: int | None = None, first: int = 0) -> tuple[Reading[Entry], list[Piece[Entry]]]:
+    """The file as it was read, up to the last entry that is wanted, and its pieces; or the end of the program."""
+    keep_all()
+    reading = Reading(path, Entry, last, first)
+    return reading, list(pieces_of(reading))
+
+
+def keep_all() -> None:
+    """Entries are kept to the end, so to look for what can be freed takes a fifth of the time and finds nothing."""
     gc.disable()
-    reading = Reading(path, Entry, last)
-    return reading, [entry for piece in pieces_of(reading) for entry in piece]
 
 
-def run_of_file(path: str, last: int | None = None, is_json: bool = False) -> Run[Entry]:
-    """The run, up to this entry; or the end of the program, also if the file ends before its first entry."""
-    reading, entries = reading_of(path, last)
+def run_of_file(path: str, last: int | None = None, is_json: bool = False, first: int = 0) -> Run[Entry]:
+    """The run, up to the last entry that is wanted; or the end of the program, also if the file ends before its first
+    entry."""
+    reading, pieces = reading_of(path, last, first)
     if reading.growing.head is None:
         tell_end(reading.growing, is_json)
         sys.exit(0)
-    return reading.run_of(entries)
+    return reading.run_of(pieces)
 
 
 def expect(names: Names, selection: Selection) -> None:

@@ -1,5 +1,6 @@
 """Whom an entry is about: its client, its file and its owners, by what the entry names and what earlier answers gave.
 No replay is needed for that."""
+from collections.abc import Sequence
 from typing import NamedTuple
 
 from nfs4tools.journal.entries import Call, Expire, Forget, Path, Revoke, delegation_given
@@ -24,6 +25,8 @@ from nfs4tools.wire import (
 
 Owners = tuple[OwnerName, ...]
 NOBODY: Owners = ()
+# The operations whose answers give states to owners.
+GIVING = {Opnum.OPEN, Opnum.LOCK}
 
 
 class Parties(NamedTuple):
@@ -66,6 +69,15 @@ class Known:
                 return Parties(self.name(number), number, None, (entry.owner,))
         return Parties(self.name(entry.client), entry.client, None, NOBODY)
 
+    def note(self, entry: Recorded) -> None:
+        """Learns what the next entry gives, and no more."""
+        if not isinstance(entry, Call) or entry.answer.status != Status.OK:
+            return
+        if entry.opnum == Opnum.SETCLIENTID:
+            self.of_introduction(entry)
+        elif entry.opnum in GIVING and entry.answer.number == entry.opnum:
+            self.learn(entry, self.owners_of(entry.arguments, named_in(entry.arguments).stateid))
+
     def of_call(self, call: Call) -> Parties:
         arguments = call.arguments
         if isinstance(arguments, Setclientid):
@@ -73,8 +85,8 @@ class Known:
         named = named_in(arguments)
         number, path = self.number_of(named), self.path_of(call)
         found = Parties(self.name(number), number, path, self.owners_of(arguments, named.stateid))
-        if call.answer.status == Status.OK and call.answer.number == call.opnum in (Opnum.OPEN, Opnum.LOCK):
-            self.learn(call, found)
+        if call.answer.status == Status.OK and call.answer.number == call.opnum and call.opnum in GIVING:
+            self.learn(call, found.owners)
         return found
 
     def of_introduction(self, call: Call) -> Parties:
@@ -85,13 +97,13 @@ class Known:
             self.names[number] = name
         return Parties(name, number, None, NOBODY)
 
-    def learn(self, call: Call, found: Parties) -> None:
+    def learn(self, call: Call, owners: Owners) -> None:
         """Whose states an OPEN or a LOCK gives."""
-        state, owners = int.from_bytes(call.answer.rest[12:16], "big"), found.owners
+        state = int.from_bytes(call.answer.rest[12:16], "big")
         self.owners[state] = owners[-1:] if len(owners) > 1 else owners
         given = delegation_given(call)
         if given is not None:
-            self.lent[given[1].number] = given[1].client, found.path
+            self.lent[given[1].number] = given[1].client, self.path_of(call)
 
     def name(self, number: int | None) -> str | None:
         return None if number is None else self.names.get(number)
@@ -157,6 +169,11 @@ def moment_of(entry: Recorded) -> int | None:
     if isinstance(entry, Call):
         return entry.moment
     return None if isinstance(entry, Path) else entry.now
+
+
+def last_moment(entries: Sequence[Recorded], before: int = 0) -> int:
+    """The moment of the last of these entries that has one, or that which came before them."""
+    return next((moment for moment in map(moment_of, reversed(entries)) if moment is not None), before)
 
 
 # What no call brought.

@@ -1,7 +1,8 @@
 """A run: the entries of a journal's file, or of a beginning of one, as values."""
 from collections.abc import Iterable, Iterator
 from dataclasses import dataclass, field
-from typing import Generic, TypeVar
+from itertools import islice
+from typing import Generic, NamedTuple, TypeVar
 
 from nfs4tools.journal.entries import Call, NotJournal
 from nfs4tools.journal.entries import Entry as Recorded
@@ -84,6 +85,14 @@ class Naming:
         self.known = Known(head.epoch, head.tree)
         self.count = 0
 
+    def pass_before(self, first: int, recorded: list[Recorded]) -> int:
+        """Learns what those of the next entries give that stand before this number: how many they are."""
+        count = min(len(recorded), max(0, first - self.count))
+        for entry in islice(recorded, count):
+            self.known.note(entry)
+        self.count += count
+        return count
+
     def entries(self, recorded: Iterable[Recorded], kind: type[E]) -> Iterator[E]:
         for entry in recorded:
             number = self.count
@@ -101,6 +110,16 @@ class Run(Generic[E]):
     growing: Growing = field(repr=False)
     # Whether the file was read to its end.
     is_at_end: bool = True
+    # The entries before those, of which nothing is wanted but what they do to the state.
+    passed: list[Recorded] = field(default_factory=list, repr=False)
+
+    def count(self) -> int:
+        """How many entries were read."""
+        return len(self.passed) + len(self.entries)
+
+    def at(self, number: int) -> E:
+        """The entry of this number, which isn't one of those before."""
+        return self.entries[number - len(self.passed)]
 
     @property
     def ending(self) -> str | None:
@@ -114,19 +133,27 @@ class Run(Generic[E]):
     @property
     def journal(self) -> Journal:
         """The journal of these entries, which a replay follows."""
-        return self.head._replace(entries=[it.recorded for it in self.entries])
+        return self.head._replace(entries=[*self.passed, *(it.recorded for it in self.entries)])
+
+
+class Piece(NamedTuple, Generic[E]):
+    """The entries of a piece of a file: those before the first that is wanted, and the others."""
+
+    passed: list[Recorded]
+    entries: list[E]
 
 
 class Reading(Generic[E]):
-    """Reads a file in pieces, up to the last entry that is wanted."""
+    """Reads a file in pieces, up to the last entry that is wanted. Those before the first have no values, as most of
+    the time goes into these."""
 
-    def __init__(self, path: str, kind: type[E], last: int | None = None) -> None:
-        self.path, self.kind, self.last = path, kind, last
+    def __init__(self, path: str, kind: type[E], last: int | None = None, first: int = 0) -> None:
+        self.path, self.kind, self.first, self.last = path, kind, first, last
         self.growing = Growing()
         # Whether the file was read to its end, or to what is no entry.
         self.is_at_end = True
 
-    def pieces(self) -> Iterator[list[E]]:
+    def pieces(self) -> Iterator[Piece[E]]:
         """The entries of each piece; or OSError, or NotJournal."""
         naming: Naming | None = None
         with open(self.path, "rb") as source:
@@ -134,22 +161,25 @@ class Reading(Generic[E]):
                 recorded = self.growing.take(data)
                 if self.growing.head is not None:
                     naming = naming or Naming(self.growing.head)
-                    yield list(naming.entries(recorded, self.kind))
+                    passed = naming.pass_before(self.first, recorded)
+                    yield Piece(recorded[:passed], list(naming.entries(recorded[passed:], self.kind)))
                 if self.last is not None and self.growing.entries > self.last:
                     self.is_at_end = False
                     return
 
-    def run_of(self, entries: list[E]) -> Run[E]:
-        """The run that was read, if its head is there, with these entries."""
+    def run_of(self, pieces: list[Piece[E]]) -> Run[E]:
+        """The run that was read in these pieces, if its head is there."""
         assert self.growing.head is not None
-        wanted = entries if self.last is None else entries[: self.last + 1]
-        return Run(self.growing.head, wanted, self.growing, self.is_at_end)
+        passed = [entry for piece in pieces for entry in piece.passed]
+        entries = [entry for piece in pieces for entry in piece.entries]
+        wanted = entries if self.last is None else entries[: max(0, self.last + 1 - len(passed))]
+        return Run(self.growing.head, wanted, self.growing, self.is_at_end, passed)
 
 
 def read_run(path: str, kind: type[E], last: int | None = None) -> Run[E]:
     """The run of a journal's file, or of a beginning of one, up to this entry; or OSError, or NotJournal."""
     reading = Reading(path, kind, last)
-    entries = [entry for piece in reading.pieces() for entry in piece]
+    pieces = list(reading.pieces())
     if reading.growing.head is None:
         raise NotJournal(reading.growing.ending())
-    return reading.run_of(entries)
+    return reading.run_of(pieces)

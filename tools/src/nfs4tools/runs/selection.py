@@ -1,11 +1,12 @@
 """A selection of a run's entries: by client, file, owner, status, entries and moments, with entries around."""
 from collections import deque
-from collections.abc import Iterable
+from collections.abc import Iterable, Sequence
 from dataclasses import dataclass
 from typing import Any
 
+from nfs4tools.journal.entries import Entry as Recorded
 from nfs4tools.model.state_parts import OwnerName
-from nfs4tools.runs.parties import text_of
+from nfs4tools.runs.parties import last_moment, text_of
 from nfs4tools.runs.run import E, Entry
 from nfs4tools.wire import Status
 
@@ -66,13 +67,18 @@ class Selection:
         has_number = entry.client_number is not None and str(entry.client_number) in self.clients
         return has_number or entry.client in self.clients
 
+    def first(self) -> int:
+        """The number of the first entry that may be shown; but to say which names there are takes all."""
+        return 0 if self.has_names() else max(0, self.entries.first - self.context)
+
     def last(self) -> int | None:
         """The number of the last entry that may be shown, or None for the end."""
         return None if self.entries.last is None else self.entries.last + self.context
 
-    def chosen(self, entries: Iterable[E]) -> list[E]:
-        """The entries that are wanted, without those around."""
+    def chosen(self, entries: Iterable[E], passed: Sequence[Recorded] = ()) -> list[E]:
+        """The entries that are wanted, without those around, of a run that begins with those passed over."""
         chooser = Chooser(self)
+        chooser.pass_over(passed)
         return [entry for entry in entries if chooser.is_wanted(entry)]
 
     def around(self, chosen: Iterable[Entry]) -> set[int]:
@@ -130,6 +136,10 @@ class Chooser:
         # The last entries that weren't shown; and how many more are shown behind the last that is wanted.
         self.before: deque[Any] = deque(maxlen=selection.context)
         self.after = 0
+
+    def pass_over(self, entries: Sequence[Recorded]) -> None:
+        """The next entries, of which none is wanted."""
+        self.moment = last_moment(entries, self.moment)
 
     def is_wanted(self, entry: Entry) -> bool:
         if self.is_all:

@@ -15,7 +15,7 @@ from nfs4tools.journal.partial import end_without_journal, read_file, tell_end
 from nfs4tools.journal.words import line_of
 from nfs4tools.runs.data import entry_data
 from nfs4tools.runs.data import line_of as json_line
-from nfs4tools.runs.files import expect
+from nfs4tools.runs.files import expect, keep_all
 from nfs4tools.runs.options import selection_of
 from nfs4tools.runs.run import Entry, Naming
 from nfs4tools.runs.selection import Chooser, Names
@@ -33,6 +33,7 @@ class Remarks:
 
     def __init__(self, head: Journal) -> None:
         self.replay: Replay | None = Replay(head, is_quick=True)
+        self.replay.expect([])
         self.entries: list[Recorded] = []
         self.told: ExplainedEntry | None = None
 
@@ -73,8 +74,11 @@ class Lines:
             self.naming = self.naming or Naming(growing.head)
             self.remarks = self.remarks or Remarks(growing.head)
             self.remarks.entries += recorded
-            for entry in self.naming.entries(recorded, Entry):
-                self.names.add(entry)
+            passed = self.naming.pass_before(self.selection.first(), recorded)
+            self.chooser.pass_over(recorded[:passed])
+            for entry in self.naming.entries(recorded[passed:], Entry):
+                if self.selection.has_names():
+                    self.names.add(entry)
                 for it in self.chooser.shown(entry):
                     self.print(it)
         sys.stdout.flush()
@@ -112,6 +116,7 @@ class Lines:
 
 
 def show(given: argparse.Namespace) -> None:
+    keep_all()
     lines, growing = Lines(given), Growing()
     try:
         with open(given.path, "rb") as source:

