@@ -9,7 +9,7 @@ use xdr::{Measure, Wire, WireError, write_two};
 
 /// The answer of an operation: a status, and the data that comes with it. Most operations return data only with
 /// NFS4_OK.
-#[derive(Clone, Drop)]
+#[derive(Clone, PartialEq, Drop)]
 pub enum Answer<T, D = (), C = ()> {
     /// NFS4_OK.
     Done(T),

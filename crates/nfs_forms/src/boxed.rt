@@ -40,6 +40,16 @@ impl<T> Boxed<T> {
     }
 }
 
+impl<T: PartialEq> PartialEq for Boxed<T> {
+    ghost eq = { T.eq };
+
+    ghost laws = { T.laws };
+
+    fn eq(&self, other: &Boxed<T>) -> bool {
+        self.get() == other.get()
+    }
+}
+
 impl<T: Clone + Drop> Clone for Boxed<T> {
     ghost is_clone = { T.is_clone };
 

@@ -1,6 +1,9 @@
 //! What OPEN opens: a file by name, or a file whose open or delegation the client reclaims.
 
+<<<<<<< pieces
 ghost use Rattle.std.specs.Prelude.{◌≡◌, ◌≢◌, MatchBool};
+=======
+>>>>>>> hist-Ed
 ghost use Rattle.nfs_forms.specs.Claim as forms;
 ghost use Rattle.xdr.specs.Reading.{Answers};
 
@@ -9,7 +12,7 @@ use std::alloc::Global;
 use xdr::{Bytes, Wire, WireError, read_u32, write_three, write_two, write_u32};
 
 /// Which file OPEN opens, and what the client bases this on (open_claim4; RFC 7530, section 16.16).
-#[derive(Clone, Drop)]
+#[derive(Clone, PartialEq, Drop)]
 pub enum Claim {
     /// The file with this name in the current directory.
     Null(Bytes),
@@ -19,27 +22,6 @@ pub enum Claim {
     DelegateCur { stateid: Stateid, name: Bytes },
     /// The file with this name in the current directory, for which the client had a delegation before it restarted.
     DelegatePrev(Bytes),
-}
-
-impl Claim {
-    /// Whether the other is the same claim to the same file.
-    pub fn is_same(&self, other: &Claim) -> bool
-        ensures { MatchBool result (self.now ≡ other.now) (self.now ≢ other.now) }
-    {
-        match (self, other) {
-            (Claim::Null(name), Claim::Null(other)) => name == other,
-            (Claim::Previous(delegation), Claim::Previous(other)) => delegation == other,
-            (
-                Claim::DelegateCur { stateid, name },
-                Claim::DelegateCur {
-                    stateid: other,
-                    name: other_name,
-                },
-            ) => stateid == other && name == other_name,
-            (Claim::DelegatePrev(name), Claim::DelegatePrev(other)) => name == other,
-            _ => false,
-        }
-    }
 }
 
 /// The tag of Claim (open_claim_type4).

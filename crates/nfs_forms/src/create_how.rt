@@ -1,6 +1,9 @@
 //! The three ways in which OPEN creates a file.
 
+<<<<<<< pieces
 ghost use Rattle.std.specs.Prelude.{◌≡◌, ◌≢◌, MatchBool};
+=======
+>>>>>>> hist-Ed
 ghost use Rattle.nfs_forms.specs.CreateHow as forms;
 ghost use Rattle.xdr.specs.Reading.{Answers};
 
@@ -9,7 +12,7 @@ use std::alloc::Global;
 use xdr::{Wire, WireError, read_u32, write_two, write_u32};
 
 /// How OPEN creates a file (createhow4; RFC 7530, section 16.16).
-#[derive(Clone, Drop)]
+#[derive(Clone, PartialEq, Drop)]
 pub enum CreateHow {
     /// With these attributes. A file that is there already is opened.
     Unchecked(Fattr),
@@ -17,21 +20,6 @@ pub enum CreateHow {
     Guarded(Fattr),
     /// The verifier distinguishes a retransmission from another client's request.
     Exclusive(Verifier),
-}
-
-impl CreateHow {
-    /// Whether the other creates in the same way.
-    pub fn is_same(&self, other: &CreateHow) -> bool
-        ensures { MatchBool result (self.now ≡ other.now) (self.now ≢ other.now) }
-    {
-        match (self, other) {
-            (CreateHow::Unchecked(attributes), CreateHow::Unchecked(others)) => attributes
-                == others,
-            (CreateHow::Guarded(attributes), CreateHow::Guarded(others)) => attributes == others,
-            (CreateHow::Exclusive(verifier), CreateHow::Exclusive(other)) => verifier == other,
-            _ => false,
-        }
-    }
 }
 
 /// The tag of CreateHow (createmode4).

@@ -1,6 +1,9 @@
 //! The two ways in which LOCK names its owner: with an open for a new lock state, or by a lock state.
 
+<<<<<<< pieces
 ghost use Rattle.std.specs.Prelude.{◌≡◌, ◌≢◌, MatchBool};
+=======
+>>>>>>> hist-Ed
 ghost use Rattle.nfs_forms.specs.Locker as forms;
 ghost use Rattle.xdr.specs.Reading.{Answers};
 
@@ -9,7 +12,7 @@ use std::alloc::Global;
 use xdr::{Wire, WireError, write_four, write_two};
 
 /// Whose lock LOCK asks for (locker4; RFC 7530, section 16.10).
-#[derive(Clone, Drop)]
+#[derive(Clone, PartialEq, Drop)]
 pub enum Locker {
     /// An owner that gets a lock state for an open (new_lock_owner is TRUE).
     New(NewLocker),
@@ -34,19 +37,6 @@ pub struct KnownLocker {
     pub lock_stateid: Stateid,
     /// The place of the request among those of the lock owner.
     pub lock_seqid: u32,
-}
-
-impl Locker {
-    /// Whether the other is the same locker.
-    pub fn is_same(&self, other: &Locker) -> bool
-        ensures { MatchBool result (self.now ≡ other.now) (self.now ≢ other.now) }
-    {
-        match (self, other) {
-            (Locker::New(locker), Locker::New(other)) => locker == other,
-            (Locker::Known(locker), Locker::Known(other)) => locker == other,
-            _ => false,
-        }
-    }
 }
 
 impl Wire for NewLocker {

@@ -1,6 +1,9 @@
 //! Whether OPEN only opens a file or also creates it.
 
+<<<<<<< pieces
 ghost use Rattle.std.specs.Prelude.{◌≡◌, ◌≢◌, MatchBool};
+=======
+>>>>>>> hist-Ed
 ghost use Rattle.nfs_forms.specs.OpenHow as forms;
 ghost use Rattle.xdr.specs.Reading.{Answers};
 
@@ -9,23 +12,10 @@ use std::alloc::Global;
 use xdr::{Wire, WireError, read_u32, write_two, write_u32};
 
 /// Whether OPEN creates a file, and how (openflag4; RFC 7530, section 16.16).
-#[derive(Clone, Drop)]
+#[derive(Clone, PartialEq, Drop)]
 pub enum OpenHow {
     Nocreate,
     Create(Boxed<CreateHow>),
-}
-
-impl OpenHow {
-    /// Whether the other creates the same, or nothing as well.
-    pub fn is_same(&self, other: &OpenHow) -> bool
-        ensures { MatchBool result (self.now ≡ other.now) (self.now ≢ other.now) }
-    {
-        match (self, other) {
-            (OpenHow::Nocreate, OpenHow::Nocreate) => true,
-            (OpenHow::Create(how), OpenHow::Create(other)) => how.get().is_same(other.get()),
-            _ => false,
-        }
-    }
 }
 
 /// The tag of OpenHow (opentype4).

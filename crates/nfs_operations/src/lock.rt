@@ -1,6 +1,9 @@
 //! LOCK's arguments and result, which with NFS4ERR_DENIED has the conflicting lock.
 
+<<<<<<< pieces
 ghost use Rattle.std.specs.Prelude.{◌≡◌, ◌≢◌, MatchBool};
+=======
+>>>>>>> hist-Ed
 ghost use Rattle.nfs_operations.specs.Lock as forms;
 
 use nfs_forms::{Answer, LockDenied, LockType, Locker, Stateid};
@@ -11,7 +14,7 @@ use xdr::{Wire, WireError, write_five};
 pub type Arguments = Lock;
 
 /// The arguments of LOCK.
-#[derive(Clone, Drop)]
+#[derive(Clone, PartialEq, Drop)]
 pub struct Lock {
     pub locktype: LockType,
     /// Whether the client had the lock before the server restarted.
@@ -21,19 +24,6 @@ pub struct Lock {
     /// How many bytes; all ones for those up to the last one that a file can have.
     pub length: u64,
     pub locker: Locker,
-}
-
-impl Lock {
-    /// Whether the other has the same arguments.
-    pub fn is_same(&self, other: &Lock) -> bool
-        ensures { MatchBool result (self.now ≡ other.now) (self.now ≢ other.now) }
-    {
-        self.locktype == other.locktype
-            && self.reclaim == other.reclaim
-            && self.offset == other.offset
-            && self.length == other.length
-            && self.locker.is_same(&other.locker)
-    }
 }
 
 /// With NFS4_OK, the stateid of the owner's lock state from now on; with NFS4ERR_DENIED, a lock that is in the way.

@@ -1,6 +1,9 @@
 //! OPEN's arguments and result.
 
+<<<<<<< pieces
 ghost use Rattle.std.specs.Prelude.{◌≡◌, ◌≢◌, MatchBool};
+=======
+>>>>>>> hist-Ed
 ghost use Rattle.nfs_operations.specs.Open as forms;
 
 use nfs_forms::{Answer, Bitmap, ChangeInfo, Claim, OpenDelegation, OpenHow, OpenOwner, Stateid};
@@ -11,7 +14,7 @@ use xdr::{Measure, Wire, WireError, write_five, write_four, write_two};
 pub type Arguments = Open;
 
 /// The arguments of OPEN.
-#[derive(Clone, Drop)]
+#[derive(Clone, PartialEq, Drop)]
 pub struct Open {
     /// The place of the request among those of its owner.
     pub seqid: u32,
@@ -24,25 +27,11 @@ pub struct Open {
     pub claim: Claim,
 }
 
-impl Open {
-    /// Whether the other has the same arguments.
-    pub fn is_same(&self, other: &Open) -> bool
-        ensures { MatchBool result (self.now ≡ other.now) (self.now ≢ other.now) }
-    {
-        self.seqid == other.seqid
-            && self.access == other.access
-            && self.deny == other.deny
-            && self.owner == other.owner
-            && self.how.is_same(&other.how)
-            && self.claim.is_same(&other.claim)
-    }
-}
-
 /// With NFS4_OK, the open that the owner has now.
 pub type Outcome = Answer<OpenOk>;
 
 /// What OPEN answers about an open.
-#[derive(Clone, Drop)]
+#[derive(Clone, PartialEq, Drop)]
 pub struct OpenOk {
     pub stateid: Stateid,
     /// How the directory changed.

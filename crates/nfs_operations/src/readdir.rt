@@ -1,6 +1,10 @@
 //! READDIR's arguments and result, whose entries the journal and the reply share.
 
+<<<<<<< pieces
 ghost use Rattle.std.specs.Prelude.{◌≡◌, ◌≢◌, IfOk, MatchBool};
+=======
+ghost use Rattle.std.specs.Prelude.{◌≡◌, IfOk};
+>>>>>>> hist-Ed
 ghost use Rattle.nfs_operations.specs.Readdir as forms;
 ghost use Rattle.xdr.specs.Form.{chain};
 
@@ -34,7 +38,7 @@ pub struct Readdir {
 pub type Outcome = Answer<ReaddirOk>;
 
 /// What READDIR answers of a directory.
-#[derive(Clone, Drop)]
+#[derive(Clone, PartialEq, Drop)]
 pub struct ReaddirOk {
     pub verifier: Verifier,
     pub entries: Listing,
@@ -82,21 +86,17 @@ impl Listing {
     {
         self.all.as_slice()
     }
+}
 
-    /// Whether the other has the same entries.
-    pub fn is_same(&self, other: &Listing) -> bool
-        ensures { MatchBool result (self.now ≡ other.now) (self.now ≢ other.now) }
-    {
-        let (these, those) = (self.as_slice(), other.as_slice());
-        if these.len() != those.len() {
-            return false;
-        }
-        for i in 0..these.len() {
-            if these[i] != those[i] {
-                return false;
-            }
-        }
-        true
+impl PartialEq for Listing {
+    ghost use Rattle.std.specs.Cmp.Lexicographic.{lists_per, pointwise};
+
+    ghost eq = { pointwise ⟦<DirectoryEntry as PartialEq>⟧.eq };
+
+    ghost laws = { lists_per ⟦<DirectoryEntry as PartialEq>⟧.laws };
+
+    fn eq(&self, other: &Listing) -> bool {
+        self.as_slice() == other.as_slice()
     }
 }
 
@@ -107,17 +107,6 @@ impl Clone for Listing {
         Ok(Listing {
             all: self.all.clone()?,
         })
-    }
-}
-
-impl ReaddirOk {
-    /// Whether the other has the same data.
-    pub fn is_same(&self, other: &ReaddirOk) -> bool
-        ensures { MatchBool result (self.now ≡ other.now) (self.now ≢ other.now) }
-    {
-        self.verifier == other.verifier
-            && self.entries.is_same(&other.entries)
-            && self.eof == other.eof
     }
 }
 

@@ -53,7 +53,7 @@ macro_rules! write_op_of {
 }
 
 /// An operation of a COMPOUND that this server implements, with its arguments (nfs_argop4).
-#[derive(Clone, Drop)]
+#[derive(Clone, PartialEq, Drop)]
 pub enum Op {
     Access(of::access::Arguments),
     Close(of::close::Arguments),
@@ -89,14 +89,6 @@ impl Op {
         ensures { result ≡ opnum_of self.now }
     {
         each_operation!(opnum_of_op self)
-    }
-
-    /// Whether the operation works on the state, so that every answer except NFS4ERR_RESOURCE is an entry of the
-    /// journal.
-    pub fn has_entry(&self) -> bool
-        ensures { result ≡ ops.has_entry self.now }
-    {
-        self.opnum().class() == Class::OnState
     }
 
     /// Whether the operation needs only the tree of files and the filehandles.

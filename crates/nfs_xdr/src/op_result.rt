@@ -119,7 +119,7 @@ macro_rules! copy_of_result {
 }
 
 /// The result of an operation (nfs_resop4).
-#[derive(Drop)]
+#[derive(PartialEq, Drop)]
 pub enum OpResult {
     Access(of::access::Outcome),
     Close(of::close::Outcome),
