@@ -4,17 +4,17 @@ ghost use Rattle.std.specs.Prelude.{◌≡◌, ◌↔◌, ◌≤◌, ◌<◌, �
 ghost use Rattle.std.specs.Option.{option_copied};
 ghost use Rattle.nfs_core.specs.Callbacks.{callback_of, has_delegation};
 ghost use Rattle.nfs_core.specs.Entered.{Answers};
-ghost use Rattle.nfs_core.specs.Events.{IsForgotten, IsForgottenFrom, IsNotEntered, IsNotForgottenFor, IsNotRevokedFor, IsRevoked, IsWithoutRoom, MayHappen, NoneIsDue, NoneIsIdle, NoneIsIdleBefore, entry_by, expire_of, path_of, revoke_of};
+ghost use Rattle.nfs_core.specs.Events.{IsForgotten, IsForgottenFrom, IsNotEntered, IsNotForgottenFor, IsNotRevokedFor, IsRevoked, IsWithoutRoom, MayHappen, NoneIsDue, NoneIsIdle, NoneIsIdleBefore, entry_by, revoke_of};
 ghost use Rattle.nfs_core.specs.Following.{MayFollow};
 ghost use Rattle.nfs_core.specs.LiveClients.{AreNumbered, AreOfOneRun};
 ghost use Rattle.nfs_core.specs.Recalls.{AreLeftOf, no_recalls};
 ghost use Rattle.nfs_core.specs.Safe.{IsSafe, KeepRequests};
-ghost use Rattle.nfs_core.specs.Server.{Applies, AreAlike, Enters, IsLawful};
+ghost use Rattle.nfs_core.specs.Server.{AreAlike, Enters, IsLawful};
 ghost use Rattle.nfs_core.specs.Step.{HasNoStep};
 ghost use Rattle.nfs_core.specs.declared.event.Event.TheVariants as events;
 ghost use Rattle.nfs_owners.specs.LiveClients.{IsNextLive, IsNextUnknown, replaced_by};
 ghost use Rattle.nfs_owners.specs.Registry.{is_live};
-ghost use Rattle.nfs_state.specs.Entries.{IsFilehandle, request_of};
+ghost use Rattle.nfs_state.specs.Entries.{IsFilehandle};
 ghost use Rattle.nfs_state.specs.Kept.{Agrees};
 ghost use Rattle.nfs_state.specs.Stored.{empty_store, meaning};
 ghost use Rattle.nfs_state.specs.declared.entry.Entry.TheVariants as entries;
@@ -36,11 +36,10 @@ use nfs_owners::ClientState;
 use nfs_rpc::Recall;
 use nfs_rules::next_due;
 use nfs_state::{
-    Entry, Expire, JOURNAL_LIMIT, Journal, LEASE_MAX, LEASE_MIN, Moment, Path, Request, Seeds,
-    Store, Tables,
+    Entry, JOURNAL_LIMIT, Journal, LEASE_MAX, LEASE_MIN, Moment, Request, Seeds, Store, Tables,
 };
 use nfs_tree::{Policy, Tree};
-use nfs_xdr::{Callback, ClientId, Op, OpResult, Principal, Refusal, Stateid};
+use nfs_xdr::{Callback, ClientId, OpResult, Refusal, Stateid};
 use std::alloc::Global;
 use std::marker::Model;
 
@@ -112,37 +111,6 @@ impl Core {
             alloc,
             held: Holdings { store, recalls },
         })
-    }
-
-    /// Answers an operation that has an entry in the journal (`Profile::has_entry`), and returns the entry's number.
-    /// Without a number the answer is NFS4ERR_RESOURCE and nothing has changed but room, of which there isn't less: the
-    /// journal is full, memory ran out, or a limit would be exceeded. `filehandle` has to be a node of the tree.
-    pub fn apply(
-        &mut self,
-        moment: Moment,
-        principal: Principal,
-        op: &Op,
-        filehandle: Option<u32>,
-    ) -> (OpResult, Option<u32>)
-        requires entry { IsTrue (has_entry self.old.journal.policy.profile op.now) }
-        requires node { IsFilehandle self.old.journal filehandle }
-        ensures applies { Applies self.old self.new (request_of moment principal op.now filehandle)
-            result.0 result.1 }
-        ensures room { IfNone result.1 (self.old.room ≤ self.new.room) }
-        ensures short { length (op_result.encoding result.0) ≤ answer_limit (opnum_of op.now) }
-        ensures form { op_result.Fits result.0 }
-        ensures lawful { IsLawful self.new }
-    {
-        let Ok(request) = Request::of_copy(moment, principal, op, filehandle) else {
-            // For its clause alone: the state is lawful as it is.
-            self.journal();
-            return (op.opnum().refusal(Refusal::Resource), None);
-        };
-        let (answer, entered) = self.answer(request);
-        match entered {
-            Some(entered) => (answer, Some(entered.number)),
-            None => (answer, None),
-        }
     }
 
     /// Answers a request as `apply` does; its operation goes into the journal without a copy. Returns what came of it:
@@ -227,21 +195,6 @@ impl Core {
         Some(due.state.number)
     }
 
-    /// Removes the client with this number, whose lease was renewed last at `seen` and has run out at `now`, with all
-    /// that it has, as `enter` does.
-    pub fn expire(&mut self, client: u32, seen: Moment, now: Moment) -> Result<u32, CoreError>
-        ensures expires { IfOk result (Enters self.old self.new
-            (entries.Expire (expire_of client seen now))) }
-        ensures recalls { self.new.recalls ≡ self.old.recalls }
-        ensures error { IfErr result
-            (IsNotEntered self.old (events.Expire (expire_of client seen now))) }
-        ensures same { OnErr result (AreAlike self.old self.new) }
-        ensures room { OnErr result (self.old.room ≤ self.new.room) }
-        ensures lawful { IsLawful self.new }
-    {
-        self.enter(Event::Expire(Expire { client, seen, now }))
-    }
-
     /// Takes away the delegation that is due at `now`, if one is, enters that in the journal, and returns the
     /// delegation's number. Fails only where one is due, with Full before Memory, and so changes nothing but room, of
     /// which there isn't less.
@@ -297,19 +250,6 @@ impl Core {
         recalls_follow();
         let held = &mut self.held;
         forget_next(self.alloc, held, entry, now)
-    }
-
-    /// Marks whether callbacks reach the live client with this number, as `enter` does.
-    pub fn mark_path(&mut self, client: u32, up: bool) -> Result<u32, CoreError>
-        ensures marks { IfOk result (Enters self.old self.new (entries.Path (path_of client up))) }
-        ensures recalls { self.new.recalls ≡ self.old.recalls }
-        ensures error { IfErr result
-            (IsNotEntered self.old (events.Path (path_of client up))) }
-        ensures same { OnErr result (AreAlike self.old self.new) }
-        ensures room { OnErr result (self.old.room ≤ self.new.room) }
-        ensures lawful { IsLawful self.new }
-    {
-        self.enter(Event::Path(Path { client, up }))
     }
 
     /// Enters an entry that is handed in, such as one of another server's journal, if it may come next: it is judged as

@@ -13,6 +13,7 @@ mod forgetting;
 mod forgotten;
 mod holdings;
 mod laws;
+mod named_calls;
 mod pending_recalls;
 mod recalling;
 mod revoking;

@@ -1,9 +1,9 @@
 -- The lock states of all files beside their nodes.
 use Rattle.std.proofs.Common.{◌≡◌, ℕ, zero, suc, ◌+◌, ◌-◌, ◌<◌, ◌≤◌, ◌^◌, Bool, true, false, cond, List, [], ◌∷◌, length, map, min, replicate, position, slice_index_or, slice_set, Some, None, refl, sym, ap, subst, ◌∙◌, arith}
-use Rattle.std.specs.Prelude.{IfSome, filter, slice_get, unwrap_or, if◌then◌else◌, ◌||◌}
+use Rattle.std.specs.Prelude.{IfSome, filter, slice_get, unwrap_or, if◌then◌else◌}
 use Rattle.std.specs.List.{AllByRecursion, list_any}
 use Rattle.std.proofs.Math.Nat.{min-le_left, min-le_right, suc-min-suc}
-use Rattle.std.proofs.lemmas.Bool.{and_parts, eqb-true, eqb-false, true≢false}
+use Rattle.std.proofs.lemmas.Bool.{and_parts, eqb-true}
 use Rattle.std.proofs.lemmas.List.{length-map}
 use Rattle.nfs_forms.specs.declared.stateid.Stateid.{Stateid}
 use Rattle.nfs_locks.specs.AllLocks.{HasLockRoom, HasLockRoomAt, at_node, lock_count, lock_named_in, locks_in, locks_or_none, named_at, stored_in}
@@ -107,18 +107,6 @@ named id locks node here there is =
 
 pub only : (id : Stateid) (l : ByteLocks) → is_stateid_of id l ≡ true → number_of l ≡ id.number
 only id l names = eqb-true l.number id.number (and_parts (is_lock_of_client id.client l) (is_numbered id.number l) names).1
-
--- no lock state of the list has the number
-pub none_numbered : (number : ℕ) (locks : List ByteLocks) → list_any (is_numbered number) locks ≡ false → AllByRecursion (λ l. number_of l ≡ number → ⊥) locks
-none_numbered number [] none = tt
-none_numbered number (l ∷ locks) none =
-    by (is_numbered number l) refl none (λ rest. none_numbered number locks rest)
-  where
-    by : (b : Bool) → is_numbered number l ≡ b → (b || list_any (is_numbered number) locks) ≡ false
-        → (list_any (is_numbered number) locks ≡ false → AllByRecursion (λ l. number_of l ≡ number → ⊥) locks)
-        → (number_of l ≡ number → ⊥) × AllByRecursion (λ l. number_of l ≡ number → ⊥) locks
-    by true is nothing rest = absurd (true≢false nothing)
-    by false is nothing rest = (eqb-false l.number number is, rest nothing)
 
 -- there are none yet
 pub none_yet : (n : ℕ) (files : List StoredLocks) (nodes : RoomyNodes) → stored_in files ≡ replicate n [] → length files < 2 ^ 32 → AreFound number_of nodes 0 (locks_in files)

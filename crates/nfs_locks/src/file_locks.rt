@@ -16,6 +16,7 @@ use crate::report::report_among;
 use crate::reserves::{reserve, roomy_ranges};
 use crate::{FirstLock, LockState, Report};
 use nfs_forms::{ClientId, LockOwner, Stateid};
+use nfs_nodes::Numbered;
 use nfs_ranges::{Mode, Piece, Range, Ranges};
 use nfs_rows::{OwnerSeed, Rows};
 use std::alloc::{AllocError, Global};
@@ -47,6 +48,22 @@ impl Model for FileLocks {
 
     ghost invariant = { λ f. AreRowsOf f.names f.states.rows
         × IfSome f.spare (λ r. (r.pieces ≡ []) × (0 < r.room)) };
+}
+
+impl Numbered<LockState> for FileLocks {
+    ghost use Rattle.nfs_locks.specs.LockNodes.{number_of};
+    ghost use Rattle.nfs_locks.specs.Locks.{ByteLocks};
+    ghost use Rattle.nfs_locks.specs.StoredLocks.{locks_seen};
+
+    ghost State = { ByteLocks };
+
+    ghost number_of = { number_of };
+
+    ghost states = { λ f. locks_seen f.states };
+
+    fn has_number(&self, number: u32) -> bool {
+        self.numbered(number).is_some()
+    }
 }
 
 impl FileLocks {
@@ -98,13 +115,6 @@ impl FileLocks {
         ensures { result ≡ list_any (λ l. is_stateid_of stateid (lock_seen l)) self.now.states }
     {
         self.named_by(stateid).is_some()
-    }
-
-    /// Whether a lock state has this number.
-    pub fn has_number(&self, number: u32) -> bool
-        ensures { result ≡ list_any (λ l. is_numbered number (lock_seen l)) self.now.states }
-    {
-        self.numbered(number).is_some()
     }
 
     /// The lock state of this owner, if there is one.

@@ -12,11 +12,11 @@ ghost use Rattle.nfs_locks.specs.ReportSeen.{report_seen};
 ghost use Rattle.nfs_locks.specs.StoredLocks.{lock_seen};
 
 use crate::file_locks::FileLocks;
-use crate::numbers::{close_in, reserve_number};
+use crate::numbers::close_in;
 use crate::owner_hash::owner_hash;
 use crate::{FirstLock, LockState, Report};
 use nfs_forms::{ClientId, LockOwner, Stateid};
-use nfs_nodes::Nodes;
+use nfs_nodes::{Nodes, reserve_number};
 use nfs_ranges::{Mode, Piece, Range};
 use nfs_rows::OwnerSeed;
 use std::alloc::{AllocError, Global};
@@ -157,7 +157,7 @@ impl Locks {
     {
         let node = node as usize;
         if node < self.files.len() {
-            reserve_number(&self.files, &mut self.nodes, self.count)?;
+            reserve_number::<LockState, FileLocks>(&self.files, &mut self.nodes, self.count)?;
             self.files[node].reserve(alloc)?;
         }
         Ok(())

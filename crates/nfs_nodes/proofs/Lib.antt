@@ -1,1 +1,2 @@
 pub mod Callers
+mod Listed

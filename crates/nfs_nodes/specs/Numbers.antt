@@ -1,5 +1,5 @@
 -- Lists of numbered things, one for each node, whose nodes are found by the numbers.
-use Rattle.std.specs.Prelude.{◌≡◌, ℕ, suc, ◌<◌, ◌≤◌, ◌+◌, ◌^◌, List, [], ◌∷◌, Some, length, ⊤}
+use Rattle.std.specs.Prelude.{◌≡◌, ℕ, suc, ◌<◌, ◌≤◌, ◌+◌, ◌^◌, List, [], ◌∷◌, Option, None, Some, length, slice_get, ⊤}
 use Rattle.std.specs.List.{AllByRecursion}
 use Rattle.nfs_nodes.specs.Nodes.{RoomyNodes, node_of}
 
@@ -18,6 +18,14 @@ module _ {X : Type 0} (number : X → ℕ) where
   abbrev pub StandFrom : RoomyNodes → ℕ → List (List X) → Type 0
   StandFrom nodes node [] = ⊤
   StandFrom nodes node (xs ∷ lists) = StandAt nodes node xs × StandFrom nodes (node + 1) lists
+
+-- the list of a node; the empty one where there is no such node
+abbrev pub list_or_none : {X : Type 0} → Option (List X) → List X
+list_or_none None = []
+list_or_none (Some xs) = xs
+
+abbrev pub list_of : {X : Type 0} → ℕ → List (List X) → List X
+list_of node lists = list_or_none (slice_get lists node)
 
 -- how many things the lists have
 abbrev pub total : {X : Type 0} → List (List X) → ℕ

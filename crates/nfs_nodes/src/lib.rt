@@ -2,5 +2,7 @@
 #![tactic(auto)]
 
 mod nodes;
+mod numbers;
 
 pub use nodes::Nodes;
+pub use numbers::{Numbered, reserve_number};

@@ -71,7 +71,6 @@ impl Clients {
     pub fn new(alloc: Global, ids: IdSeed) -> Clients
         ensures { result.registry ≡ no_clients }
     {
-        let _ = ids;
         Clients {
             confirmed: Records::new(alloc, ids),
             unconfirmed: Records::new(alloc, ids),

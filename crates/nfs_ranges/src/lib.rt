@@ -6,6 +6,7 @@ mod coverage;
 mod laws;
 mod limits;
 mod mode;
+mod named_calls;
 mod piece;
 mod range;
 mod ranges;

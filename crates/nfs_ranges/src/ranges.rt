@@ -1,9 +1,8 @@
 //! The bytes of a file that one lock owner holds, with a change that takes no memory.
 
-ghost use Rattle.std.specs.Prelude.{◌≡◌, ◌≤◌, ◌<◌, ◌+◌, ◌↔◌, [], length, nat_le, Some, None};
-ghost use Rattle.std.specs.Prelude.{IfErr, IsErrOf, IsOk, IsTrue, OnErr, OnOk};
+ghost use Rattle.std.specs.Prelude.{◌≡◌, ◌≤◌, ◌<◌, ◌+◌, ◌↔◌, [], length, nat_le, Some};
+ghost use Rattle.std.specs.Prelude.{IfErr, IsOk, IsTrue, OnErr, OnOk};
 ghost use Rattle.nfs_ranges.specs.Merged.{in_order};
-ghost use Rattle.nfs_ranges.specs.Modes.{with_mode};
 ghost use Rattle.nfs_ranges.specs.Questions.{IsFirstConflict, IsRunAt};
 ghost use Rattle.nfs_ranges.specs.RoomyRanges.{IsFree, modes_after, modes_in};
 ghost use Rattle.nfs_ranges.specs.Runs.{runs};
@@ -54,61 +53,8 @@ impl Ranges {
         }
     }
 
-    /// Makes room, so that the next change takes no memory.
+    /// Makes room, so that the next change takes no memory. After an error nothing has changed.
     pub fn reserve(&mut self) -> Result<(), RangesError>
-        ensures pieces { self.new.pieces ≡ self.old.pieces }
-        ensures room { OnOk result (0 < self.new.room) }
-        ensures grows { self.old.room ≤ self.new.room }
-        ensures ready { 0 < self.old.room → IsOk result }
-        ensures memory { IfErr result (λ e. e ≡ RangesError.Memory) }
-    {
-        self.make_room()
-    }
-
-    /// LOCK (RFC 7530, section 16.10): the owner holds the bytes in this mode, also those that it held in another.
-    pub fn lock(&mut self, range: Range, mode: Mode) -> Result<(), RangesError>
-        ensures ok { OnOk result (
-            modes_in self.new ≡ with_mode range (Some mode) (modes_in self.old)) }
-        ensures full { IsErrOf result RangesError.Full
-            ↔ (RUN_LIMIT < runs (with_mode range (Some mode) (modes_in self.old))) }
-        ensures memory { IsErrOf result RangesError.Memory → self.old.room ≡ 0 }
-        ensures err { OnErr result (self.new ≡ self.old) }
-    {
-        self.try_change(Piece {
-            range,
-            mode: Some(mode),
-        })
-    }
-
-    /// LOCKU (RFC 7530, section 16.12): the owner holds none of the bytes, whether it held them or not.
-    pub fn unlock(&mut self, range: Range) -> Result<(), RangesError>
-        ensures ok { OnOk result (
-            modes_in self.new ≡ with_mode range None (modes_in self.old)) }
-        ensures full { IsErrOf result RangesError.Full
-            ↔ (RUN_LIMIT < runs (with_mode range None (modes_in self.old))) }
-        ensures memory { IsErrOf result RangesError.Memory → self.old.room ≡ 0 }
-        ensures err { OnErr result (self.new ≡ self.old) }
-    {
-        self.try_change(Piece { range, mode: None })
-    }
-
-    fn try_change(&mut self, change: Piece) -> Result<(), RangesError>
-        ensures ok { OnOk result (modes_in self.new ≡ modes_after change self.old) }
-        ensures full { IsErrOf result RangesError.Full
-            ↔ (RUN_LIMIT < runs (modes_after change self.old)) }
-        ensures memory { IsErrOf result RangesError.Memory → self.old.room ≡ 0 }
-        ensures err { OnErr result (self.new ≡ self.old) }
-    {
-        if !self.has_place_for(change) {
-            return Err(RangesError::Full);
-        }
-        self.make_room()?;
-        self.change(change);
-        Ok(())
-    }
-
-    // Makes room for a change, where there is none. After an error nothing has changed.
-    fn make_room(&mut self) -> Result<(), RangesError>
         ensures pieces { self.new.pieces ≡ self.old.pieces }
         ensures room { OnOk result (0 < self.new.room) }
         ensures grows { self.old.room ≤ self.new.room }

@@ -4,7 +4,6 @@ ghost use Rattle.std.specs.Prelude.{◌≡◌, ◌+◌, ◌-◌, ◌^◌, ◌<�
 ghost use Rattle.std.specs.List.{AllByRecursion};
 ghost use Rattle.nfs_server.specs.Connection.{HasCourse, scene};
 ghost use Rattle.nfs_server.specs.Device.{IsCut, IsWritten, device_of_sink};
-ghost use Rattle.nfs_server.specs.Sides.{device_of, sides};
 ghost use Rattle.nfs_server.specs.Exchange.{rules};
 ghost use Rattle.nfs_server.specs.Serves.{exported};
 ghost use Rattle.nfs_tree.specs.Exports.{export_seen};
@@ -13,7 +12,7 @@ ghost use Rattle.nfs_rpc.specs.Records.{IsStream, TakesPiece};
 
 use crate::duplex::Pair;
 use crate::replies::{GATHER_LIMIT, Replies};
-use crate::{Buffers, Clock, Counted, DeviceFailed, Duplex, ServeError, Service, Sink, Source};
+use crate::{Buffers, Clock, Counted, DeviceFailed, Duplex, ServeError, Service, Sink};
 use nfs_rpc::{RECORD_LIMIT, RecordError, Records};
 use nfs_tree::{Export, Tree};
 use std::alloc::{AllocError, Global};
@@ -24,33 +23,6 @@ pub const STREAM_LIMIT: u64 = 1 << 40;
 
 /// The greatest number of bytes that one read asks a device for.
 pub(crate) const PIECE_LEN: usize = 65_536;
-
-/// Serves a connection until its input ends, and returns how many bytes came after the last whole record. It behaves
-/// like `serve_duplex`, and reads from the source and writes to the sink.
-pub fn serve_connection<R: Source, W: Sink, S: Service, C: Clock>(
-    alloc: Global,
-    source: &mut R,
-    sink: &mut W,
-    service: &mut S,
-    tree: &Tree,
-    clock: &mut C,
-) -> Result<usize, ServeError>
-    requires reads { R.failures source.old < 2 ^ 64 - 1 }
-    requires writes { W.failures sink.old < 2 ^ 64 - 1 }
-    requires serves { (S.serves service.old).nodes ≡ tree.now.nodes }
-    ensures serves { S.serves service.new ≡ S.serves service.old }
-    ensures course { HasCourse (device_of R.gives R.fails W.takes W.fails)
-        (rules (exported tree.now (S.serves service.old)) S.gives S.alike C.tells)
-        (scene (sides source.old sink.old) service.old clock.old) result
-        (scene (sides source.new sink.new) service.new clock.new) }
-    ensures read_failed { IsErrOf result ServeError.Read
-        ↔ R.failures source.old < R.failures source.new }
-    ensures write_failed { IsErrOf result ServeError.Write
-        ↔ W.failures sink.old < W.failures sink.new }
-{
-    let mut pair = Pair { source, sink };
-    serve_duplex(alloc, &mut pair, service, tree, clock)
-}
 
 /// Serves a connection over one device until its input ends, and returns how many bytes came after the last whole
 /// record.

@@ -11,6 +11,7 @@ mod course_laws;
 mod device;
 mod duplex;
 mod lent;
+mod named_calls;
 mod numbers;
 mod pending_call;
 mod replies;
@@ -21,7 +22,7 @@ mod sides;
 pub use buffers::Buffers;
 pub use clock::{Clock, Stopped};
 pub use compound::{AnsweredCompound, run_compound};
-pub use connection::{STREAM_LIMIT, serve_connection, serve_duplex, write_to};
+pub use connection::{STREAM_LIMIT, serve_duplex, write_to};
 pub use course_laws::{
     bytes_of_a_connection, bytes_of_writes, journal_of_a_connection, questions_are_entries,
     turns_are_of_one_text,
@@ -29,6 +30,7 @@ pub use course_laws::{
 pub use device::{Counted, DeviceFailed, Sink, Source};
 pub use duplex::Duplex;
 pub use lent::Lent;
+pub use named_calls::serve_connection;
 pub use numbers::limits_of_connections;
 pub use serve_error::ServeError;
 pub use service::Service;

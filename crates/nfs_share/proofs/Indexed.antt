@@ -79,11 +79,6 @@ module _ {X : Type 0} (get : FileOpens → List X) where
   list_at_there (f ∷ files) zero file below is = ap get (sym is)
   list_at_there (f ∷ files) (suc node) file below is = list_at_there files node file (omega (arith, below)) is
 
-  pub none_at_there : (files : List FileOpens) (node : ℕ) → length files ≤ node → [] ≡ list_at node (map get files)
-  none_at_there [] node above = refl
-  none_at_there (f ∷ files) zero above = absurd (omega (arith, above))
-  none_at_there (f ∷ files) (suc node) above = none_at_there files node (omega (arith, above))
-
 module _ {X : Type 0} where
   pub counted : (lists : List (List X)) → total_length lists ≡ total lists
   counted [] = refl
@@ -107,17 +102,6 @@ module _ {X : Type 0} where
       all_empty : (n : ℕ) → AllByRecursion (λ (l : List X). l ≡ []) (replicate n [])
       all_empty zero = tt
       all_empty (suc n) = (refl, all_empty n)
-
-  -- nothing in the list has the number
-  pub none_numbered : (number_of : X → ℕ) (test : ℕ → X → Bool) → ((n : ℕ) (x : X) → test n x ≡ false → number_of x ≡ n → ⊥) → (n : ℕ) (xs : List X) → list_any (test n) xs ≡ false
-      → AllByRecursion (λ x. number_of x ≡ n → ⊥) xs
-  none_numbered number_of test differs n [] none = tt
-  none_numbered number_of test differs n (x ∷ xs) none = by (test n x) refl none (λ rest. none_numbered number_of test differs n xs rest)
-    where
-      by : (b : Bool) → test n x ≡ b → (b || list_any (test n) xs) ≡ false → (list_any (test n) xs ≡ false → AllByRecursion (λ x. number_of x ≡ n → ⊥) xs)
-          → (number_of x ≡ n → ⊥) × AllByRecursion (λ x. number_of x ≡ n → ⊥) xs
-      by true is nothing rest = absurd (true≢false nothing)
-      by false is nothing rest = (differs n x is, rest nothing)
 
 pub open_differs : (n : ℕ) (o : OpenState) → is_numbered n o ≡ false → open_number o ≡ n → ⊥
 open_differs n o other = eqb-false o.number n other

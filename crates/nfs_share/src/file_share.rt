@@ -1,16 +1,14 @@
 //! The opens and delegations of one file, as OPEN, OPEN_DOWNGRADE, CLOSE and DELEGRETURN change them.
 
-ghost use Rattle.std.specs.Prelude.{◌≡◌, ◌≤◌, ◌<◌, ◌+◌, ◌↔◌, IfErr, IfOk, IsErrOf, IsFalse, IsOk, IsTrue, OnErr, OnOk, Some, filter, find, length, nat_le, [], ◌∷◌, ◌++◌, option_map};
+ghost use Rattle.std.specs.Prelude.{◌≡◌, ◌≤◌, ◌<◌, ◌+◌, IsOk, OnErr, OnOk, Some, find, length, nat_le, [], ◌∷◌, ◌++◌, option_map};
 ghost use Rattle.std.specs.List.{list_any};
 ghost use Rattle.std.specs.Option.{option_copied};
-ghost use Rattle.nfs_share.specs.Delegations.{IsAboveLent, IsNextDueOf, bars, can_delegate, conflicts, delegation_named_by, delegation_stateid, delegation_with_number, first_delegation, has_conflict, has_delegation, is_delegation_numbered, is_lent_to, is_stateid_of_delegation, with_recalls, without_lent};
-ghost use Rattle.nfs_share.specs.Opens.{CanDowngrade, IsNewestFor, with_next_seqid, after_downgrade, is_denied, is_numbered, is_of, is_of_client, is_refused, is_stateid_of, open_named_by, open_with_number, open_of, owner_named, share_of, stateid_of, with_each, with_opening, without};
-ghost use Rattle.nfs_share.specs.ShareError.{IsHeldFor, IsWhyNotLent, IsWhyNotOpened};
-ghost use Rattle.nfs_share.specs.declared.delegation.FileUse.TheVariants as uses;
+ghost use Rattle.nfs_share.specs.Delegations.{IsAboveLent, IsNextDueOf, bars, can_delegate, delegation_named_by, delegation_stateid, delegation_with_number, first_delegation, has_conflict, has_delegation, is_delegation_numbered, is_lent_to, with_recalls, without_lent};
+ghost use Rattle.nfs_share.specs.Opens.{IsNewestFor, with_next_seqid, after_downgrade, is_denied, is_numbered, is_of, is_of_client, is_refused, is_stateid_of, open_named_by, open_with_number, open_of, owner_named, stateid_of, with_each, with_opening, without};
 
 use crate::delegation_table::DelegationTable;
 use crate::open_table::OpenTable;
-use crate::{Delegation, DelegationKind, FileUse, Modes, OpenState, Share, ShareError};
+use crate::{Delegation, DelegationKind, FileUse, Modes, OpenState, Share};
 use nfs_forms::{ClientId, Moment, OpenOwner, Stateid};
 use nfs_rows::OwnerSeed;
 use std::alloc::{AllocError, Global};
@@ -22,7 +20,7 @@ use std::marker::Model;
 #[derive(Drop)]
 pub struct FileShare {
     opens: OpenTable,
-    delegations: DelegationTable,
+    pub(crate) delegations: DelegationTable,
 }
 
 impl Model for FileShare {
@@ -85,14 +83,6 @@ impl FileShare {
         self.opens.open_of(owner)
     }
 
-    /// All access of the owner's open, with all that it denies, if the owner has one.
-    pub fn share_of(&self, owner: &OpenOwner) -> Option<Share>
-        ensures { result ≡ option_map share_of (open_of owner.now self.now.opens) }
-    {
-        let open = self.open_of(owner)?;
-        Some(open.share())
-    }
-
     /// Whether an open denies one of these modes.
     pub fn denies(&self, modes: Modes) -> bool
         ensures { result ≡ is_denied modes self.now.opens }
@@ -136,54 +126,9 @@ impl FileShare {
         ensures grows { self.old.room ≤ self.new.room }
         ensures lending { self.old.lending_room ≤ self.new.lending_room }
         ensures ready { 0 < self.old.room → IsOk result }
+        ensures err { OnErr result (self.new ≡ self.old) }
     {
         self.opens.reserve()
-    }
-
-    /// OPEN (RFC 7530, section 16.16): adds the share to the owner's open, or makes an open with this number, which has
-    /// to be above those of all opens then. Returns the open's stateid.
-    pub fn try_open(
-        &mut self,
-        owner: OpenOwner,
-        share: Share,
-        number: u32,
-    ) -> Result<Stateid, ShareError>
-        requires newest { IsNewestFor owner number self.old.opens }
-        ensures ok { OnOk result (
-            self.new.opens ≡ with_opening owner share number self.old.opens) }
-        ensures stateid { IfOk result (λ stateid.
-            option_map stateid_of (open_of owner self.new.opens) ≡ Some stateid) }
-        ensures denied { IsErrOf result ShareError.Denied
-            ↔ IsTrue (is_refused owner share self.old.opens) }
-        ensures free { OnOk result (
-            IsFalse (has_conflict (uses.Open owner.client share) self.old.delegations)) }
-        ensures why { IfErr result (IsWhyNotOpened owner share self.old) }
-        ensures err { OnErr result (self.new ≡ self.old) }
-        ensures delegations { self.new.delegations ≡ self.old.delegations }
-        ensures room { OnOk result (self.old.room ≤ self.new.room + 1) }
-        ensures lending { self.old.lending_room ≤ self.new.lending_room }
-    {
-        if self.refuses(&owner, share) {
-            return Err(ShareError::Denied);
-        }
-        self.check_free(FileUse::Open(owner.client, share))?;
-        if self.open_of(&owner).is_none() {
-            self.opens.reserve()?;
-        }
-        Ok(self.grant(owner, share, number))
-    }
-
-    // Is `Ok` where no delegation is in the way of this use of the file.
-    fn check_free(&self, file_use: FileUse) -> Result<(), ShareError>
-        ensures ok { OnOk result (IsFalse (has_conflict file_use self.now.delegations)) }
-        ensures why { IfErr result (λ e.
-            IsTrue (has_conflict file_use self.now.delegations)
-            × IsHeldFor (filter (conflicts file_use) self.now.delegations) e) }
-    {
-        if self.conflicts(file_use) {
-            return Err(ShareError::Held(self.delegations.conflicting(file_use)?));
-        }
-        Ok(())
     }
 
     /// OPEN, no matter what others deny or hold: as `try_open`, where there is room for an open that is made. It takes
@@ -213,28 +158,6 @@ impl FileShare {
         } }
     {
         self.opens.advance(number);
-    }
-
-    /// OPEN_DOWNGRADE (RFC 7530, section 16.19): keeps of the open with this number the shares that this share
-    /// contains. Returns the open's stateid.
-    pub fn downgrade(&mut self, number: u32, share: Share) -> Result<Stateid, ShareError>
-        ensures ok { OnOk result (self.new ≡ record self.old {
-          opens = with_each (is_numbered number) (after_downgrade share) self.old.opens;
-        }) }
-        ensures stateid { IfOk result (λ stateid.
-            option_map stateid_of (open_with_number number self.new.opens) ≡ Some stateid) }
-        ensures allowed { IsOk result ↔ CanDowngrade number share self.old.opens }
-        ensures invalid { IfErr result (λ e. e ≡ ShareError.Invalid) }
-        ensures err { OnErr result (self.new ≡ self.old) }
-    {
-        match self.find(number) {
-            Some(open) if open.shares.can_downgrade_to(share) => {
-                let stateid = open.next_stateid();
-                self.keep_within(number, share);
-                Ok(stateid)
-            }
-            _ => Err(ShareError::Invalid),
-        }
     }
 
     /// OPEN_DOWNGRADE, no matter whether it is allowed: keeps of the open with this number the shares that this share
@@ -300,25 +223,11 @@ impl FileShare {
         self.delegations.named_by(stateid)
     }
 
-    /// Whether the stateid names a delegation.
-    pub fn names_delegation(&self, stateid: Stateid) -> bool
-        ensures { result ≡ list_any (is_stateid_of_delegation stateid) self.now.delegations }
-    {
-        self.delegation_named_by(stateid).is_some()
-    }
-
     /// The delegation with this number, if there is one.
     pub fn delegation_with_number(&self, number: u32) -> Option<Delegation>
         ensures { result ≡ delegation_with_number number self.now.delegations }
     {
         self.delegations.numbered(number)
-    }
-
-    /// Whether a delegation has this number.
-    pub fn has_delegation_numbered(&self, number: u32) -> bool
-        ensures { result ≡ list_any (is_delegation_numbered number) self.now.delegations }
-    {
-        self.delegation_with_number(number).is_some()
     }
 
     /// Whether the client has a delegation.
@@ -333,20 +242,6 @@ impl FileShare {
         ensures { result ≡ has_conflict file_use self.now.delegations }
     {
         self.delegations.conflicts(file_use)
-    }
-
-    /// The delegations of other clients that are in the way of an open of the client with this share.
-    pub fn conflicts_of(
-        &self,
-        client: ClientId,
-        share: Share,
-    ) -> Result<Vec<Delegation>, AllocError>
-        ensures ok { IfOk result (λ found. found.items
-            ≡ filter (conflicts (uses.Open client share)) self.now.delegations) }
-        ensures none { IsFalse (has_conflict (uses.Open client share) self.now.delegations)
-            → IsOk result }
-    {
-        self.delegations.conflicting(FileUse::Open(client, share))
     }
 
     /// Whether a delegation of this kind to the client would be in the way of an open of another client.
@@ -381,42 +276,9 @@ impl FileShare {
         ensures grows { self.old.lending_room ≤ self.new.lending_room }
         ensures opening { self.old.room ≤ self.new.room }
         ensures ready { 0 < self.old.lending_room → IsOk result }
+        ensures err { OnErr result (self.new ≡ self.old) }
     {
         self.delegations.reserve()
-    }
-
-    /// Lends the client a delegation of this kind with this number, which has to be above those of all delegations, if
-    /// it is in nobody's way, nobody's is in its way, and the client has none. Returns the delegation's stateid.
-    pub fn delegate(
-        &mut self,
-        client: ClientId,
-        kind: DelegationKind,
-        number: u32,
-    ) -> Result<Stateid, ShareError>
-        requires newest { IsAboveLent number self.old.delegations }
-        ensures ok { OnOk result (self.new.delegations
-            ≡ self.old.delegations ++ first_delegation client kind number ∷ []) }
-        ensures stateid { IfOk result (λ stateid.
-            stateid ≡ delegation_stateid (first_delegation client kind number)) }
-        ensures denied { IsErrOf result ShareError.Denied
-            ↔ IsTrue (bars client kind self.old.opens) }
-        ensures allowed { OnOk result (
-            IsTrue (can_delegate client kind self.old.opens self.old.delegations)) }
-        ensures why { IfErr result (IsWhyNotLent client kind self.old) }
-        ensures err { OnErr result (self.new ≡ self.old) }
-        ensures opens { self.new.opens ≡ self.old.opens }
-        ensures room { OnOk result (self.old.lending_room ≤ self.new.lending_room + 1) }
-        ensures opening { self.old.room ≤ self.new.room }
-    {
-        if self.bars(client, kind) {
-            return Err(ShareError::Denied);
-        }
-        if self.has_delegation(client) {
-            return Err(ShareError::Invalid);
-        }
-        self.check_free(FileUse::Delegation(client, kind))?;
-        self.delegations.reserve()?;
-        Ok(self.lend(client, kind, number))
     }
 
     /// Lends the client a delegation, no matter what others do with the file: as `delegate`, where there is room. It

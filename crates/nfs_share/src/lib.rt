@@ -9,6 +9,7 @@ mod delegation_table;
 mod file_share;
 mod laws;
 mod modes;
+mod named_calls;
 mod numbers;
 mod open_state;
 mod open_table;

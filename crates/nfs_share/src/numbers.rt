@@ -1,17 +1,13 @@
-//! Keeps the indexes from numbers of opens and delegations to nodes, and forgets removed ones if room is needed.
+//! What the indexes from numbers of opens and delegations to nodes ask a file, and changes of a file that tell how many
+//! of these there were.
 
-ghost use Rattle.std.specs.Prelude.{◌≡◌, ◌+◌, ◌<◌, ◌≤◌, IsOk, OnOk, is_none, length};
-ghost use Rattle.std.specs.List.{list_any};
-ghost use Rattle.nfs_nodes.specs.Numbers.{StandFrom};
-ghost use Rattle.nfs_share.specs.AllOpens.{delegations_in, delegations_of, opens_in, opens_of};
+ghost use Rattle.std.specs.Prelude.{◌≡◌, ◌+◌, ◌<◌, ◌≤◌, is_none, length};
 ghost use Rattle.nfs_share.specs.Delegations.{is_delegation_numbered, without_lent};
-ghost use Rattle.nfs_share.specs.OpenNodes.{lent_number, open_number};
 ghost use Rattle.nfs_share.specs.Opens.{IsNewestFor, is_numbered, open_of, with_opening, without};
 
-use crate::{FileShare, Share};
+use crate::{Delegation, FileShare, OpenState, Share};
 use nfs_forms::OpenOwner;
-use nfs_nodes::Nodes;
-use std::alloc::AllocError;
+use nfs_nodes::Numbered;
 
 /// OPEN of the file, no matter what others deny, where there is room. Tells whether it made an open.
 pub(crate) fn grant_in(file: &mut FileShare, owner: OpenOwner, share: Share, number: u32) -> bool
@@ -52,121 +48,32 @@ pub(crate) fn give_back_in(file: &mut FileShare, number: u32) -> usize
     before - file.delegations().len()
 }
 
-/// Makes room for the number of one more open, where there are so many. If there is none, and most of the numbers are
-/// of opens that there are no more, it forgets these first.
-pub(crate) fn reserve_number(
-    files: &[FileShare],
-    nodes: &mut Nodes,
-    count: usize,
-) -> Result<(), AllocError>
-    requires stand { StandFrom open_number nodes.old 0 (opens_in files.now) }
-    ensures stand { StandFrom open_number nodes.new 0 (opens_in files.now) }
-    ensures room { OnOk result (0 < nodes.new.room) }
-    ensures grows { nodes.old.room ≤ nodes.new.room }
-    ensures ready { 0 < nodes.old.room → IsOk result }
-{
-    if nodes.is_full_of_others(count) {
-        forget_others(files, nodes);
-    }
-    nodes.reserve()
-}
+impl Numbered<OpenState> for FileShare {
+    ghost use Rattle.nfs_share.specs.OpenNodes.{open_number};
+    ghost use Rattle.nfs_share.specs.declared.open_state.OpenState.{OpenState};
 
-// Forgets the numbers of opens that there are no more.
-fn forget_others(files: &[FileShare], nodes: &mut Nodes)
-    requires stand { StandFrom open_number nodes.old 0 (opens_in files.now) }
-    ensures stand { StandFrom open_number nodes.new 0 (opens_in files.now) }
-    ensures grows { nodes.old.room ≤ nodes.new.room }
-{
-    // The last entry takes the place of one that is removed.
-    let len = nodes.len();
-    for passed in 0..len {
-        forget_other(files, nodes, len - 1 - passed);
+    ghost State = { OpenState };
+
+    ghost number_of = { open_number };
+
+    ghost states = { λ f. f.opens };
+
+    fn has_number(&self, number: u32) -> bool {
+        self.find(number).is_some()
     }
 }
 
-// Forgets the number at this place, if its node has no open with it.
-fn forget_other(files: &[FileShare], nodes: &mut Nodes, place: usize)
-    requires stand { StandFrom open_number nodes.old 0 (opens_in files.now) }
-    ensures stand { StandFrom open_number nodes.new 0 (opens_in files.now) }
-    ensures grows { nodes.old.room ≤ nodes.new.room }
-{
-    if let Some((number, node)) = nodes.at(place) {
-        if has_number_at(files, node, number) {
-            return;
-        }
-        nodes.remove(number, node);
-    }
-}
+impl Numbered<Delegation> for FileShare {
+    ghost use Rattle.nfs_share.specs.OpenNodes.{lent_number};
+    ghost use Rattle.nfs_share.specs.declared.delegation.Delegation.{Delegation};
 
-// Whether the node has an open with this number.
-fn has_number_at(files: &[FileShare], node: u32, number: u32) -> bool
-    ensures { result ≡ list_any (is_numbered number) (opens_of node (opens_in files.now)) }
-{
-    match files.get(node as usize) {
-        Some(file) => has_number(file, number),
-        None => false,
-    }
-}
+    ghost State = { Delegation };
 
-/// Makes room for the number of one more delegation, where there are so many. If there is none, and most of the numbers
-/// are of delegations that there are no more, it forgets these first.
-pub(crate) fn reserve_delegation_number(
-    files: &[FileShare],
-    nodes: &mut Nodes,
-    count: usize,
-) -> Result<(), AllocError>
-    requires stand { StandFrom lent_number nodes.old 0 (delegations_in files.now) }
-    ensures stand { StandFrom lent_number nodes.new 0 (delegations_in files.now) }
-    ensures room { OnOk result (0 < nodes.new.room) }
-    ensures grows { nodes.old.room ≤ nodes.new.room }
-    ensures ready { 0 < nodes.old.room → IsOk result }
-{
-    if nodes.is_full_of_others(count) {
-        forget_other_delegations(files, nodes);
-    }
-    nodes.reserve()
-}
+    ghost number_of = { lent_number };
 
-// Forgets the numbers of delegations that there are no more.
-fn forget_other_delegations(files: &[FileShare], nodes: &mut Nodes)
-    requires stand { StandFrom lent_number nodes.old 0 (delegations_in files.now) }
-    ensures stand { StandFrom lent_number nodes.new 0 (delegations_in files.now) }
-    ensures grows { nodes.old.room ≤ nodes.new.room }
-{
-    // The last entry takes the place of one that is removed.
-    let len = nodes.len();
-    for passed in 0..len {
-        forget_other_delegation(files, nodes, len - 1 - passed);
-    }
-}
+    ghost states = { λ f. f.delegations };
 
-// Forgets the number at this place, if its node has no delegation with it.
-fn forget_other_delegation(files: &[FileShare], nodes: &mut Nodes, place: usize)
-    requires stand { StandFrom lent_number nodes.old 0 (delegations_in files.now) }
-    ensures stand { StandFrom lent_number nodes.new 0 (delegations_in files.now) }
-    ensures grows { nodes.old.room ≤ nodes.new.room }
-{
-    if let Some((number, node)) = nodes.at(place) {
-        if has_delegation_number_at(files, node, number) {
-            return;
-        }
-        nodes.remove(number, node);
+    fn has_number(&self, number: u32) -> bool {
+        self.delegation_with_number(number).is_some()
     }
-}
-
-// Whether the node has a delegation with this number.
-fn has_delegation_number_at(files: &[FileShare], node: u32, number: u32) -> bool
-    ensures { result ≡ list_any (is_delegation_numbered number) (delegations_of node (delegations_in files.now)) }
-{
-    match files.get(node as usize) {
-        Some(file) => file.has_delegation_numbered(number),
-        None => false,
-    }
-}
-
-// Whether the file has an open with this number.
-fn has_number(file: &FileShare, number: u32) -> bool
-    ensures { result ≡ list_any (is_numbered number) file.now.opens }
-{
-    file.find(number).is_some()
 }

@@ -8,10 +8,10 @@ ghost use Rattle.nfs_share.specs.Delegations.{can_delegate, first_delegation, ha
 ghost use Rattle.nfs_share.specs.OpenFound.{delegation_ref_seen, delegation_seen, open_seen};
 ghost use Rattle.nfs_share.specs.Opens.{after_downgrade, is_denied, is_numbered, is_of, is_of_client, is_refused, is_stateid_of, open_of, open_with_number, owner_named, with_each, with_next_seqid, with_opening, without};
 
-use crate::numbers::{close_in, give_back_in, grant_in, reserve_delegation_number, reserve_number};
+use crate::numbers::{close_in, give_back_in, grant_in};
 use crate::{Delegation, DelegationKind, FileShare, FileUse, Modes, OpenState, Share};
 use nfs_forms::{ClientId, Moment, OpenOwner, Stateid};
-use nfs_nodes::Nodes;
+use nfs_nodes::{Nodes, reserve_number};
 use nfs_rows::OwnerSeed;
 use std::alloc::{AllocError, Global};
 use std::marker::Model;
@@ -172,7 +172,7 @@ impl Opens {
     {
         let node = node as usize;
         if node < self.files.len() {
-            reserve_number(&self.files, &mut self.nodes, self.count)?;
+            reserve_number::<OpenState, FileShare>(&self.files, &mut self.nodes, self.count)?;
             self.files[node].reserve()?;
         }
         Ok(())
@@ -366,7 +366,7 @@ impl Opens {
     {
         let node = node as usize;
         if node < self.files.len() {
-            reserve_delegation_number(&self.files, &mut self.lent, self.lent_count)?;
+            reserve_number::<Delegation, FileShare>(&self.files, &mut self.lent, self.lent_count)?;
             self.files[node].reserve_delegation()?;
         }
         Ok(())

@@ -6,6 +6,7 @@ mod held;
 mod hold;
 mod limits;
 mod moving;
+mod named_calls;
 mod naming;
 mod opened;
 mod recall_queue;

@@ -5,6 +5,7 @@ mod arg_op;
 mod bounded;
 mod compound;
 mod limits;
+mod named_calls;
 mod names;
 mod op;
 mod op_result;

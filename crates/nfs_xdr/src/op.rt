@@ -91,14 +91,6 @@ impl Op {
         each_operation!(opnum_of_op self)
     }
 
-    /// Whether the operation works on the state, so that every answer except NFS4ERR_RESOURCE is an entry of the
-    /// journal.
-    pub fn has_entry(&self) -> bool
-        ensures { result ≡ ops.has_entry self.now }
-    {
-        self.opnum().class() == Class::OnState
-    }
-
     /// Whether the operation needs only the tree of files and the filehandles.
     pub fn is_on_tree(&self) -> bool
         ensures { result ≡ ops.is_on_tree self.now }

@@ -26,9 +26,13 @@ use std::marker::Model;
 use std::sync::Wait;
 
 impl<N: Naming> Shared<N> {
-    // Takes the lock for the sender: what it took begins what was put, and its entries are among those that are no
-    // calls. It knows then all that was put.
-    fn hold_for<'a, 'b, R: Wait>(&'a self, rt: &'b R, sender: &mut Sender<N>) -> Hold<'a, 'b, N, R>
+    /// Takes the lock for the sender: what it took begins what was put, and its entries are among those that are no
+    /// calls. It knows then all that was put.
+    pub(crate) fn hold_for<'a, 'b, R: Wait>(
+        &'a self,
+        rt: &'b R,
+        sender: &mut Sender<N>,
+    ) -> Hold<'a, 'b, N, R>
         ensures known { SenderMayFind N.start sender.old result }
         ensures sender { sender.new ≡ with_known result.put sender.old }
     {
@@ -101,25 +105,6 @@ impl<N: Naming> Shared<N> {
         ensures empty { IfNone result (IsPrefix sender.old.known_put sender.old.taken) }
     {
         self.queue.take(rt, &mut sender.pass)
-    }
-
-    /// How a live client is called back, as a copy, if there is such a client. It fails only where memory is refused
-    /// for the copy.
-    pub fn callback<R: Wait>(
-        &self,
-        rt: &R,
-        sender: &mut Sender<N>,
-        client: u32,
-    ) -> Result<Option<Callback>, AllocError>
-        ensures found { IfOk result (λ found. (held : HeldView)
-            × SenderMayFind N.start sender.old held × (found ≡ callback_of client held.server)) }
-        ensures sender { HasLooked N.start sender.old sender.new }
-    {
-        let hold = self.hold_for(rt, sender);
-        match hold.guard.core().callback(client) {
-            Some(callback) => Ok(Some(callback.clone()?)),
-            None => Ok(None),
-        }
     }
 
     /// Whether a live client is called back so.

@@ -4,7 +4,7 @@ use Rattle.std.proofs.lemmas.Bool.{false≢true}
 use Rattle.nfs_locks.specs.AllLocks.{HasLockRoom, HasLockRoomAt, locks_in}
 use Rattle.nfs_locks.specs.LockNodes.{number_of, within_room}
 use Rattle.nfs_locks.specs.StoredLocks.{StoredLock, StoredLocks, byte_locks, stored_locks}
-use Rattle.nfs_locks.proofs.Files.{holds_at, holds_of, holds_of_none, same_at}
+use Rattle.nfs_locks.proofs.Files.{all_seen, holds_at, holds_of, holds_of_none, same_at, seen_in}
 use Rattle.nfs_locks.proofs.Indexed.{at_within, from_within, room_there, room_within, room_without, stored_in_view, stored_within}
 use Rattle.nfs_nodes.specs.Numbers.{AreFound, StandFrom}
 use Rattle.nfs_locks.proofs.Named.{names_at}
@@ -59,7 +59,7 @@ pub invariant_of-self-in-Continue-branch-2 : goal.invariant_of-self-in-Continue-
 invariant_of-self-in-Continue-branch-2 c = (
   subst (λ (s : List (List StoredLock)). AreFound number_of c.reserve_number.new.nodes c.self.inside.count (map (map byte_locks) s)) (sym (same_at c.self.inside.files.items c.args.node c.index_mut.result.now c.reserve.new.self (omega (arith, c.if-node-len.true, c.len.ensures)) c.index_mut.ensures.value (ap stored_locks c.reserve.ensures.states)))
       (record {
-        stand = subst (λ (files : List StoredLocks). StandFrom number_of c.reserve_number.new.nodes 0 (locks_in files)) c.deref.ensures.value c.reserve_number.ensures.stand;
+        stand = subst (λ (files : List StoredLocks). StandFrom number_of c.reserve_number.new.nodes 0 (locks_in files)) c.deref.ensures.value (subst (StandFrom number_of c.reserve_number.new.nodes 0) (sym (all_seen _)) c.reserve_number.ensures.stand);
         counted = c.self.invariant.0.counted;
         few = c.self.invariant.0.few;
       }),
@@ -70,9 +70,26 @@ pub invariant_of-self-in_err-reserve : goal.invariant_of-self-in_err-reserve
 invariant_of-self-in_err-reserve c = (
   subst (λ (s : List (List StoredLock)). AreFound number_of c.reserve_number.new.nodes c.self.inside.count (map (map byte_locks) s)) (sym (same_at c.self.inside.files.items c.args.node c.index_mut.result.now c.reserve.new.self (omega (arith, c.if-node-len.true, c.len.ensures)) c.index_mut.ensures.value (ap stored_locks c.reserve.ensures.states)))
       (record {
-        stand = subst (λ (files : List StoredLocks). StandFrom number_of c.reserve_number.new.nodes 0 (locks_in files)) c.deref.ensures.value c.reserve_number.ensures.stand;
+        stand = subst (λ (files : List StoredLocks). StandFrom number_of c.reserve_number.new.nodes 0 (locks_in files)) c.deref.ensures.value (subst (StandFrom number_of c.reserve_number.new.nodes 0) (sym (all_seen _)) c.reserve_number.ensures.stand);
         counted = c.self.invariant.0.counted;
         few = c.self.invariant.0.few;
       }),
   subst (AllByRecursion (λ n. n ≡ c.self.inside.names)) (sym (names_at c.self.inside.files.items c.args.node c.index_mut.result.now c.reserve.new.self (omega (arith, c.if-node-len.true, c.len.ensures)) c.index_mut.ensures.value c.reserve.ensures.names)) c.self.invariant.1,
+)
+
+pub reserve_number-requires : goal.reserve_number-requires
+reserve_number-requires c = record {
+  stand = subst (λ (files : List StoredLocks). StandFrom number_of c.self.inside.nodes 0 (seen_in files)) (sym c.deref.ensures.value)
+      (subst (StandFrom number_of c.self.inside.nodes 0) (all_seen c.self.inside.files.items) c.self.invariant.0.stand);
+}
+
+pub invariant_of-self : goal.invariant_of-self
+invariant_of-self c = (
+  record {
+    stand = subst (StandFrom number_of c.reserve_number.new.nodes 0) (sym (all_seen c.self.inside.files.items))
+        (subst (λ (files : List StoredLocks). StandFrom number_of c.reserve_number.new.nodes 0 (seen_in files)) c.deref.ensures.value c.reserve_number.ensures.stand);
+    counted = c.self.invariant.0.counted;
+    few = c.self.invariant.0.few;
+  },
+  c.self.invariant.1,
 )
