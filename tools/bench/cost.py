@@ -18,6 +18,10 @@ list of receipts and a sweep each second cost, too.
 With --of calls are counted in `once`, beside what --beside says, and beside nothing. Each kind has a client of its
 own, which came after all others. The server has the file that is measured and 63 others, and grants read delegations
 of them.
+
+With --in-hold instructions of calls in `serve` are counted: those in the hold, while the worker has the lock of the
+state, and those of the worker in all. A call is sent after the reply to the call before. The last 1,000 of 1,100 calls
+are counted. tools/bench/README.md says what the counts leave out. If a bound is missed, the status is 1.
 """
 import argparse
 import os
@@ -31,6 +35,7 @@ from concurrent.futures import ThreadPoolExecutor
 from bench.scenes import KINDS as BESIDE, read_besides, spelled
 from bench.calls import KINDS as CALLS
 from bench.figures import Figures, table
+from bench.in_hold import Figure, counted_in_hold, figure_of, misses, table as table_in_hold
 from bench.script import Failure, expect_program, parser_of, run, some_of
 from bench.servers import serving
 from helpers.expecting_client import Client
@@ -58,28 +63,45 @@ from nfs4tools.processes import NO_CALLBACKS
 from nfs4tools.wire import opaque
 
 FEW, MANY = 2000, 4000
+# The calls that are counted in the hold, and those before them.
+COUNTED, UNCOUNTED = 1000, 100
 UID = 1000
 SERVE = ["serve", "--tree", NO_CALLBACKS]
 # Type, change, size and fileid.
 ATTRIBUTES = 0x10001A
 # The node of the file a, and how many of its bytes are read or written.
-FILE, BLOCK = 1, 4096
+FILE, BLOCK, LONG_BLOCK = 1, 4096, 65536
 # A tool of valgrind, with what it says of the whole run.
 COUNTS = {"callgrind": r"Collected : (\d+)", "memcheck": r"total heap usage: ([\d,]+) allocs"}
-
-
 ON_FILE = words(PUTFH) + handle(FILE)
-# By the stateid of all zeros; the WRITE at 0, to be safe at once.
-WRITE_OF_BLOCK = [ON_FILE, words(WRITE, 0, 0, 0, 0, 0, 0, 2) + opaque(bytes(BLOCK))]
+
+
+def read_of(size: int) -> list[bytes]:
+    """A READ at 0, by the stateid of all zeros."""
+    return [ON_FILE, words(READ, 0, 0, 0, 0, 0, 0, size)]
+
+
+def write_of(size: int) -> list[bytes]:
+    """A WRITE at 0, to be safe at once, by the stateid of all zeros."""
+    return [ON_FILE, words(WRITE, 0, 0, 0, 0, 0, 0, 2) + opaque(bytes(size))]
+
+
 # The operations of each call, and of those before them. The first client of a run has the clientid 1, 1 and the confirm
 # value 1.
-KINDS: dict[str, tuple[list[bytes], list[list[bytes]]]] = {
+Kinds = dict[str, tuple[list[bytes], list[list[bytes]]]]
+KINDS: Kinds = {
     "NULL": ([], []),
     "GETATTR": ([words(PUTROOTFH), lookup(b"a"), words(GETATTR, 1, ATTRIBUTES)], []),
     "RENEW": ([words(RENEW, 1, 1)], [[setclientid(bytes(8), b"c1")], [confirmation(1, 1, 1)]]),
-    "READ 4 KiB": ([ON_FILE, words(READ, 0, 0, 0, 0, 0, 0, BLOCK)], [WRITE_OF_BLOCK]),
-    "WRITE 4 KiB": (WRITE_OF_BLOCK, []),
+    "READ 4 KiB": (read_of(BLOCK), [write_of(BLOCK)]),
+    "WRITE 4 KiB": (write_of(BLOCK), []),
 }
+LONG_KINDS: Kinds = {
+    "READ 64 KiB": (read_of(LONG_BLOCK), [write_of(LONG_BLOCK)]),
+    "WRITE 64 KiB": (write_of(LONG_BLOCK), []),
+}
+# The calls that are counted in the hold. Each has a hold.
+IN_HOLD = ["GETATTR", "OPEN+CLOSE", "LOCK+LOCKU", "READ 4 KiB", "WRITE 4 KiB", *LONG_KINDS]
 
 
 def calls(operations: list[bytes], before: list[list[bytes]], count: int) -> list[bytes]:
@@ -127,7 +149,7 @@ def pairs(program: str, begin: Callable[[Client], None], again: Callable[[Client
 
 
 def records_of(program: str, name: str, count: int) -> list[bytes]:
-    return pairs(program, *PAIRS[name], count) if name in PAIRS else calls(*KINDS[name], count)
+    return pairs(program, *PAIRS[name], count) if name in PAIRS else calls(*(KINDS | LONG_KINDS)[name], count)
 
 
 def once(command: list[str], records: list[bytes]) -> None:
@@ -188,6 +210,20 @@ def count_beside(program: str, names: Sequence[str], beside: str) -> None:
         )
 
 
+def count_in_hold(program: str) -> bool:
+    """Prints the figures, and says whether a bound is missed."""
+
+    def figure(name: str) -> Figure:
+        records = records_of(program, name, UNCOUNTED + COUNTED)
+        holds = counted_in_hold(program, len(records), lambda command: serve(command, records))
+        return figure_of(holds[-COUNTED:])
+
+    with ThreadPoolExecutor(os.cpu_count()) as pool:
+        figures = dict(zip(IN_HOLD, pool.map(figure, IN_HOLD)))
+    print(table_in_hold(figures), end="")
+    return misses(figures)
+
+
 def besides(text: str) -> str:
     try:
         read_besides(text)
@@ -209,23 +245,29 @@ def arguments() -> argparse.Namespace:
         help="what there is before, made in this order [default: nothing]",
     )
     parser.add_argument("--table", action="store_true", help="those of figures.py, as a table in Markdown")
+    parser.add_argument("--in-hold", action="store_true", help="in the hold of calls, as a table in Markdown")
     given = parser.parse_args()
     if given.beside and not given.of:
         parser.error("--beside goes with --of")
+    if given.in_hold and (given.of or given.table):
+        parser.error("--in-hold goes without --of and --table")
     return given
 
 
-def work() -> None:
+def work() -> bool:
     given = arguments()
     if shutil.which("valgrind") is None:
         raise Failure("there is no valgrind: apt-get install valgrind")
     expect_program(given.program)
+    if given.in_hold:
+        return count_in_hold(given.program)
     if given.table:
         print(table(given.program), end="")
     elif given.of:
         count_beside(given.program, given.of, given.beside)
     else:
         count_alone(given.program)
+    return False
 
 
 def main() -> None:
