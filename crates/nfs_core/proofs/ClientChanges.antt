@@ -1,8 +1,10 @@
--- What the rule of an operation may change in the clients' records: SETCLIENTID and SETCLIENTID_CONFIRM alone change them.
-use Rattle.std.proofs.Common.{◌≡◌, inl, inr, ℕ, Bool, true, false, Option, Some, None, Result, Ok, Err, refl, sym, ap, ◌∙◌, subst}
-use Rattle.std.specs.Prelude.{⊤, ◌&&◌, ◌==◌, is_some, not, IfSome, option_and_then, option_map, if◌then◌else◌}
-use Rattle.std.specs.List.{AllByRecursion, list_any}
+-- What the rule of an operation may change in the clients' records: SETCLIENTID and SETCLIENTID_CONFIRM alone change them; and
+-- what OPEN may change.
+use Rattle.std.proofs.Common.{◌≡◌, inl, inr, ℕ, Bool, true, false, Option, Some, None, List, Result, Ok, Err, refl, sym, ap, ◌∙◌, subst}
+use Rattle.std.specs.Prelude.{⊤, ◌&&◌, ◌==◌, is_some, not, IfSome, IsTrue, option_and_then, option_map, if◌then◌else◌}
+use Rattle.std.specs.List.{AllByRecursion}
 use Rattle.std.proofs.lemmas.Bool.{and_parts, cond-false, cond_both, eq-eqb, eqb-true, false_from_ne_true}
+use Rattle.nfs_core.proofs.Openings.{IsOpening, opening_opens}
 use Rattle.nfs_core.proofs.Transferring.{each_read, each_setattr, each_write}
 use Rattle.nfs_core.proofs.SafeLists.{all_always, all_find, found_some}
 use Rattle.nfs_core.proofs.Sound.{equal_clients, same_client_self}
@@ -42,12 +44,10 @@ use Rattle.nfs_owners.specs.declared.clients.client_change.ClientChange.{ClientC
 use Rattle.nfs_owners.specs.declared.clients.client_change.ClientChange.TheVariants as client_changes
 use Rattle.nfs_ranges.specs.declared.range.Range.{Range}
 use Rattle.nfs_rules.specs.Refusing.{◌>>=◌}
-use Rattle.nfs_rules.specs.Sequences.{Answered, GoesOn, IsDecided, IsSequence, IsSequenced, IsUnder, Own, Requester, SequenceStep, before_own, decision_of, requester_of_open, requester_of_stateid}
-use Rattle.nfs_rules.specs.Lending.{lent}
+use Rattle.nfs_rules.specs.Sequences.{Answered, GoesOn, IsDecided, IsSequence, IsSequenced, IsUnder, Own, Requester, SequenceStep, before_own, decision_of, is_open, requester_of_open, requester_of_stateid}
 use Rattle.nfs_rules.specs.Newcomers.{newcomer_of}
 use Rattle.nfs_rules.specs.Stateids.{any_open, as_lock, as_open, confirmed_open, lock_state, verdict}
 use Rattle.nfs_rules.specs.declared.decision.Decision.{Decision}
-use Rattle.nfs_rules.specs.declared.opening.Opening.{Opening}
 use Rattle.nfs_rules.specs.declared.passage.Passage.{Passage}
 use Rattle.nfs_rules.specs.declared.ruling.Ruling.{Ruling}
 use Rattle.nfs_rules.specs.operations.{IsRuled}
@@ -64,11 +64,9 @@ use Rattle.nfs_rules.specs.operations.OpenDowngrade as open_downgrade
 use Rattle.nfs_rules.specs.operations.ReleaseLockowner as release
 use Rattle.nfs_rules.specs.operations.Setclientid as setclientid
 use Rattle.nfs_rules.specs.operations.SetclientidConfirm as confirm
-use Rattle.nfs_share.specs.AllOpens.{DelegationAt, OpenAt, delegations_of, opens_of}
-use Rattle.nfs_share.specs.Delegations.{conflicts}
+use Rattle.nfs_share.specs.AllOpens.{DelegationAt, OpenAt, opens_of}
 use Rattle.nfs_share.specs.Opens.{open_with_number}
 use Rattle.nfs_share.specs.Share.{share_of_numbers}
-use Rattle.nfs_share.specs.declared.delegation.FileUse.TheVariants as uses
 use Rattle.nfs_share.specs.declared.share.Share.{Share}
 use Rattle.nfs_state.specs.Owners.{is_confirmed}
 use Rattle.nfs_state.specs.Places.{has_owner_place, has_state_place}
@@ -76,15 +74,17 @@ use Rattle.nfs_state.specs.State.{State, History, record_has_state}
 use Rattle.nfs_state.specs.declared.change.Change.{Change}
 use Rattle.nfs_state.specs.declared.change.Change.TheVariants as changes
 use Rattle.nfs_state.specs.declared.request.Request.{Request}
+use Rattle.nfs_tree.specs.declared.node.Node.{Node}
 use Rattle.nfs_xdr.specs.declared.op.Op.{Op}
 use Rattle.nfs_xdr.specs.declared.op.Op.TheVariants as ops
 
--- the change leaves the clients' records as they are
-abbrev pub KeepsClients : Change → Type 0
-KeepsClients (changes.Clients change) = ⊥
-KeepsClients (changes.Expires client) = ⊥
-KeepsClients (changes.MarksPath client path) = ⊥
-KeepsClients change = ⊤
+-- the change opens nothing, and leaves the clients' records as they are
+abbrev pub IsOrdinary : Change → Type 0
+IsOrdinary (changes.Clients change) = ⊥
+IsOrdinary (changes.Opens node owner share lent) = ⊥
+IsOrdinary (changes.Expires client) = ⊥
+IsOrdinary (changes.MarksPath client path) = ⊥
+IsOrdinary change = ⊤
 
 -- SETCLIENTID confirms nobody, and a new client is one of this epoch.
 abbrev pub IsArrival : ℕ → ClientChange → Type 0
@@ -110,138 +110,146 @@ IsClientsFor epoch registry (ops.Setclientid args) change = IsArrival epoch chan
 IsClientsFor epoch registry (ops.SetclientidConfirm args) change = IsConfirmation registry args change
 IsClientsFor epoch registry op change = ⊥
 
--- what an operation may change, as far as the clients' records go
+-- what an operation may change, as far as the clients' records go; OPEN alone opens anything
 abbrev pub IsFor : ℕ → Registry → Op → Change → Type 0
 IsFor epoch registry op (changes.Clients change) = IsClientsFor epoch registry op change
+IsFor epoch registry op (changes.Opens node owner share lent) = IsTrue (is_open op)
 IsFor epoch registry op (changes.Expires client) = ⊥
 IsFor epoch registry op (changes.MarksPath client path) = ⊥
 IsFor epoch registry op change = ⊤
 
-keeps_for : (epoch : ℕ) (registry : Registry) (op : Op) (change : Change) → KeepsClients change → IsFor epoch registry op change
+keeps_for : (epoch : ℕ) (registry : Registry) (op : Op) (change : Change) → IsOrdinary change → IsFor epoch registry op change
 keeps_for epoch registry op (changes.Clients change) keeps = absurd keeps
+keeps_for epoch registry op (changes.Opens node owner share lent) keeps = absurd keeps
 keeps_for epoch registry op (changes.Expires client) keeps = absurd keeps
 keeps_for epoch registry op (changes.MarksPath client path) keeps = absurd keeps
 keeps_for epoch registry op change keeps = tt
+
+opening_for : (epoch : ℕ) (registry : Registry) (args : Open) (nodes : List Node) (change : Change) → IsOpening nodes change → IsFor epoch registry (ops.Open args) change
+opening_for epoch registry args nodes changes.Nothing is = tt
+opening_for epoch registry args nodes (changes.Recalls node file_use moment) is = tt
+opening_for epoch registry args nodes (changes.Opens node owner share lent) is = refl
+opening_for epoch registry args nodes change is = absurd is
 
 decided_for : (epoch : ℕ) (registry : Registry) (op : Op) (d e : Decision) → Some d ≡ Some e → IsFor epoch registry op e.effect.change → IsFor epoch registry op d.effect.change
 decided_for epoch registry op d e same h = subst (λ (x : Decision). IsFor epoch registry op x.effect.change) (sym (some_equal d e same)) h
 
 -- a decision that leaves the clients' records as they are
-decided_keeps : (d e : Decision) → Some d ≡ Some e → KeepsClients e.effect.change → KeepsClients d.effect.change
-decided_keeps d e same h = subst (λ (x : Decision). KeepsClients x.effect.change) (sym (some_equal d e same)) h
+decided_keeps : (d e : Decision) → Some d ≡ Some e → IsOrdinary e.effect.change → IsOrdinary d.effect.change
+decided_keeps d e same h = subst (λ (x : Decision). IsOrdinary x.effect.change) (sym (some_equal d e same)) h
 
-ruled_keeps : (r u : Ruling) → Some r ≡ Some u → KeepsClients u.change → KeepsClients r.change
-ruled_keeps r u same h = subst (λ (x : Ruling). KeepsClients x.change) (sym (some_equal r u same)) h
+ruled_keeps : (r u : Ruling) → Some r ≡ Some u → IsOrdinary u.change → IsOrdinary r.change
+ruled_keeps r u same h = subst (λ (x : Ruling). IsOrdinary x.change) (sym (some_equal r u same)) h
 
-equal_keeps : (r u : Ruling) → r ≡ u → KeepsClients u.change → KeepsClients r.change
-equal_keeps r u same h = subst (λ (x : Ruling). KeepsClients x.change) (sym same) h
+equal_keeps : (r u : Ruling) → r ≡ u → IsOrdinary u.change → IsOrdinary r.change
+equal_keeps r u same h = subst (λ (x : Ruling). IsOrdinary x.change) (sym same) h
 
 -- Sequenced operations.
 
--- no own rule of the operation changes the clients' records
-abbrev OwnKeeps : (ℕ → Passage → Option Ruling → Type 0) → Type 0
-OwnKeeps own = (node : ℕ) (passage : Passage) (ruling : Ruling) → own node passage (Some ruling) → KeepsClients ruling.change
-
-sequenced_keeps : (journal : History) (state : State) (requester : Requester) (request : Request) (own : Own) → OwnKeeps (own request) → (d : Decision) → IsSequenced journal state requester own request (Some d) → KeepsClients d.effect.change
-sequenced_keeps journal state requester request own keeps d h = by request.filehandle h
+-- what holds where nothing changes, and of what the own rule of the operation changes
+each_sequenced : (P : Change → Type 0) → P changes.Nothing → (journal : History) (state : State) (requester : Requester) (request : Request) (own : Own)
+    → ((node : ℕ) (passage : Passage) (ruling : Ruling) → own request node passage (Some ruling) → P ruling.change)
+    → (d : Decision) → IsSequenced journal state requester own request (Some d) → P d.effect.change
+each_sequenced P nothing journal state requester request own each d h = by request.filehandle h
   where
-    gives : (node : ℕ) (sequence : SequenceStep) → IsDecided sequence (λ client. newcomer_of journal state client request.op) (own request node) (Some d) → KeepsClients d.effect.change
-    gives node (Answered answer) is = decided_keeps d _ is tt
+    same : (e : Decision) → Some d ≡ Some e → P e.effect.change → P d.effect.change
+    same e is there = subst (λ (x : Decision). P x.effect.change) (sym (some_equal d e is)) there
+
+    gives : (node : ℕ) (sequence : SequenceStep) → IsDecided sequence (λ client. newcomer_of journal state client request.op) (own request node) (Some d) → P d.effect.change
+    gives node (Answered answer) is = same _ is nothing
     gives node (GoesOn passage owner) is = ruled is.0 is.1 is.2
       where
-        ruled : (ruling : Option Ruling) → own request node passage ruling → Some d ≡ option_map (decision_of passage owner (newcomer_of journal state owner.client request.op)) ruling → KeepsClients d.effect.change
-        ruled None rules same = absurd cc
-        ruled (Some ruling) rules same = decided_keeps d (decision_of passage owner (newcomer_of journal state owner.client request.op) ruling) same (keeps node passage ruling rules)
+        ruled : (ruling : Option Ruling) → own request node passage ruling → Some d ≡ option_map (decision_of passage owner (newcomer_of journal state owner.client request.op)) ruling → P d.effect.change
+        ruled None rules is = absurd cc
+        ruled (Some ruling) rules is = same (decision_of passage owner (newcomer_of journal state owner.client request.op) ruling) is (each node passage ruling rules)
 
-    by : (filehandle : Option ℕ) → IsUnder filehandle request.op (λ node. (sequence : SequenceStep) × IsSequence journal state requester request sequence × IsDecided sequence (λ client. newcomer_of journal state client request.op) (own request node) (Some d)) (Some d) → KeepsClients d.effect.change
-    by None is = decided_keeps d _ is tt
+    by : (filehandle : Option ℕ) → IsUnder filehandle request.op (λ node. (sequence : SequenceStep) × IsSequence journal state requester request sequence × IsDecided sequence (λ client. newcomer_of journal state client request.op) (own request node) (Some d)) (Some d) → P d.effect.change
+    by None is = same _ is nothing
     by (Some node) is = gives node is.0 is.2
 
-closing_keeps : (found : Result OpenAt Refusal) → KeepsClients (close.closing found).change
+-- no own rule of the operation opens anything, or changes the clients' records
+sequenced_keeps : (journal : History) (state : State) (requester : Requester) (request : Request) (own : Own)
+    → ((node : ℕ) (passage : Passage) (ruling : Ruling) → own request node passage (Some ruling) → IsOrdinary ruling.change)
+    → (d : Decision) → IsSequenced journal state requester own request (Some d) → IsOrdinary d.effect.change
+sequenced_keeps journal state requester request own keeps d h = each_sequenced IsOrdinary tt journal state requester request own keeps d h
+
+closing_keeps : (found : Result OpenAt Refusal) → IsOrdinary (close.closing found).change
 closing_keeps (Err refusal) = tt
 closing_keeps (Ok at) = tt
 
-confirmation_keeps : (state : State) (found : Result OpenAt Refusal) → KeepsClients (open_confirm.confirmation state found).change
+confirmation_keeps : (state : State) (found : Result OpenAt Refusal) → IsOrdinary (open_confirm.confirmation state found).change
 confirmation_keeps state (Err refusal) = tt
 confirmation_keeps state (Ok at) =
-    cond_both (is_confirmed (open_owner at.state.owner) state.owners) (open_confirm.refusal_of refusals.BadStateId) _ (λ (r : Ruling). KeepsClients r.change) (λ _. tt) (λ _. tt)
+    cond_both (is_confirmed (open_owner at.state.owner) state.owners) (open_confirm.refusal_of refusals.BadStateId) _ (λ (r : Ruling). IsOrdinary r.change) (λ _. tt) (λ _. tt)
 
-downgrade_keeps : (at : OpenAt) (share : Option Share) (ruling : Ruling) → open_downgrade.IsDowngrade at share ruling → KeepsClients ruling.change
+downgrade_keeps : (at : OpenAt) (share : Option Share) (ruling : Ruling) → open_downgrade.IsDowngrade at share ruling → IsOrdinary ruling.change
 downgrade_keeps at None ruling is = equal_keeps ruling _ is tt
 downgrade_keeps at (Some share) ruling (inl is) = equal_keeps ruling _ is.1 tt
 downgrade_keeps at (Some share) ruling (inr is) = equal_keeps ruling _ is.1 tt
 
-found_keeps : (found : Result OpenAt Refusal) (args : OpenDowngrade) (ruling : Ruling) → open_downgrade.IsFound found args ruling → KeepsClients ruling.change
+found_keeps : (found : Result OpenAt Refusal) (args : OpenDowngrade) (ruling : Ruling) → open_downgrade.IsFound found args ruling → IsOrdinary ruling.change
 found_keeps (Err refusal) args ruling is = equal_keeps ruling _ is tt
 found_keeps (Ok at) args ruling is = downgrade_keeps at (share_of_numbers args.access args.deny) ruling is
 
--- an OPEN is granted, or what is in its way is called back
-
-granted_keeps : (journal : History) (state : State) (passage : Passage) (args : Open) (o : Opening) (ruling : Ruling) → Some ruling ≡ opening.ruling_of journal state passage args (Ok o) → KeepsClients ruling.change
-granted_keeps journal state passage args o ruling is =
-    let kind = lent journal state passage args o in
-    equal_keeps ruling _ (placed (opening.has_places state passage args.owner o.node kind) _ ruling is).1 tt
-
-opening_keeps : (journal : History) (state : State) (passage : Passage) (moment : ℕ) (args : Open) (found : Result Opening Refusal) (ruling : Ruling)
-    → Some ruling ≡ opening.ruling_of journal state passage args (opening.opening_or_ruling state moment args.owner.client found) → KeepsClients ruling.change
-opening_keeps journal state passage moment args (Err refusal) ruling is = ruled_keeps ruling _ is tt
-opening_keeps journal state passage moment args (Ok o) ruling is =
-    let client = args.owner.client in
-    let P : Result Opening Ruling → Type 0 = λ r. Some ruling ≡ opening.ruling_of journal state passage args r → KeepsClients ruling.change in
-    cond_both (list_any (conflicts (uses.Open client o.share)) (delegations_of o.node state.delegations)) (Err (opening.delayed moment client o)) (Ok o) P
-    (λ _ same. ruled_keeps ruling _ same tt) (λ _ same. granted_keeps journal state passage args o ruling same) is
+-- what an OPEN may change
+pub open_opens : (journal : History) (state : State) (args : Open) (request : Request) (d : Decision) → IsRuled (ops.Open args) journal state request (Some d) → IsOpening journal.nodes d.effect.change
+open_opens journal state args request d is =
+    each_sequenced (IsOpening journal.nodes) tt journal state (requester_of_open state args.owner args.seqid) request (opening.own journal state args)
+    (λ node passage ruling h.
+    let seen = before_own passage args.owner state in
+    opening_opens journal seen passage node request.moment args (opening.opening journal seen node args) ruling refl h) d is
 
 -- LOCK and LOCKU
 
-granting_keeps : (state : State) (locking : Locking) (range : Range) (found : Option ByteLocks) (ruling : Ruling) → Some ruling ≡ lock.grant state locking range found → KeepsClients ruling.change
+granting_keeps : (state : State) (locking : Locking) (range : Range) (found : Option ByteLocks) (ruling : Ruling) → Some ruling ≡ lock.grant state locking range found → IsOrdinary ruling.change
 granting_keeps state locking range None ruling is =
     equal_keeps ruling _ (placed (has_owner_place (lock_owner locking.owner) state && has_state_place state) _ ruling is).1 tt
 granting_keeps state locking range (Some l) ruling is =
     equal_keeps ruling _ (unless (is_full_for l.number (lock_of_bytes locking.mode range) (locks_of locking.node state.locks)) _ ruling is).1 tt
 
-reporting_keeps : (state : State) (locking : Locking) (range : Range) (report : Option Report) (ruling : Ruling) → Some ruling ≡ lock.unless_denied state locking range report → KeepsClients ruling.change
+reporting_keeps : (state : State) (locking : Locking) (range : Range) (report : Option Report) (ruling : Ruling) → Some ruling ≡ lock.unless_denied state locking range report → IsOrdinary ruling.change
 reporting_keeps state locking range None ruling is = granting_keeps state locking range locking.state ruling is
 reporting_keeps state locking range (Some report) ruling is = ruled_keeps ruling _ is tt
 
-allowing_keeps : (b : Bool) (state : State) (locking : Locking) (range : Range) (ruling : Ruling) → lock.IsAllowed b state locking range (Some ruling) → KeepsClients ruling.change
+allowing_keeps : (b : Bool) (state : State) (locking : Locking) (range : Range) (ruling : Ruling) → lock.IsAllowed b state locking range (Some ruling) → IsOrdinary ruling.change
 allowing_keeps false state locking range ruling is = ruled_keeps ruling _ is tt
 allowing_keeps true state locking range ruling is = reporting_keeps state locking range is.0 ruling is.2
 
-ranging_keeps : (state : State) (locking : Locking) (range : Option Range) (ruling : Ruling) → lock.IsOfRange state locking range (Some ruling) → KeepsClients ruling.change
+ranging_keeps : (state : State) (locking : Locking) (range : Option Range) (ruling : Ruling) → lock.IsOfRange state locking range (Some ruling) → IsOrdinary ruling.change
 ranging_keeps state locking None ruling is = ruled_keeps ruling _ is tt
 ranging_keeps state locking (Some range) ruling is =
     allowing_keeps (lock.allows locking.mode (open_with_number locking.open_number (opens_of locking.node state.opens))) state locking range ruling is
 
-locking_keeps : (state : State) (args : Lock) (found : Result Locking Refusal) (ruling : Ruling) → lock.IsLock state args found (Some ruling) → KeepsClients ruling.change
+locking_keeps : (state : State) (args : Lock) (found : Result Locking Refusal) (ruling : Ruling) → lock.IsLock state args found (Some ruling) → IsOrdinary ruling.change
 locking_keeps state args (Err refusal) ruling is = ruled_keeps ruling _ is tt
 locking_keeps state args (Ok locking) ruling is = ranging_keeps state locking is.0 ruling is.2
 
-unlocking_keeps : (state : State) (at : LockAt) (range : Option Range) (ruling : Ruling) → Some ruling ≡ locku.unlocking state at range → KeepsClients ruling.change
+unlocking_keeps : (state : State) (at : LockAt) (range : Option Range) (ruling : Ruling) → Some ruling ≡ locku.unlocking state at range → IsOrdinary ruling.change
 unlocking_keeps state at None ruling is = ruled_keeps ruling _ is tt
 unlocking_keeps state at (Some range) ruling is =
     equal_keeps ruling _ (unless (is_full_for at.state.number (unlock_of_bytes range) (locks_of at.node state.locks)) _ ruling is).1 tt
 
-unlock_keeps : (state : State) (args : Locku) (found : Result LockAt Refusal) (ruling : Ruling) → locku.IsUnlock state args found (Some ruling) → KeepsClients ruling.change
+unlock_keeps : (state : State) (args : Locku) (found : Result LockAt Refusal) (ruling : Ruling) → locku.IsUnlock state args found (Some ruling) → IsOrdinary ruling.change
 unlock_keeps state args (Err refusal) ruling is = ruled_keeps ruling _ is tt
 unlock_keeps state args (Ok at) ruling is = unlocking_keeps state at is.0 ruling is.2
 
 -- LOCKT, RELEASE_LOCKOWNER and DELEGRETURN
 
-testing_keeps : (state : State) (args : Lockt) (node : ℕ) (range : Option Range) (d : Decision) → lockt.IsOfRange state args node range (Some d) → KeepsClients d.effect.change
+testing_keeps : (state : State) (args : Lockt) (node : ℕ) (range : Option Range) (d : Decision) → lockt.IsOfRange state args node range (Some d) → IsOrdinary d.effect.change
 testing_keeps state args node None d is = decided_keeps d _ is tt
 testing_keeps state args node (Some range) d is = decided_keeps d _ is.2 tt
 
-test_keeps : (state : State) (args : Lockt) (found : Result ℕ Refusal) (d : Decision) → lockt.IsTest state args found (Some d) → KeepsClients d.effect.change
+test_keeps : (state : State) (args : Lockt) (found : Result ℕ Refusal) (d : Decision) → lockt.IsTest state args found (Some d) → IsOrdinary d.effect.change
 test_keeps state args (Err refusal) d is = decided_keeps d _ is tt
 test_keeps state args (Ok node) d is = testing_keeps state args node is.0 d is.2
 
-release_keeps : (state : State) (args : ReleaseLockowner) → KeepsClients (release.decision_of state args).effect.change
+release_keeps : (state : State) (args : ReleaseLockowner) → IsOrdinary (release.decision_of state args).effect.change
 release_keeps state args =
-    let P : Decision → Type 0 = λ d. KeepsClients d.effect.change in
+    let P : Decision → Type 0 = λ d. IsOrdinary d.effect.change in
     cond_both (not (is_some (record_of args.owner.client state.clients))) (release.refusal_of refusals.StaleClientId) _ P (λ _. tt)
     (λ _. cond_both (holds args.owner state.locks) (release.refusal_of refusals.LocksHeld) _ P (λ _. tt) (λ _. tt))
 
-returning_keeps : (found : Result DelegationAt Refusal) → KeepsClients (delegreturn.returning found).effect.change
+returning_keeps : (found : Result DelegationAt Refusal) → IsOrdinary (delegreturn.returning found).effect.change
 returning_keeps (Err refusal) = tt
 returning_keeps (Ok at) = tt
 
@@ -340,11 +348,7 @@ ruled_for journal state (ops.SetclientidConfirm args) request d singles is =
     decided_for journal.epoch state.clients (ops.SetclientidConfirm args) d _ is
     (confirms_for state.clients args named has_state request.principal path singles refl)
 ruled_for journal state (ops.Open args) request d singles is =
-    keeps_for journal.epoch state.clients (ops.Open args) d.effect.change
-    (sequenced_keeps journal state (requester_of_open state args.owner args.seqid) request (opening.own journal state args)
-    (λ node passage ruling h.
-    let seen = before_own passage args.owner state in
-    opening_keeps journal seen passage request.moment args (opening.opening journal seen node args) ruling h) d is)
+    opening_for journal.epoch state.clients args journal.nodes d.effect.change (open_opens journal state args request d is)
 ruled_for journal state (ops.OpenConfirm args) request d singles is =
     keeps_for journal.epoch state.clients (ops.OpenConfirm args) d.effect.change
     (sequenced_keeps journal state (requester_of_stateid journal state args.stateid args.seqid) request (open_confirm.own journal state args)

@@ -1,6 +1,7 @@
 pub mod Choosing
 pub mod ClientChanges
 pub mod DueDelegations
+pub mod EachOpen
 pub mod NextEntries
 pub mod FileBytes
 pub mod FileChanges
@@ -11,6 +12,7 @@ pub mod Journals
 pub mod LiveClients
 pub mod LiveLaws
 pub mod LiveLists
+pub mod Openings
 pub mod RecallsLeft
 pub mod SafeDistinct
 pub mod SafeFiles
@@ -18,9 +20,11 @@ pub mod SafeLists
 pub mod SafeOrder
 pub mod SafeSums
 pub mod Safety
+pub mod ShareAccess
 pub mod Slots
 pub mod Sound
 pub mod SoundClients
+pub mod SoundConfirms
 pub mod SoundDelegations
 pub mod SoundKept
 pub mod SoundLimits
@@ -29,8 +33,11 @@ pub mod SoundLocks
 pub mod SoundNumbers
 pub mod SoundOrder
 pub mod SoundOwners
+pub mod SoundPlaces
 pub mod SoundRules
+pub mod SoundSeqids
 pub mod SoundSequences
+pub mod SoundShares
 pub mod SoundSteps
 pub mod SoundTargets
 pub mod Storing

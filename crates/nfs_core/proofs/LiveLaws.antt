@@ -5,6 +5,7 @@ use Rattle.nfs_core.proofs.ClientChanges.{IsFor, ruled_for}
 use Rattle.nfs_core.proofs.LiveClients.{HasEpoch, HaveEpoch, epoch_changed, epoch_marked, follows_changed, follows_ended, follows_marked, follows_same, live_number, numbered, told_by_number}
 use Rattle.nfs_core.proofs.Safety.{Holds, Laws, allowed_ready, holds_empty, holds_leads, holds_step}
 use Rattle.nfs_core.proofs.SoundClients.{HasSingles, each_left, singles_owned}
+use Rattle.nfs_core.proofs.SoundConfirms.{owned_clients}
 use Rattle.nfs_core.proofs.SoundSequences.{never}
 use Rattle.nfs_core.proofs.SoundSteps.{IsChangeReady, IsEffectReady}
 use Rattle.nfs_core.specs.Lawful.{Lawful, Leads}
@@ -32,15 +33,8 @@ use Rattle.nfs_state.specs.declared.entry.Forget.{Forget}
 use Rattle.nfs_state.specs.declared.entry.Path.{Path}
 use Rattle.nfs_state.specs.declared.entry.Revoke.{Revoke}
 use Rattle.nfs_rules.specs.entries.Path.{mark_of}
-use Rattle.nfs_state.specs.declared.owner_change.OwnerChange.{OwnerChange}
-use Rattle.nfs_state.specs.declared.owner_change.OwnerChange.TheVariants as owner_changes
 use Rattle.nfs_xdr.specs.declared.op.Op.{Op}
 use Rattle.nfs_xdr.specs.declared.op.Op.TheVariants as ops
-
--- what an entry means for an owner leaves the clients' records as they are
-owned_clients : (change : OwnerChange) (number : ℕ) (old : State) → (with_owner_change change number old).clients ≡ old.clients
-owned_clients owner_changes.Nothing number old = refl
-owned_clients change number old = refl
 
 live_by_change : (change : Change) (old : State) → HasSingles old.clients → HasSingles (with_state_change change old).clients → IsChangeReady change old
     → LiveFollows (live_change_of change) old.clients (with_state_change change old).clients

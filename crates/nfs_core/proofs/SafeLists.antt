@@ -65,7 +65,7 @@ all_none p (y ∷ xs) none =
     ]
 
 -- what is found first, or else behind the first element
-found_cases : {X : Type 0} (p : X → Bool) (x : X) (xs : List X) → is_some (find p (x ∷ xs)) ≡ true → (p x ≡ true) ⊎ (is_some (find p xs) ≡ true)
+pub found_cases : {X : Type 0} (p : X → Bool) (x : X) (xs : List X) → is_some (find p (x ∷ xs)) ≡ true → (p x ≡ true) ⊎ (is_some (find p xs) ≡ true)
 found_cases p x xs found = elim (cases_Bool (p x)) [
   | inl passes ↦ inl passes
   | inr fails ↦ inr (sym (ap is_some (cond-false (p x) (Some x) (find p xs) fails)) ∙ found)

@@ -6,7 +6,7 @@ use Rattle.nfs_state.specs.declared.effect.Effect.{Effect}
 use Rattle.nfs_state.specs.declared.entry.Entry.{Entry}
 use Rattle.nfs_state.specs.declared.entry.Entry.TheVariants as entries
 use Rattle.nfs_core.specs.Lawful.{Leads, Lawful}
-use Rattle.nfs_core.specs.Safe.{HasKnownLocker, HasKnownOwner, HasLiveClient, HasLiveLocker, IsSafe, KeepsLimits, StandsUnderOpen, bears}
+use Rattle.nfs_core.specs.Safe.{EachOpen, HasKnownLocker, HasKnownOwner, HasLiveClient, HasLiveLocker, HasShares, HaveSeqids, IsSafe, KeepsLimits, StandsUnderOpen, bears}
 use Rattle.nfs_rules.specs.entries.Expire.{client_of}
 use Rattle.nfs_state.specs.Changes.{after, with_owner_change}
 use Rattle.nfs_state.specs.State.{State, History, empty_server}
@@ -17,14 +17,17 @@ use Rattle.nfs_core.proofs.SafeLists.{all_replicate, all_weaken, any_found}
 use Rattle.nfs_core.proofs.Sound.{AreNumbered, HasSoundLocks, IsKnownIn, IsLockerKnownIn, IsSound, StandsUnder, OpensStay}
 use Rattle.nfs_core.proofs.IdleOwners.{forgets_idle}
 use Rattle.nfs_core.proofs.SoundClients.{HasSingles, alone, are_records, one_of_client, singles_after, singles_empty, singles_owned}
+use Rattle.nfs_core.proofs.SoundConfirms.{HasConfirms, IsChangeValued, allowed_valued, confirms_after, confirms_empty, have_confirm_values}
 use Rattle.nfs_core.proofs.SoundDelegations.{HasSoundDelegations, StayApart, StaySingle, delegations_changed, delegations_empty, delegations_owned}
 use Rattle.nfs_core.proofs.SoundLimits.{FirstRuns, limits_changed, limits_empty, limits_owned}
 use Rattle.nfs_core.proofs.SoundLocks.{LocksStay}
-use Rattle.nfs_core.proofs.SoundNumbers.{HasNumbers, numbered_after, numbered_empty, numbers_differ, numbers_given}
+use Rattle.nfs_core.proofs.SoundNumbers.{HasNumbers, numbered_after, numbered_empty, numbered_owned, numbers_differ, numbers_given}
 use Rattle.nfs_core.proofs.SoundOrder.{HasOrder, order_after, order_empty}
 use Rattle.nfs_core.proofs.SoundOwners.{HasOnes, ones_changed, ones_empty, ones_owned}
 use Rattle.nfs_core.proofs.SoundRules.{ruled_ready}
+use Rattle.nfs_core.proofs.SoundSeqids.{seqids_changed, seqids_empty, seqids_owned}
 use Rattle.nfs_core.proofs.SoundSequences.{live_owner}
+use Rattle.nfs_core.proofs.SoundShares.{shares_changed, shares_empty, shares_owned}
 use Rattle.nfs_core.proofs.SoundSteps.{IsEffectReady, sound_after, sound_owner}
 use Rattle.nfs_locks.specs.AllLocks.{locks_of}
 use Rattle.nfs_locks.specs.Laws.{AllLocksAreCompatible}
@@ -78,7 +81,10 @@ pub record Holds (state : State) : Type 0 where
   pub delegations : HasSoundDelegations state
   pub order : HasOrder state
   pub singles : HasSingles state.clients
+  pub confirms : HasConfirms state.clients
   pub within : KeepsLimits state
+  pub seqids : HaveSeqids state
+  pub shares : EachOpen HasShares state
 
 pub holds_empty : (journal : History) → Holds (empty_server journal.nodes)
 holds_empty journal = record {
@@ -88,7 +94,10 @@ holds_empty journal = record {
   delegations = delegations_empty journal.nodes;
   order = order_empty journal.nodes;
   singles = singles_empty;
+  confirms = confirms_empty;
   within = limits_empty journal.nodes;
+  seqids = seqids_empty journal.nodes;
+  shares = shares_empty journal.nodes;
 }
 
 -- The laws of the crates below: of opens and of lock states that stay compatible, of delegations that stay apart from opens
@@ -100,8 +109,8 @@ pub record Laws : Type 0 where
   pub single : StaySingle
   pub runs : FirstRuns
 
-holds_after : Laws → (number : ℕ) (effect : Effect) (old : State) → IsEffectReady number old effect → Holds old → Holds (after number effect old)
-holds_after laws number effect old ready holds =
+holds_after : Laws → (number : ℕ) (effect : Effect) (old : State) → IsEffectReady number old effect → IsChangeValued effect.change old.clients → Holds old → Holds (after number effect old)
+holds_after laws number effect old ready valued holds =
     let mid = with_owner_change effect.owner number old in
     record {
       sound = sound_after laws.opens laws.locks number effect old ready holds.sound;
@@ -111,13 +120,18 @@ holds_after laws number effect old ready holds =
           (sound_owner laws.opens effect.owner number old ready.0 holds.sound) (delegations_owned laws.apart effect.owner number old holds.delegations);
       order = order_after number effect old holds.numbered holds.order;
       singles = singles_after effect.change mid ready.1 (singles_owned effect.owner number old holds.singles);
+      confirms = confirms_after number effect old valued holds.confirms;
       within = limits_changed laws.runs effect.change mid ready.1 (limits_owned effect.owner number old ready.0 holds.within);
+      seqids = seqids_changed effect.change mid (seqids_owned effect.owner number old holds.seqids);
+      shares = shares_changed effect.change mid ready.1 (numbered_owned effect.owner number old holds.numbered)
+          (shares_owned effect.owner number old holds.shares);
     }
 
 pub holds_step : Laws → (journal : History) (old : State) (entry : Entry) (new : State) → Step journal old entry new → Holds old → Holds new
 holds_step laws journal old entry new step holds =
     subst Holds (sym step.state)
-    (holds_after laws (length journal.entries) step.effect old (allowed_ready journal old entry step.effect holds.sound holds.singles step.allowed) holds)
+    (holds_after laws (length journal.entries) step.effect old (allowed_ready journal old entry step.effect holds.sound holds.singles step.allowed)
+    (allowed_valued journal old entry step.effect holds.singles step.allowed) holds)
 
 pub holds_leads : Laws → (journal : History) (old new : State) (entries : List Entry) → Leads journal old entries new → Holds old → Holds new
 holds_leads laws journal old new [] leads holds = subst Holds (sym leads) holds
@@ -143,6 +157,8 @@ safe state holds =
           (λ l h. any_found (bears state.owners l) (opens_of node state.opens) h) (locks_of node state.locks) (sound.locks.under node);
       numbers_differ = numbers_differ state holds.numbered;
       numbers_given = numbers_given state holds.numbered;
+      seqids = holds.seqids;
+      shares = holds.shares;
       one_open = holds.ones.opens;
       one_lock = holds.ones.locks;
       apart = holds.delegations.apart;
@@ -151,6 +167,7 @@ safe state holds =
       holders_live = holds.delegations.live;
       records = are_records state.clients holds.singles;
       one_of_client = one_of_client state.clients holds.singles;
+      confirm_values = have_confirm_values state.clients holds.confirms;
       within = holds.within;
     }
 

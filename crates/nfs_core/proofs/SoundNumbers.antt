@@ -298,6 +298,11 @@ pub numbers_differ : (state : State) → HasNumbers state → IsDistinct (λ a b
 unfolding HasNumbers
 numbers_differ state h = distinct_from_once (numbers_of state) (λ n. omega (arith, weight_of_numbers (is_one n) state, (h n).once))
 
+-- a number is that of one state at most
+pub once_there : (number : ℕ) (state : State) → HasNumbers state → weight (is_one number) state ≤ 1
+unfolding HasNumbers
+once_there number state h = (h number).once
+
 pub numbers_given : (state : State) → HasNumbers state → AllByRecursion (WasGiven state.last_state) (numbers_of state)
 unfolding HasNumbers
 numbers_given state h =

@@ -31,23 +31,26 @@ use Rattle.nfs_state.specs.Owners.{KnownOwner, has_name, is_confirmed, without_o
 use Rattle.nfs_rules.specs.Sequences.{Owner, Refused, before_own, decision_of, is_ok_status, is_open, owner_change_of, requester_of_open, requester_of_stateid}
 use Rattle.nfs_state.specs.Changes.{change_alone, with_owner_change}
 use Rattle.nfs_rules.specs.Refusing.{◌>>=◌}
-use Rattle.nfs_rules.specs.Stateids.{any_open, as_open, confirmed_open, verdict}
+use Rattle.nfs_rules.specs.Stateids.{any_open, as_open, confirmed_open, target_of, verdict}
 use Rattle.nfs_state.specs.State.{State, History, record_has_state}
 use Rattle.nfs_core.proofs.Choosing.{chosen_next}
+use Rattle.nfs_core.proofs.ShareAccess.{valid_access}
 use Rattle.nfs_core.proofs.Transferring.{each_read, each_setattr, each_write}
 use Rattle.nfs_core.proofs.SafeLists.{all_always, all_find, all_none, all_weaken, found_last, found_some}
 use Rattle.nfs_core.proofs.Sound.{AreSingle, HasSameClient, HasRecord, IsOnlyOf, IsSound, is_live_in, is_record_of, same_client_self, same_name_self}
 use Rattle.nfs_core.proofs.SoundClients.{HasSingles}
 use Rattle.nfs_core.proofs.SoundLocking.{lock_ready, lock_sequenced, locku_ready, stateid_of}
-use Rattle.nfs_core.proofs.SoundSequences.{IsFit, IsOf, IsOwnReady, as_decided, continues_ready, continuing, never, place_for_nobody, quiet_ready, sequenced_ready, some_equal}
+use Rattle.nfs_core.specs.Safe.{HasAccess}
+use Rattle.nfs_core.proofs.SoundSequences.{IsFit, IsOf, IsOwnReady, any_owners_ready, as_decided, continues_ready, continuing, never, place_for_nobody, quiet_ready, sequenced_ready, some_equal}
 use Rattle.nfs_core.proofs.SoundSteps.{CanBeGiven, CanLend, IsChangeReady, IsClientReady, IsOwnerReady, IsReady, MayOpen}
-use Rattle.nfs_core.proofs.SoundTargets.{bound, ok_equal, unrefused}
+use Rattle.nfs_core.proofs.SoundTargets.{bound, named_open, ok_equal, open_found, unrefused}
 use Rattle.nfs_forms.specs.ClientId.{is_same_client}
 use Rattle.nfs_forms.specs.declared.client_id.ClientId.{ClientId}
 use Rattle.nfs_forms.specs.declared.answer.Answer.TheVariants.{Done}
 use Rattle.nfs_xdr.specs.declared.op_result.OpResult.TheVariants as results
 use Rattle.nfs_forms.specs.Principal.{is_same_principal}
 use Rattle.nfs_forms.specs.declared.open_owner.OpenOwner.{OpenOwner}
+use Rattle.nfs_forms.specs.declared.stateid.Stateid.{Stateid}
 use Rattle.nfs_operations.specs.declared.lockt.Lockt.{Lockt}
 use Rattle.nfs_operations.specs.declared.release_lockowner.ReleaseLockowner.{ReleaseLockowner}
 use Rattle.nfs_operations.specs.declared.setclientid.Setclientid.{Setclientid}
@@ -77,7 +80,7 @@ use Rattle.nfs_share.specs.AllOpens.{DelegationAt, OpenAt, delegations_of, opens
 use Rattle.nfs_share.specs.Delegations.{can_delegate, has_conflict}
 use Rattle.nfs_share.specs.declared.delegation.DelegationKind.{DelegationKind}
 use Rattle.nfs_share.specs.declared.delegation.FileUse.TheVariants as uses
-use Rattle.nfs_share.specs.Opens.{is_refused}
+use Rattle.nfs_share.specs.Opens.{is_refused, open_named_by}
 use Rattle.nfs_share.specs.Share.{share_of_numbers}
 use Rattle.nfs_share.specs.declared.share.Share.{Share}
 use Rattle.nfs_tree.specs.Tree.{resolution}
@@ -194,7 +197,7 @@ confirms registry (InPlaceOf old r) path single fits =
     let holds = held registry r.id old single fits.0 in
     (holds.0, holds.1, fits.1, fits.2)
 
--- OPEN_CONFIRM, OPEN_DOWNGRADE and CLOSE: what they change is always ready.
+-- OPEN_CONFIRM and CLOSE: what they change is always ready.
 
 same_ruling : (r u : Ruling) → r ≡ u → (s : State) → IsChangeReady u.change s → IsChangeReady r.change s
 same_ruling r u same s ready = subst (λ (x : Ruling). IsChangeReady x.change s) (sym same) ready
@@ -211,32 +214,43 @@ confirmation_quiet state (Err refusal) s = tt
 confirmation_quiet state (Ok at) s =
     cond_both (is_confirmed (open_owner at.state.owner) state.owners) (open_confirm.refusal_of refusals.BadStateId) _ (λ (r : Ruling). IsChangeReady r.change s) (λ _. tt) (λ _. tt)
 
-downgrade_quiet : (at : OpenAt) (share : Option Share) (ruling : Ruling) → open_downgrade.IsDowngrade at share ruling → (s : State) → IsChangeReady ruling.change s
-downgrade_quiet at None ruling is s = same_ruling ruling _ is s tt
-downgrade_quiet at (Some share) ruling (inl is) s = same_ruling ruling _ is.1 s tt
-downgrade_quiet at (Some share) ruling (inr is) s = same_ruling ruling _ is.1 s tt
+-- OPEN_DOWNGRADE: the open that its stateid names may be downgraded.
 
-found_quiet : (found : Result OpenAt Refusal) (args : OpenDowngrade) (ruling : Ruling) → open_downgrade.IsFound found args ruling → (s : State) → IsChangeReady ruling.change s
-found_quiet (Err refusal) args ruling is s = same_ruling ruling _ is s tt
-found_quiet (Ok at) args ruling is s = downgrade_quiet at (share_of_numbers args.access args.deny) ruling is s
+downgrade_ready : (state : State) (id : Stateid) (at : OpenAt) (share : Option Share) (ruling : Ruling) → open_named_by id (opens_of at.node state.opens) ≡ Some at.state → open_downgrade.IsDowngrade at share ruling
+    → (owners : List KnownOwner) → IsChangeReady ruling.change (record state { owners = owners })
+downgrade_ready state id at None ruling named is owners = same_ruling ruling _ is (record state { owners = owners }) tt
+downgrade_ready state id at (Some share) ruling named (inl is) owners =
+    same_ruling ruling _ is.1 (record state { owners = owners }) (id, at.state, named, refl, is.0)
+downgrade_ready state id at (Some share) ruling named (inr is) owners = same_ruling ruling _ is.1 (record state { owners = owners }) tt
+
+found_ready : (state : State) (found : Result OpenAt Refusal) (args : OpenDowngrade) (ruling : Ruling) → ((at : OpenAt) → found ≡ Ok at → open_named_by args.stateid (opens_of at.node state.opens) ≡ Some at.state)
+    → open_downgrade.IsFound found args ruling → (owners : List KnownOwner) → IsChangeReady ruling.change (record state { owners = owners })
+found_ready state (Err refusal) args ruling named is owners = same_ruling ruling _ is (record state { owners = owners }) tt
+found_ready state (Ok at) args ruling named is owners =
+    downgrade_ready state args.stateid at (share_of_numbers args.access args.deny) ruling (named at refl) is owners
 
 -- OPEN
 
+-- the share isn't refused, and has access
+abbrev IsAllowed : State → OpenOwner → Opening → Type 0
+IsAllowed state owner o = (is_refused owner o.share (opens_of o.node state.opens) ≡ false) × HasAccess o.share
+
 -- What may be opened isn't refused.
-allowed : (state : State) (owner : OpenOwner) (share : Share) (node : ℕ) (o : Opening) → opening.unless_denied state owner share node ≡ Ok o → is_refused owner o.share (opens_of o.node state.opens) ≡ false
-allowed state owner share node o is =
+allowed : (state : State) (owner : OpenOwner) (share : Share) (node : ℕ) (o : Opening) → HasAccess share → opening.unless_denied state owner share node ≡ Ok o → IsAllowed state owner o
+allowed state owner share node o access is =
     let new : Opening = record { node = node; share = share } in
     let free = unrefused (is_refused owner share (opens_of node state.opens)) refusals.ShareDenied (Ok new) o is in
-    subst (λ (x : Opening). is_refused owner x.share (opens_of x.node state.opens) ≡ false) (ok_equal new o free.1) free.0
+    subst (IsAllowed state owner) (ok_equal new o free.1) (free.0, access)
 
-opening_allowed : (journal : History) (state : State) (node : ℕ) (args : Open) (o : Opening) → opening.opening journal state node args ≡ Ok o → is_refused args.owner o.share (opens_of o.node state.opens) ≡ false
+opening_allowed : (journal : History) (state : State) (node : ℕ) (args : Open) (o : Opening) → opening.opening journal state node args ≡ Ok o → IsAllowed state args.owner o
 opening_allowed journal state node args o is =
-    let P : Type 0 = is_refused args.owner o.share (opens_of o.node state.opens) ≡ false in
+    let P : Type 0 = IsAllowed state args.owner o in
     bound P (opening.name_of args.claim) _ o (λ name _.
-    bound P (opening.share_or_inval (share_of_numbers args.access args.deny)) _ o (λ share _.
+    bound P (opening.share_or_inval (share_of_numbers args.access args.deny)) _ o (λ share valid.
     bound P (opening.found_by args.how (resolution journal.nodes node name)) _ o (λ found _.
     bound P (opening.file_at journal args.how found) _ o (λ file _.
-    bound P (opening.claimed journal state args.owner.client args.claim file) _ o (λ at _. allowed state args.owner share at o))))) is
+    bound P (opening.claimed journal state args.owner.client args.claim file) _ o (λ at _.
+    allowed state args.owner share at o (valid_access args.access args.deny (share_of_numbers args.access args.deny) share refl valid)))))) is
 
 -- The owner whose client is live may become known where there is a place, and one that isn't confirmed may be dropped.
 owner_ready : (journal : History) (state : State) (op : Op) (owner : OpenOwner) (passage : Passage) (status : Status) → IsSound state → is_live_in state.clients.confirmed owner.client ≡ true
@@ -294,7 +308,7 @@ may_lend state passage args node (Some kind) =
 grant_ready : (number : ℕ) (journal : History) (state : State) (op : Op) (args : Open) (passage : Passage) (o : Opening) (ruling : Ruling)
     → IsSound state → is_live_in state.clients.confirmed args.owner.client ≡ true → IsFit state op (open_owner args.owner) passage
     → newcomer_of journal state args.owner.client op ≡ Nobody
-    → is_refused args.owner o.share (opens_of o.node (before_own passage args.owner state).opens) ≡ false
+    → IsAllowed (before_own passage args.owner state) args.owner o
     → has_conflict (uses.Open args.owner.client o.share) (delegations_of o.node (before_own passage args.owner state).delegations) ≡ false
     → Some ruling ≡ opening.ruling_of journal (before_own passage args.owner state) passage args (Ok o)
     → IsReady number state (decision_of passage (open_owner args.owner) (newcomer_of journal state args.owner.client op) ruling)
@@ -315,7 +329,7 @@ grant_ready number journal state op args passage o ruling sound live fit nobody 
           (sym (some_equal ruling given (rules ∙ cond-true places (Some given) None has))) (
             owner_ready journal state op args.owner passage (status_of given.answer) sound live fit nobody (λ _. first.0),
             opens_ready number state op args.owner passage newcomer (status_of given.answer) o.node o.share kind refl fit
-                (free, first.1, apart, both.1, may_lend seen passage args o.node (kind_for journal.policy.delegations o.share)),
+                (free.0, first.1, apart, both.1, may_lend seen passage args o.node (kind_for journal.policy.delegations o.share), free.1),
           )
       | inr full ↦
           let none : Some ruling ≡ None = rules ∙ cond-false places (Some given) None full in
@@ -434,8 +448,11 @@ ruled_ready number journal state (ops.OpenConfirm args) request d same sound sin
     (λ node passage ruling h. as_ruled ruling _ h (confirmation_quiet state (verdict (any_open node) journal.epoch state args.stateid >>= as_open)))) d is
 ruled_ready number journal state (ops.OpenDowngrade args) request d same sound singles is =
     sequenced_ready number journal state (requester_of_stateid journal state args.stateid args.seqid) request (open_downgrade.own journal state args)
-    (quiet_ready number journal state (requester_of_stateid journal state args.stateid args.seqid) request.op (open_downgrade.own journal state args request) sound (ap is_open same) (λ client. ap (newcomer_of journal state client) same)
-    (λ node passage ruling h. found_quiet (verdict (confirmed_open node) journal.epoch state args.stateid >>= as_open) args ruling h)) d is
+    (any_owners_ready number journal state (requester_of_stateid journal state args.stateid args.seqid) request.op (open_downgrade.own journal state args request) sound (ap is_open same) (λ client. ap (newcomer_of journal state client) same)
+    (λ node ruling h.
+    let target = target_of journal.epoch state args.stateid in
+    found_ready state (verdict (confirmed_open node) journal.epoch state args.stateid >>= as_open) args ruling
+    (λ at found. named_open journal.epoch state args.stateid at (open_found (confirmed_open node) state args.stateid target at found).0) h)) d is
 ruled_ready number journal state (ops.Close args) request d same sound singles is =
     sequenced_ready number journal state (requester_of_stateid journal state args.stateid args.seqid) request (close.own journal state args)
     (quiet_ready number journal state (requester_of_stateid journal state args.stateid args.seqid) request.op (close.own journal state args request) sound (ap is_open same) (λ client. ap (newcomer_of journal state client) same)

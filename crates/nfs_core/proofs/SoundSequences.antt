@@ -258,3 +258,16 @@ quiet_ready number journal state requester op own sound other nobody quiet =
       quiet node passages.Continues ruling h
           (with_owner_change (owner_change_of passages.Continues name (newcomer_of journal state name.client op) (status_of ruling.answer)) number state),
     ))
+
+-- operations that introduce nobody, and whose changes are ready with any owners
+pub any_owners_ready : (number : ℕ) (journal : History) (state : State) (requester : Requester) (op : Op) (own : ℕ → Passage → Option Ruling → Type 0) → IsSound state → is_open op ≡ false
+    → ((client : ClientId) → newcomer_of journal state client op ≡ Nobody)
+    → ((node : ℕ) (ruling : Ruling) → own node passages.Continues (Some ruling) → (owners : List KnownOwner) → IsChangeReady ruling.change (record state { owners = owners }))
+    → IsOwnReady number journal state requester op own
+any_owners_ready number journal state requester op own sound other nobody ready =
+    others_ready number journal state requester op own sound other
+    (λ node name ruling of known h.
+    let newcomer = newcomer_of journal state name.client op in
+    let status = status_of ruling.answer in
+    let goes = continuing number state name newcomer status in
+    (place_for_nobody state newcomer status (nobody name.client), subst (IsChangeReady ruling.change) (sym goes.state) (ready node ruling h goes.owners)))

@@ -14,7 +14,7 @@ use Rattle.nfs_state.specs.Changes.{after, last_state_after, with_grant, with_op
 use Rattle.nfs_state.specs.Changes as state_changes
 use Rattle.nfs_state.specs.Places.{has_state_place}
 use Rattle.nfs_state.specs.State.{State}
-use Rattle.nfs_core.specs.Safe.{bears}
+use Rattle.nfs_core.specs.Safe.{HasAccess, bears}
 use Rattle.nfs_core.proofs.SafeFiles.{lists_at, set_lists}
 use Rattle.nfs_core.proofs.SafeLists.{all_filter, all_push, all_set, all_weaken}
 use Rattle.nfs_core.proofs.Sound.{AreKnown, AreLive, IsAloneOf, HasRecord, IsKnownIn, IsLockerKnownIn, IsOnlyOf, IsSound, StandsUnder, KeepsOwner, KeepsOwners, OpensStay, confirmed_left, dropped_compatible, dropped_known, dropped_live, each_known, is_known_in, is_live_in, keeps_mapped, keeps_recorded, keeps_tested, live_confirmed, live_expired, live_marked, live_replaced, mapped_live, name_left, none_of, opening_known, renamed_known, single_confirmed, single_left, single_marked}
@@ -24,6 +24,7 @@ use Rattle.nfs_forms.specs.declared.client_id.ClientId.{ClientId}
 use Rattle.nfs_forms.specs.OpenOwner.{is_same_owner}
 use Rattle.nfs_forms.specs.declared.lock_owner.LockOwner.{LockOwner}
 use Rattle.nfs_forms.specs.declared.open_owner.OpenOwner.{OpenOwner}
+use Rattle.nfs_forms.specs.declared.stateid.Stateid.{Stateid}
 use Rattle.nfs_locks.specs.AllLocks.{is_full_for, locks_of}
 use Rattle.nfs_locks.specs.Laws.{IsFreeFor}
 use Rattle.nfs_locks.specs.Locks.{ByteLocks, first_state, is_lock_of, lock_of}
@@ -45,9 +46,10 @@ use Rattle.nfs_share.specs.declared.delegation.FileUse.TheVariants as uses
 use Rattle.nfs_share.specs.declared.share.Share.{Share}
 use Rattle.nfs_tree.specs.declared.tree.TheConstants.{TEXT_LIMIT}
 use Rattle.nfs_share.specs.Laws.{AllAreCompatible}
+use Rattle.nfs_share.specs.Shares.{IsLawfulDowngrade}
 use Rattle.nfs_share.specs.Opens as opens
 use Rattle.nfs_share.specs.declared.open_state.OpenState.{OpenState}
-use Rattle.nfs_share.specs.Opens.{after_downgrade, is_numbered, is_refused, open_of, with_each, with_next_seqid, with_opening, without}
+use Rattle.nfs_share.specs.Opens.{after_downgrade, is_numbered, is_refused, open_named_by, open_of, with_each, with_next_seqid, with_opening, without}
 
 -- The client of an owner that becomes known is live, and there is a place for the owner. An owner that is dropped isn't
 -- confirmed.
@@ -87,7 +89,7 @@ CanLend node client (Some kind) state =
     can_delegate client kind (opens_of node state.opens) (delegations_of node state.delegations) ≡ true
 
 -- The owner's OPEN isn't refused, and there is a place for an open that it makes; no delegation is in its way, and there is a
--- place for one that is lent, which may be lent.
+-- place for one that is lent, which may be lent. Its share has access.
 abbrev pub MayOpen : ℕ → OpenOwner → Share → Option DelegationKind → State → Type 0
 MayOpen node owner share lent state =
     (is_refused owner share (opens_of node state.opens) ≡ false)
@@ -95,12 +97,21 @@ MayOpen node owner share lent state =
     × (has_conflict (uses.Open owner.client share) (delegations_of node state.delegations) ≡ false)
     × (has_lending_place state (has_open state owner node) lent ≡ true)
     × CanLend node owner.client lent state
+    × HasAccess share
+
+-- A stateid names one of the opens, which has the number, and the share is the union of some of its own.
+abbrev pub MayDowngrade : ℕ → Share → List OpenState → Type 0
+MayDowngrade number share here =
+    (id : Stateid) × (o : OpenState)
+    × (open_named_by id here ≡ Some o)
+    × (o.number ≡ number)
+    × IsLawfulDowngrade o.shares share
 
 -- none of the opens is the owner's
 abbrev pub HasNoOpen : OpenOwner → List (List OpenState) → Type 0
 HasNoOpen owner opens = AllByRecursion (AllByRecursion (λ o. is_same_owner o.owner owner ≡ false)) opens
 
--- The owner of an open is known, and its OPEN may come next. The owner of a lock state that begins is known, an open of the
+-- The owner of an open is known, and its OPEN may come next, as may an OPEN_DOWNGRADE. The owner of a lock state that begins is known, an open of the
 -- node is there for it, the bytes are free for it, it has no lock state of the file, and there is a place for one; those of
 -- another change are free for the owner of a lock state with the number, and leave its runs within the limit. What is written
 -- ends within the limit of a file. A client that expires is live, and no other has its number. An owner that is forgotten has
@@ -109,6 +120,7 @@ abbrev pub IsChangeReady : Change → State → Type 0
 IsChangeReady (changes.Clients change) state = IsClientReady change state.clients
 IsChangeReady (changes.Opens node owner share lent) state =
     (is_known_in state.owners (open_owner owner) ≡ true) × MayOpen node owner share lent state
+IsChangeReady (changes.Downgrades node number share) state = MayDowngrade number share (opens_of node state.opens)
 IsChangeReady (changes.Begins node first) state =
     (is_known_in state.owners (lock_owner first.owner) ≡ true)
     × StandsUnder state.owners (opens_of node state.opens) (first_state first (state.last_state + 1))

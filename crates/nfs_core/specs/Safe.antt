@@ -1,18 +1,18 @@
--- What holds of the state at all times (RFC 7530, sections 9.1, 9.9, 9.11, 10.4, 16.10 and 16.33).
-use Rattle.std.specs.Prelude.{ℕ, ◌&&◌, ◌++◌, ◌==◌, ◌≤◌, Bool, IsSomeAnd, IsTrue, List, flat_map, is_some, length, map, Option, option_and_then, slice_get}
+-- What holds of the state at all times (RFC 7530, sections 9.1, 9.9, 9.11, 10.4, 16.10, 16.16 and 16.33).
+use Rattle.std.specs.Prelude.{ℕ, ◌≡◌, ◌^◌, ◌-◌, ◌&&◌, ◌||◌, ◌++◌, ◌==◌, ◌≤◌, ◌≢◌, Bool, IsSomeAnd, IsTrue, List, [], flat_map, is_some, length, map, Option, option_and_then, slice_get}
 use Rattle.std.specs.List.{AllByRecursion, IsDistinct, list_any}
 use Rattle.nfs_forms.specs.ClientId.{is_same_client}
 use Rattle.nfs_forms.specs.LockOwner.{is_same_lock_owner}
 use Rattle.nfs_forms.specs.OpenOwner.{is_same_owner}
 use Rattle.nfs_locks.specs.AllLocks.{locks_of}
 use Rattle.nfs_locks.specs.Laws.{AllLocksAreCompatible}
-use Rattle.nfs_locks.specs.Locks.{ByteLocks}
+use Rattle.nfs_locks.specs.Locks.{ByteLocks, stateid_of as lock_stateid}
 use Rattle.nfs_rules.specs.Sequences.{counts}
 use Rattle.nfs_state.specs.Entries.{call_of}
 use Rattle.nfs_state.specs.Files.{FileState}
 use Rattle.nfs_state.specs.Owners.{KnownOwner, is_confirmed, owner_of}
 use Rattle.nfs_state.specs.State.{State, History}
-use Rattle.nfs_owners.specs.Registry.{AreRecords, record_of}
+use Rattle.nfs_owners.specs.Registry.{AreRecords, Registry, record_of}
 use Rattle.nfs_owners.specs.StateOwner.{lock_owner, open_owner}
 use Rattle.nfs_owners.specs.declared.client_record.ClientRecord.{ClientRecord}
 use Rattle.nfs_owners.specs.declared.slots.TheConstants.{GENERATIONS}
@@ -22,15 +22,19 @@ use Rattle.nfs_ranges.specs.declared.limits.TheConstants.{RUN_LIMIT}
 use Rattle.nfs_state.specs.Places.{state_count}
 use Rattle.nfs_state.specs.declared.entry.Call.{Call}
 use Rattle.nfs_state.specs.declared.limits.TheConstants.{STATE_LIMIT}
+use Rattle.nfs_tree.specs.Tree.{is_directory, node_count}
+use Rattle.nfs_tree.specs.declared.node.Node.{Node}
 use Rattle.nfs_tree.specs.declared.tree.TheConstants.{TEXT_LIMIT}
 use Rattle.nfs_xdr.specs.Names.{is_sequenced}
 use Rattle.nfs_xdr.specs.OpResult.{status_of}
 use Rattle.nfs_share.specs.AllOpens.{delegations_of, opens_of}
-use Rattle.nfs_share.specs.Delegations.{StandInOrder}
+use Rattle.nfs_share.specs.Delegations.{StandInOrder, delegation_stateid}
 use Rattle.nfs_share.specs.Laws.{AllAreCompatible, AreApart, OneEach}
-use Rattle.nfs_share.specs.Opens.{is_numbered, is_of_client}
+use Rattle.nfs_share.specs.Opens.{is_numbered, is_of_client, stateid_of as open_stateid}
+use Rattle.nfs_share.specs.Share.{is_same}
 use Rattle.nfs_share.specs.declared.delegation.Delegation.{Delegation}
 use Rattle.nfs_share.specs.declared.open_state.OpenState.{OpenState}
+use Rattle.nfs_share.specs.declared.share.Share.{Share}
 
 -- the open's owner is known
 abbrev pub HasKnownOwner : State → OpenState → Type 0
@@ -95,6 +99,26 @@ numbers_of state =
     ++ flat_map (map (λ (l : ByteLocks). l.number)) state.locks
     ++ flat_map (map (λ (d : Delegation). d.number)) state.delegations
 
+-- A state's seqid is one from 1 to 2^32 - 1: zero is special (section 9.1.4).
+abbrev pub IsSeqid : ℕ → Type 0
+IsSeqid seqid = (1 ≤ seqid) × (seqid ≤ 2 ^ 32 - 1)
+
+-- the stateid of each open, each lock state and each delegation has such a seqid
+pub record HaveSeqids (state : State) : Type 0 where
+  pub opens : EachOpen (λ o. IsSeqid (open_stateid o).seqid) state
+  pub locks : EachLock (λ l. IsSeqid (lock_stateid l).seqid) state
+  pub delegations : EachDelegation (λ d. IsSeqid (delegation_stateid d).seqid) state
+
+-- the share has access: to read, to write, or both (section 9.9)
+abbrev pub HasAccess : Share → Type 0
+HasAccess share = IsTrue (share.access.read || share.access.write)
+
+-- The open has a share at least, each has access, and no two are the same (section 9.11).
+pub record HasShares (o : OpenState) : Type 0 where
+  pub some : o.shares ≢ []
+  pub access : AllByRecursion HasAccess o.shares
+  pub differ : IsDistinct is_same o.shares
+
 -- two opens are of one owner
 abbrev pub have_same_owner : OpenState → OpenState → Bool
 have_same_owner a b = is_same_owner a.owner b.owner
@@ -110,6 +134,21 @@ have_same_client r s = is_same_client r.state.client s.state.client
 -- the number was given, where `last` is the one that was given last: they go up from 1
 abbrev pub WasGiven : ℕ → ℕ → Type 0
 WasGiven last number = (1 ≤ number) × (number ≤ last)
+
+-- the value with which SETCLIENTID_CONFIRM names the record
+abbrev pub confirm_value : ClientRecord → ℕ
+confirm_value r = r.state.confirm
+
+-- the confirm values of all records, confirmed and unconfirmed
+abbrev pub confirm_values_of : Registry → List ℕ
+confirm_values_of registry = map confirm_value (registry.confirmed ++ registry.unconfirmed)
+
+-- each confirm value is that of one record only, as SETCLIENTID gives it once (section 16.33.5)
+pub record HaveConfirmValues (registry : Registry) : Type 0 where
+  -- each lies between 1 and the last one that was given
+  pub given : AllByRecursion (WasGiven registry.last_confirm) (confirm_values_of registry)
+  -- no two records have one, be they confirmed, unconfirmed, or one of each
+  pub differ : IsDistinct (λ a b. a == b) (confirm_values_of registry)
 
 -- the bytes that the owner holds are in no more runs than an owner may have of a file
 abbrev pub HasFewRuns : ByteLocks → Type 0
@@ -143,6 +182,8 @@ pub record IsSafe (state : State) : Type 0 where
   -- no two states have one number, be they opens, lock states or delegations, of one file or of two
   pub numbers_differ : IsDistinct (λ a b. a == b) (numbers_of state)
   pub numbers_given : AllByRecursion (WasGiven state.last_state) (numbers_of state)
+  pub seqids : HaveSeqids state
+  pub shares : EachOpen HasShares state
   -- an owner has at most one open of a file (section 9.11), and at most one lock state (section 9.1.4)
   pub one_open : AllByRecursion (IsDistinct have_same_owner) state.opens
   pub one_lock : AllByRecursion (IsDistinct have_same_lock_owner) state.locks
@@ -159,7 +200,28 @@ pub record IsSafe (state : State) : Type 0 where
   pub records : AreRecords state.clients
   -- a clientid has at most one confirmed record
   pub one_of_client : IsDistinct have_same_client state.clients.confirmed
+  -- each record has a confirm value of its own
+  pub confirm_values : HaveConfirmValues state.clients
   pub within : KeepsLimits state
+
+-- What the state has for the tree.
+
+-- each node has a list of opens, one of lock states and one of delegations
+pub record HasListsFor (nodes : List Node) (state : State) : Type 0 where
+  pub opens : length state.opens ≡ node_count nodes
+  pub locks : length state.locks ≡ node_count nodes
+  pub delegations : length state.delegations ≡ node_count nodes
+
+-- nothing of the node is opened, locked or lent
+pub record HasNothing (state : State) (node : ℕ) : Type 0 where
+  pub opens : opens_of node state.opens ≡ []
+  pub locks : locks_of node state.locks ≡ []
+  pub delegations : delegations_of node state.delegations ≡ []
+
+-- Files alone are opened, locked and lent: OPEN of a directory is NFS4ERR_ISDIR (section 16.16).
+abbrev pub OnlyFilesHaveState : List Node → State → Type 0
+OnlyFilesHaveState nodes state =
+    (node : ℕ) → IsTrue (is_directory nodes node) → HasNothing state node
 
 -- What is kept for the owners.
 

@@ -4,7 +4,7 @@ ghost use Rattle.nfs_core.specs.ForgetLaws.{OnlyIdleOwnersGo, ForgottenAreAsNew,
 ghost use Rattle.nfs_core.specs.Lawful.{AtMostOneState, Lawful};
 ghost use Rattle.nfs_core.specs.LiveClients.{AreNumbered, AreOfOneRun, CallsFollow, EffectsFollow, EndsFollow, EventsFollow, NewcomersFindSlots};
 ghost use Rattle.nfs_core.specs.Recalls.{AreOneList, OthersRecallNothing, RecallsBegin, RecallsFollow, RecallsRise};
-ghost use Rattle.nfs_core.specs.Safe.{HaveFewBytes, IsSafe, KeepRequests};
+ghost use Rattle.nfs_core.specs.Safe.{HasListsFor, HaveFewBytes, IsSafe, KeepRequests, OnlyFilesHaveState};
 ghost use Rattle.nfs_core.specs.Step.{AtMostOneStateAfter, AtMostOneStep};
 ghost use Rattle.nfs_state.specs.State.{State, History};
 ghost use Rattle.nfs_tree.specs.Tree.{IsTree};
@@ -64,8 +64,9 @@ pub fn at_most_one_state()
 }
 
 /// The law that each state which a lawful journal leads to is safe, and that what is kept for each owner is an entry of
-/// the journal: a request that goes by a sequence id, with a status that counts. And where the journal is of a tree, no
-/// file has more bytes than a file may have.
+/// the journal: a request that goes by a sequence id, with a status that counts. The state has a list of opens, one of
+/// lock states and one of delegations for each node, and those of a directory are empty. And where the journal is of a
+/// tree, no file has more bytes than a file may have.
 pub fn lawful_is_safe()
     ensures safe { (journal : History) (state : State) → Lawful journal state → IsSafe state }
     ensures kept { (journal : History) (state : State) → Lawful journal state →
@@ -74,6 +75,10 @@ pub fn lawful_is_safe()
         AreNumbered state.clients }
     ensures run { (journal : History) (state : State) → Lawful journal state →
         AreOfOneRun journal state }
+    ensures lists { (journal : History) (state : State) → Lawful journal state →
+        HasListsFor journal.nodes state }
+    ensures files { (journal : History) (state : State) → Lawful journal state →
+        OnlyFilesHaveState journal.nodes state }
     ensures bytes { (journal : History) (state : State) → IsTree journal.nodes →
         Lawful journal state → HaveFewBytes state.files }
 {

@@ -3,6 +3,7 @@ use Rattle.nfs_core.proofs.FileBytes.{Lawful-bytes}
 use Rattle.nfs_core.proofs.LiveLaws.{Lawful-numbered, Lawful-run}
 use Rattle.nfs_core.proofs.Safety.{Laws, Lawful-safe}
 use Rattle.nfs_core.proofs.SoundKept.{Lawful-kept}
+use Rattle.nfs_core.proofs.SoundPlaces.{Lawful-files, Lawful-lists}
 
 pub returns : goal.returns
 returns c =
@@ -35,5 +36,7 @@ returns c =
       kept = Lawful-kept;
       numbered = Lawful-numbered laws;
       run = Lawful-run laws;
+      lists = Lawful-lists;
+      files = Lawful-files laws;
       bytes = Lawful-bytes laws;
     }
