@@ -1,20 +1,25 @@
 -- No two known owners have one name.
-use Rattle.std.proofs.Common.{◌≡◌, ℕ, Bool, false, Option, Some, None, List, filter, map, refl, ap, ◌∙◌}
-use Rattle.std.proofs.lemmas.Bool.{not-true}
+use Rattle.std.proofs.Common.{◌≡◌, inl, inr, ℕ, Bool, true, false, Option, Some, None, List, [], ◌∷◌, filter, map, refl, sym, ap, ◌∙◌, subst}
+use Rattle.std.proofs.lemmas.Bool.{cases_Bool, not-true}
 use Rattle.std.specs.Prelude.{⊤, is_some, not}
 use Rattle.std.specs.List.{AllByRecursion, IsDistinct}
 use Rattle.nfs_core.specs.Safe.{have_same_name}
+use Rattle.nfs_core.proofs.LiveLists.{none_any}
 use Rattle.nfs_core.proofs.SafeDistinct.{distinct_filter, distinct_map, distinct_none, distinct_push}
 use Rattle.nfs_core.proofs.SafeLists.{all_always, all_filter, all_map, all_none}
-use Rattle.nfs_core.proofs.Sound.{KeepsOwner, is_known_in}
+use Rattle.nfs_core.proofs.Sound.{KeepsOwner, equal_names, is_known_in, same_name_self}
 use Rattle.nfs_core.proofs.SoundSteps.{IsOwnerReady, keeps_confirmed, keeps_kept}
 use Rattle.nfs_forms.specs.ClientId.{is_same_client}
+use Rattle.nfs_owners.specs.Owner as stored
+use Rattle.nfs_owners.specs.Owners.{AreApart}
 use Rattle.nfs_owners.specs.StateOwner.{is_same_state_owner, lock_owner, open_owner}
 use Rattle.nfs_owners.specs.declared.clients.client_change.ClientChange.TheVariants as client_changes
+use Rattle.nfs_owners.specs.declared.owner.Owner.{Owner}
 use Rattle.nfs_owners.specs.declared.state_owner.StateOwner.{StateOwner}
 use Rattle.nfs_state.specs.Changes.{with_owner_change, with_state_change}
 use Rattle.nfs_state.specs.Owners.{KnownOwner, has_name, with_kept_entry, with_record, without_owner}
 use Rattle.nfs_state.specs.State.{State, empty_server}
+use Rattle.nfs_state.specs.Stored.{known_owner}
 use Rattle.nfs_state.specs.declared.change.Change.{Change}
 use Rattle.nfs_state.specs.declared.change.Change.TheVariants as changes
 use Rattle.nfs_state.specs.declared.owner_change.OwnerChange.{OwnerChange}
@@ -92,3 +97,24 @@ names_changed change old h = h
 
 pub names_empty : (nodes : List Node) → HaveNames (empty_server nodes).owners
 names_empty nodes = distinct_none have_same_name
+
+-- The stored owners, whose names are those of the state.
+
+other_self : (a b : StateOwner) → is_same_state_owner a b ≡ false → is_same_state_owner b a ≡ false
+other_self a b other = elim (cases_Bool (is_same_state_owner b a)) [
+  | inl same ↦
+      let equal : is_same_state_owner a b ≡ true = subst (λ n. is_same_state_owner a n ≡ true) (sym (equal_names b a same)) (same_name_self a) in
+      absurd cc
+  | inr fails ↦ fails
+]
+
+others_stored : (name : StateOwner) (owners : List Owner) → AllByRecursion (λ o. is_same_state_owner name o.name ≡ false) (map known_owner owners)
+    → AllByRecursion (λ o. is_same_state_owner o.name name ≡ false) owners
+others_stored name [] h = tt
+others_stored name (o ∷ owners) h = (other_self name o.name h.0, others_stored name owners h.1)
+
+pub stored_apart : (owners : List Owner) → HaveNames (map known_owner owners) → AreApart owners
+unfolding IsDistinct
+stored_apart [] h = tt
+stored_apart (o ∷ owners) h =
+    (none_any (stored.has_name o.name) owners (others_stored o.name owners h.0), stored_apart owners h.1)
