@@ -113,6 +113,6 @@ few_below nodes (suc node) tree =
     few_both (files_below nodes node) (initial_file node (text_of nodes node)) (few_below nodes node tree)
     (few_first node (text_of nodes node) (λ text is. few_at nodes node text tree is))
 
-pub Lawful-bytes : Laws → (journal : History) (state : State) → IsTree journal.nodes → Lawful journal state → HaveFewBytes state.files
-Lawful-bytes laws journal state tree lawful =
-    few_led laws (record journal { entries = [] }) (empty_server journal.nodes) state journal.entries lawful (holds_empty journal) (few_below journal.nodes (node_count journal.nodes) tree)
+pub Lawful-bytes : Laws → (journal : History) (state : State) → Lawful journal state → HaveFewBytes state.files
+Lawful-bytes laws journal state lawful =
+    few_led laws (record journal { entries = [] }) (empty_server journal.nodes) state journal.entries lawful.leads (holds_empty journal) (few_below journal.nodes (node_count journal.nodes) lawful.tree)

@@ -81,7 +81,7 @@ few_below nodes (suc node) = few_both (files_below nodes node) (initial_file nod
 pub Lawful-changes : (journal : History) (state : State) → Lawful journal state → HaveFewChanges (length journal.entries) state.files
 Lawful-changes journal state lawful =
     subst (λ (k : ℕ). HaveFewChanges k state.files) (omega arith)
-    (few_led (record journal { entries = [] }) (empty_server journal.nodes) state journal.entries 0 lawful (few_below journal.nodes (node_count journal.nodes)))
+    (few_led (record journal { entries = [] }) (empty_server journal.nodes) state journal.entries 0 lawful.leads (few_below journal.nodes (node_count journal.nodes)))
 
 -- so each file can be changed once more, where an entry can
 pub can_change : (n : ℕ) (files : List FileState) → n < 1_000_000 → HaveFewChanges n files → CanChange files

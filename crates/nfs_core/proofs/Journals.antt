@@ -18,7 +18,7 @@ use Rattle.nfs_core.proofs.SafeLists.{map_replicate}
 use Rattle.nfs_core.proofs.SoundSequences.{some_equal}
 use Rattle.nfs_locks.specs.Locks.{ByteLocks}
 use Rattle.nfs_locks.specs.StoredLocks.{byte_locks}
-use Rattle.nfs_tree.specs.Tree.{node_count}
+use Rattle.nfs_tree.specs.Tree.{IsTree, node_count}
 use Rattle.nfs_tree.specs.declared.node.Node.{Node}
 use Rattle.nfs_state.specs.declared.change.Change.{Change}
 use Rattle.nfs_state.specs.declared.change.Change.TheVariants as changes
@@ -47,7 +47,10 @@ Leads-append journal old mid new (first ∷ entries) entry leads step =
 -- a lawful journal with one more entry that the rules allow is lawful
 Lawful-step : (journal : History) (old new : State) (entry : Entry) → Lawful journal old → Step journal old entry new → Lawful (with_entry entry journal) new
 Lawful-step journal old new entry lawful step =
-    Leads-append (record journal { entries = [] }) (empty_server journal.nodes) old new journal.entries entry lawful step
+    record {
+      tree = lawful.tree;
+      leads = Leads-append (record journal { entries = [] }) (empty_server journal.nodes) old new journal.entries entry lawful.leads step;
+    }
 
 -- What is stored before any client has come means an empty server.
 empty_meaning : (nodes : List Node) → meaning (empty_store nodes) ≡ empty_server nodes
@@ -55,11 +58,14 @@ empty_meaning nodes =
     let server = empty_server nodes in
     ap (λ (locks : List (List ByteLocks)). record server { locks = locks }) (map_replicate (map byte_locks) [] (node_count nodes))
 
--- a journal without entries is lawful
-pub Lawful-new : (journal : History) (stored : Stored) → journal.entries ≡ [] → stored ≡ empty_store journal.nodes → Lawful journal (meaning stored)
-Lawful-new journal stored none same =
-    subst (λ entries. Leads (record journal { entries = [] }) (empty_server journal.nodes) entries (meaning stored)) (sym none)
-    (ap meaning same ∙ empty_meaning journal.nodes)
+-- a journal of a tree without entries is lawful
+pub Lawful-new : (journal : History) (stored : Stored) → IsTree journal.nodes → journal.entries ≡ [] → stored ≡ empty_store journal.nodes → Lawful journal (meaning stored)
+Lawful-new journal stored tree none same =
+    record {
+      tree = tree;
+      leads = subst (λ entries. Leads (record journal { entries = [] }) (empty_server journal.nodes) entries (meaning stored)) (sym none)
+          (ap meaning same ∙ empty_meaning journal.nodes);
+    }
 
 -- a rule that gives a decision doesn't also give none
 pub decides_something : AtMostOneDecision → (journal : History) (old : State) (request : Request) (decision : Decision) → IsRuled request.op journal old request (Some decision) → IsRuled request.op journal old request None → ⊥
@@ -109,7 +115,7 @@ Leads-once once journal old new new' (entry ∷ entries) leads leads' =
 -- a journal leads to at most one state
 pub Lawful-once : AtMostOneDecision → AtMostOneState
 Lawful-once once journal state state' lawful lawful' =
-    Leads-once once (record journal { entries = [] }) (empty_server journal.nodes) state state' journal.entries lawful lawful'
+    Leads-once once (record journal { entries = [] }) (empty_server journal.nodes) state state' journal.entries lawful.leads lawful'.leads
 
 -- a core that hasn't changed is as lawful as before
 pub Lawful-same : (journal journal' : History) (stored stored' : Stored) → journal' ≡ journal → stored' ≡ stored → Lawful journal (meaning stored) → Lawful journal' (meaning stored')
@@ -138,7 +144,7 @@ Leads-length journal old new (entry ∷ entries) leads within =
 
 pub Lawful-length : (journal : History) (state : State) → Lawful journal state → length journal.entries ≤ JOURNAL_LIMIT
 Lawful-length journal state lawful =
-    omega (arith, Leads-length (record journal { entries = [] }) (empty_server journal.nodes) state journal.entries lawful (omega arith))
+    omega (arith, Leads-length (record journal { entries = [] }) (empty_server journal.nodes) state journal.entries lawful.leads (omega arith))
 
 -- a change uses at most one confirm value
 changed_confirm : (change : Change) (old : State) → (with_state_change change old).clients.last_confirm ≤ old.clients.last_confirm + 1
@@ -164,7 +170,7 @@ Leads-confirm journal old new (entry ∷ entries) leads =
 
 -- no more confirm values were given out than the journal has entries
 pub Lawful-confirm : (journal : History) (state : State) → Lawful journal state → state.clients.last_confirm ≤ length journal.entries
-Lawful-confirm journal state lawful = omega (arith, Leads-confirm (record journal { entries = [] }) (empty_server journal.nodes) state journal.entries lawful)
+Lawful-confirm journal state lawful = omega (arith, Leads-confirm (record journal { entries = [] }) (empty_server journal.nodes) state journal.entries lawful.leads)
 
 -- a change uses at most two numbers of states: an OPEN one for its open, and one for a delegation
 
@@ -201,4 +207,4 @@ Leads-state journal old new (entry ∷ entries) leads =
 
 -- no more numbers were given to states than two for each entry of the journal
 pub Lawful-state : (journal : History) (state : State) → Lawful journal state → state.last_state ≤ 2 * length journal.entries
-Lawful-state journal state lawful = omega (arith, Leads-state (record journal { entries = [] }) (empty_server journal.nodes) state journal.entries lawful)
+Lawful-state journal state lawful = omega (arith, Leads-state (record journal { entries = [] }) (empty_server journal.nodes) state journal.entries lawful.leads)

@@ -114,11 +114,11 @@ epoch_leads laws journal old new (entry ∷ entries) leads holds h =
 
 lawful_holds : Laws → (journal : History) (state : State) → Lawful journal state → Holds state
 lawful_holds laws journal state lawful =
-    holds_leads laws (record journal { entries = [] }) (empty_server journal.nodes) state journal.entries lawful (holds_empty journal)
+    holds_leads laws (record journal { entries = [] }) (empty_server journal.nodes) state journal.entries lawful.leads (holds_empty journal)
 
 lawful_epoch : Laws → (journal : History) (state : State) → Lawful journal state → HaveEpoch journal.epoch state.clients
 lawful_epoch laws journal state lawful =
-    epoch_leads laws (record journal { entries = [] }) (empty_server journal.nodes) state journal.entries lawful (holds_empty journal) (tt, tt)
+    epoch_leads laws (record journal { entries = [] }) (empty_server journal.nodes) state journal.entries lawful.leads (holds_empty journal) (tt, tt)
 
 pub Lawful-run : Laws → (journal : History) (state : State) → Lawful journal state → AreOfOneRun journal state
 Lawful-run laws journal state lawful = λ number. told_by_number journal.epoch number state.clients.confirmed (lawful_epoch laws journal state lawful).0

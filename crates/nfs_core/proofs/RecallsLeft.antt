@@ -48,7 +48,7 @@ Recalls-append once journal old mid (first ∷ entries) entry effect recalls lea
 -- a journal's recalls and then those of one entry more are the longer journal's
 pub Recalls-follow : AtMostOneDecision → RecallsFollow
 Recalls-follow once journal state entry effect recalls lawful are allowed =
-    Recalls-append once (record journal { entries = [] }) (empty_server journal.nodes) state journal.entries entry effect recalls lawful are allowed
+    Recalls-append once (record journal { entries = [] }) (empty_server journal.nodes) state journal.entries entry effect recalls lawful.leads are allowed
 
 Recalls-same : AtMostOneDecision → (journal : History) (old : State) (entries : List Entry) (recalls recalls' : List Recall) → Recalls journal old entries recalls → Recalls journal old entries recalls' → recalls ≡ recalls'
 Recalls-same once journal old [] recalls recalls' is is' = is ∙ sym is'

@@ -173,4 +173,4 @@ safe state holds =
 
 pub Lawful-safe : Laws → (journal : History) (state : State) → Lawful journal state → IsSafe state
 Lawful-safe laws journal state lawful =
-    safe state (holds_leads laws (record journal { entries = [] }) (empty_server journal.nodes) state journal.entries lawful (holds_empty journal))
+    safe state (holds_leads laws (record journal { entries = [] }) (empty_server journal.nodes) state journal.entries lawful.leads (holds_empty journal))

@@ -252,4 +252,4 @@ keep_leads journal old new (entry ∷ entries) leads h =
 -- what is kept after a lawful journal
 pub Lawful-kept : (journal : History) (state : State) → Lawful journal state → KeepRequests journal state
 Lawful-kept journal state lawful =
-    keep_leads (record journal { entries = [] }) (empty_server journal.nodes) state journal.entries lawful tt
+    keep_leads (record journal { entries = [] }) (empty_server journal.nodes) state journal.entries lawful.leads tt

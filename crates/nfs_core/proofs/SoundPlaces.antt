@@ -104,7 +104,7 @@ lists_led count journal old new (entry ∷ entries) leads h =
 pub Lawful-lists : (journal : History) (state : State) → Lawful journal state → HasListsFor journal.nodes state
 Lawful-lists journal state lawful =
     let count = node_count journal.nodes in
-    let all = lists_led count (record journal { entries = [] }) (empty_server journal.nodes) state journal.entries lawful
+    let all = lists_led count (record journal { entries = [] }) (empty_server journal.nodes) state journal.entries lawful.leads
     (length-replicate {A = List OpenState} count [], length-replicate {A = List ByteLocks} count [], length-replicate {A = List Delegation} count []) in
     record { opens = all.0; locks = all.1; delegations = all.2 }
 
@@ -210,7 +210,7 @@ Lawful-files laws journal state lawful directory is =
     let count = node_count journal.nodes in
     let no_opens : List (List OpenState) = replicate count [] in
     let no_delegations : List (List Delegation) = replicate count [] in
-    let free = free_led laws (record journal { entries = [] }) (empty_server journal.nodes) state journal.entries directory is lawful (holds_empty journal) (
+    let free = free_led laws (record journal { entries = [] }) (empty_server journal.nodes) state journal.entries directory is lawful.leads (holds_empty journal) (
       lists_at (λ (os : List OpenState). os ≡ []) refl directory no_opens (all_replicate (λ (os : List OpenState). os ≡ []) [] refl count),
       lists_at (λ (ds : List Delegation). ds ≡ []) refl directory no_delegations (all_replicate (λ (ds : List Delegation). ds ≡ []) [] refl count),
     ) in

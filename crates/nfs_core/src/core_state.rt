@@ -99,6 +99,7 @@ impl Core {
         ensures lawful { IfOk result (λ core. IsLawful core) }
         ensures error { IfErr result (λ e. e ≡ CoreError.Memory) }
     {
+        tree.nodes_are_a_tree();
         // The tables come last: nothing has to let them go then.
         let Ok(copy) = tree.clone() else {
             return Err(CoreError::Memory);

@@ -7,7 +7,6 @@ ghost use Rattle.nfs_core.specs.Recalls.{AreOneList, OthersRecallNothing, Recall
 ghost use Rattle.nfs_core.specs.Safe.{HasListsFor, HaveFewBytes, IsSafe, KeepRequests, OnlyFilesHaveState};
 ghost use Rattle.nfs_core.specs.Step.{AtMostOneStateAfter, AtMostOneStep};
 ghost use Rattle.nfs_state.specs.State.{State, History};
-ghost use Rattle.nfs_tree.specs.Tree.{IsTree};
 
 use nfs_locks::locks_stay_compatible;
 use nfs_owners::{marks_keep_clients, no_number_is_left};
@@ -65,8 +64,8 @@ pub fn at_most_one_state()
 
 /// The law that each state which a lawful journal leads to is safe, and that what is kept for each owner is an entry of
 /// the journal: a request that goes by a sequence id, with a status that counts. The state has a list of opens, one of
-/// lock states and one of delegations for each node, and those of a directory are empty. And where the journal is of a
-/// tree, no file has more bytes than a file may have.
+/// lock states and one of delegations for each node, and those of a directory are empty. No file has more bytes than a
+/// file may have.
 pub fn lawful_is_safe()
     ensures safe { (journal : History) (state : State) → Lawful journal state → IsSafe state }
     ensures kept { (journal : History) (state : State) → Lawful journal state →
@@ -79,8 +78,8 @@ pub fn lawful_is_safe()
         HasListsFor journal.nodes state }
     ensures files { (journal : History) (state : State) → Lawful journal state →
         OnlyFilesHaveState journal.nodes state }
-    ensures bytes { (journal : History) (state : State) → IsTree journal.nodes →
-        Lawful journal state → HaveFewBytes state.files }
+    ensures bytes { (journal : History) (state : State) → Lawful journal state →
+        HaveFewBytes state.files }
 {
     opens_stay_compatible();
     locks_stay_compatible();

@@ -1,6 +1,6 @@
 -- A journal with a wrong entry isn't lawful.
 use Rattle.std.proofs.Common.{◌≡◌, ℕ, List, [], ◌∷◌, ◌++◌, length, refl, sym, subst, append_assoc, append-nil}
-use Rattle.nfs_core.specs.Lawful.{AtMostOneState, Leads}
+use Rattle.nfs_core.specs.Lawful.{AtMostOneState, Lawful, Leads}
 use Rattle.nfs_core.specs.Server.{Server, IsLawful}
 use Rattle.nfs_core.specs.Step.{HasNoStep, Step}
 use Rattle.nfs_journal.specs.Audits.{IsLawfulJournal, IsWrongAt}
@@ -43,9 +43,10 @@ unlawful once number h at journal =
     let start : History = record h { entries = [] } in
     let shorter : History = record h { entries = at.before } in
     let to_end : List Entry → Type 0 = λ es. Leads start (empty_server h.nodes) es journal.0 in
-    let leads : to_end (at.before ++ at.entry ∷ at.after) = subst to_end at.parts journal.1 in
+    let leads : to_end (at.before ++ at.entry ∷ at.after) = subst to_end at.parts journal.1.leads in
     let on = leads_on start (empty_server h.nodes) journal.0 at.before at.entry at.after leads in
-    let same : on.mid ≡ at.state = once shorter on.mid at.state on.leads at.lawful in
+    let lawful : Lawful shorter on.mid = record { tree = at.lawful.tree; leads = on.leads } in
+    let same : on.mid ≡ at.state = once shorter on.mid at.state lawful at.lawful in
     at.wrong on.new (subst (λ (s : State). Step shorter s at.entry on.new) same on.step)
 
 -- an entry that may not come next is the first wrong one

@@ -5,9 +5,10 @@ use Rattle.nfs_state.specs.Stored.{Stored}
 use Rattle.nfs_core.proofs.Journals.{Lawful-new}
 use Rattle.nfs_core.proofs.RecallsLeft.{Left-new}
 use Rattle.nfs_core.proofs.core_state.Core.new.Goals as goal
+use Rattle.nfs_tree.specs.Tree.{IsTree}
 
 pub returns-clause-lawful : goal.returns-clause-lawful
-returns-clause-lawful c = Lawful-new c.new-journal.result.history (stored_of c.in_ok-tables.tables) (search rules) (search rules)
+returns-clause-lawful c = Lawful-new c.new-journal.result.history (stored_of c.in_ok-tables.tables) (subst IsTree (search rules) c.nodes_are_a_tree.ensures) (search rules) (search rules)
 
 pub invariant_of-result : goal.invariant_of-result
 invariant_of-result c =
