@@ -30,6 +30,7 @@ pub mod SoundKept
 pub mod SoundLimits
 pub mod SoundLocking
 pub mod SoundLocks
+pub mod SoundNames
 pub mod SoundNumbers
 pub mod SoundOrder
 pub mod SoundOwners

@@ -21,6 +21,7 @@ use Rattle.nfs_core.proofs.SoundConfirms.{HasConfirms, IsChangeValued, allowed_v
 use Rattle.nfs_core.proofs.SoundDelegations.{HasSoundDelegations, StayApart, StaySingle, delegations_changed, delegations_empty, delegations_owned}
 use Rattle.nfs_core.proofs.SoundLimits.{FirstRuns, limits_changed, limits_empty, limits_owned}
 use Rattle.nfs_core.proofs.SoundLocks.{LocksStay}
+use Rattle.nfs_core.proofs.SoundNames.{HaveNames, names_changed, names_empty, names_owned}
 use Rattle.nfs_core.proofs.SoundNumbers.{HasNumbers, numbered_after, numbered_empty, numbered_owned, numbers_differ, numbers_given}
 use Rattle.nfs_core.proofs.SoundOrder.{HasOrder, order_after, order_empty}
 use Rattle.nfs_core.proofs.SoundOwners.{HasOnes, ones_changed, ones_empty, ones_owned}
@@ -76,6 +77,7 @@ allowed_ready journal old (entries.Call call) effect sound singles allowed =
 -- What holds of the state after each entry.
 pub record Holds (state : State) : Type 0 where
   pub sound : IsSound state
+  pub names : HaveNames state.owners
   pub numbered : HasNumbers state
   pub ones : HasOnes state
   pub delegations : HasSoundDelegations state
@@ -89,6 +91,7 @@ pub record Holds (state : State) : Type 0 where
 pub holds_empty : (journal : History) → Holds (empty_server journal.nodes)
 holds_empty journal = record {
   sound = sound_empty journal;
+  names = names_empty journal.nodes;
   numbered = numbered_empty journal.nodes;
   ones = ones_empty journal.nodes;
   delegations = delegations_empty journal.nodes;
@@ -114,6 +117,7 @@ holds_after laws number effect old ready valued holds =
     let mid = with_owner_change effect.owner number old in
     record {
       sound = sound_after laws.opens laws.locks number effect old ready holds.sound;
+      names = names_changed effect.change mid (names_owned effect.owner number old ready.0 holds.names);
       numbered = numbered_after number effect old holds.numbered;
       ones = ones_changed effect.change mid ready.1 (ones_owned effect.owner number old holds.ones);
       delegations = delegations_changed laws.apart laws.single effect.change mid ready.1
@@ -149,6 +153,7 @@ safe state holds =
       live = all_weaken (AllByRecursion (HasKnownOwner state)) (AllByRecursion (HasLiveClient state))
           (λ opens known. all_weaken (HasKnownOwner state) (HasLiveClient state) (λ o h. live_owner state sound (open_owner o.owner) h) opens known) state.opens sound.known;
       owners_live = sound.live;
+      owners_differ = holds.names;
       locks_compatible = sound.locks.compatible;
       lockers_known = sound.locks.known;
       lockers_live = all_weaken (AllByRecursion (HasKnownLocker state)) (AllByRecursion (HasLiveLocker state))

@@ -260,7 +260,7 @@ owner_ready : (journal : History) (state : State) (op : Op) (owner : OpenOwner) 
 owner_ready journal state op owner passages.Continues status sound live fit nobody place =
     continues_ready journal state op (open_owner owner) status sound fit (place_for_nobody state (newcomer_of journal state owner.client op) status nobody)
 owner_ready journal state op owner passages.Begins status sound live fit nobody place =
-    cond_both (is_ok_status status) (owner_changes.Records (as_open_owner (open_owner owner)) false) owner_changes.Nothing (λ c. IsOwnerReady c state) (λ ok. (live, place ok)) (λ _. tt)
+    cond_both (is_ok_status status) (owner_changes.Records (as_open_owner (open_owner owner)) false) owner_changes.Nothing (λ c. IsOwnerReady c state) (λ ok. (live, place ok, fit.1)) (λ _. tt)
 owner_ready journal state op owner passages.Restarts status sound live fit nobody place =
     cond_both (is_ok_status status) (owner_changes.Restarts (as_open_owner (open_owner owner)) false) (owner_changes.Drops (as_open_owner (open_owner owner))) (λ c. IsOwnerReady c state)
     (λ ok. (live, fit.1, place ok)) (λ _. fit.1)

@@ -48,7 +48,7 @@ as_decided number old d e same ready = subst (IsReady number old) (sym (some_equ
 -- Whose request goes on, and what is known of the owner.
 abbrev pub IsFit : State → Op → StateOwner → Passage → Type 0
 IsFit state op name passages.Continues = is_known_in state.owners name ≡ true
-IsFit state op name passages.Begins = is_open op ≡ true
+IsFit state op name passages.Begins = (is_open op ≡ true) × (is_known_in state.owners name ≡ false)
 IsFit state op name passages.Restarts = (is_open op ≡ true) × (is_confirmed name state.owners ≡ false)
 
 going : (p q : Passage) (n m : StateOwner) → GoesOn p n ≡ GoesOn q m → (p ≡ q) × (n ≡ m)
@@ -77,7 +77,8 @@ owner_fits journal state None name seqid request passage owner is h =
     elim (cases_Bool (is_open request.op)) [
       | inl opens ↦
           let same = going passage passages.Begins owner name (h ∙ cond-true (is_open request.op) begins refuses opens) in
-          let fit : IsFit state request.op owner passages.Begins = opens in
+          let new : is_known_in state.owners owner ≡ false = ap (is_known_in state.owners) same.1 ∙ ap is_some is in
+          let fit : IsFit state request.op owner passages.Begins = (opens, new) in
           (same.1, subst (IsFit state request.op owner) (sym same.0) fit)
       | inr others ↦
           let same : GoesOn passage owner ≡ refuses = h ∙ cond-false (is_open request.op) begins refuses others in
@@ -133,25 +134,28 @@ sequenced_ready number journal state requester request own ready d h =
     (λ node. (sequence : SequenceStep) × IsSequence journal state requester request sequence × IsDecided sequence (λ client. newcomer_of journal state client request.op) (own request node) (Some d))
     request.filehandle d (λ node k. decided_ready number journal state requester request own ready node k.0 d k.1 k.2) h
 
--- The lock owner that a request introduces is of the same client as the owner of the request.
+-- The lock owner that a request introduces is of the client of the request's owner. One that is introduced as unknown
+-- isn't known.
 
-abbrev pub IsOfClient : ClientId → Newcomer → Type 0
-IsOfClient client Nobody = ⊤
-IsOfClient client (Known newcomer) = is_same_client newcomer.client client ≡ true
-IsOfClient client (Unknown newcomer) = is_same_client newcomer.client client ≡ true
+abbrev IsOfClient : List KnownOwner → ClientId → Newcomer → Type 0
+IsOfClient owners client Nobody = ⊤
+IsOfClient owners client (Known newcomer) = is_same_client newcomer.client client ≡ true
+IsOfClient owners client (Unknown newcomer) =
+    (is_same_client newcomer.client client ≡ true) × (is_known_in owners (lock_owner newcomer) ≡ false)
 
-newcomer_if_client : (journal : History) (locker : NewLocker) (client : ClientId) → is_same_client locker.lock_owner.client client ≡ true → (found : Option KnownOwner) → IsOfClient client (newcomer_if journal locker found)
-newcomer_if_client journal locker client same None = same
-newcomer_if_client journal locker client same (Some o) =
-    cond_both (is_next locker.lock_seqid (kept_for journal o)) (Known locker.lock_owner) Nobody (IsOfClient client) (λ _. same) (λ _. tt)
+newcomer_if_client : (journal : History) (owners : List KnownOwner) (locker : NewLocker) (client : ClientId) → is_same_client locker.lock_owner.client client ≡ true
+    → (found : Option KnownOwner) → owner_of (lock_owner locker.lock_owner) owners ≡ found → IsOfClient owners client (newcomer_if journal locker found)
+newcomer_if_client journal owners locker client same None is = (same, ap is_some is)
+newcomer_if_client journal owners locker client same (Some o) is =
+    cond_both (is_next locker.lock_seqid (kept_for journal o)) (Known locker.lock_owner) Nobody (IsOfClient owners client) (λ _. same) (λ _. tt)
 
-newcomer_in_client : (journal : History) (state : State) (client : ClientId) (locker : Locker) → IsOfClient client (newcomer_in journal state client locker)
+newcomer_in_client : (journal : History) (state : State) (client : ClientId) (locker : Locker) → IsOfClient state.owners client (newcomer_in journal state client locker)
 newcomer_in_client journal state client (lockers.Known locker) = tt
 newcomer_in_client journal state client (lockers.New locker) =
-    cond_both (is_same_client locker.lock_owner.client client) (newcomer_by journal state locker) Nobody (IsOfClient client)
-    (λ same. newcomer_if_client journal locker client same (owner_of (lock_owner locker.lock_owner) state.owners)) (λ _. tt)
+    cond_both (is_same_client locker.lock_owner.client client) (newcomer_by journal state locker) Nobody (IsOfClient state.owners client)
+    (λ same. newcomer_if_client journal state.owners locker client same (owner_of (lock_owner locker.lock_owner) state.owners) refl) (λ _. tt)
 
-newcomer_of_client : (journal : History) (state : State) (client : ClientId) (op : Op) → IsOfClient client (newcomer_of journal state client op)
+newcomer_of_client : (journal : History) (state : State) (client : ClientId) (op : Op) → IsOfClient state.owners client (newcomer_of journal state client op)
 newcomer_of_client journal state client (ops.Lock args) = newcomer_in_client journal state client args.locker
 newcomer_of_client journal state client op = tt
 
@@ -172,13 +176,13 @@ HasPlaceFor state newcomer status = ⊤
 pub place_for_nobody : (state : State) (newcomer : Newcomer) (status : Status) → newcomer ≡ Nobody → HasPlaceFor state newcomer status
 place_for_nobody state newcomer status nobody = subst (λ n. HasPlaceFor state n status) (sym nobody) tt
 
-kept_ready : (state : State) (name : StateOwner) (newcomer : Newcomer) (status : Status) → is_live_in state.clients.confirmed name.client ≡ true → IsOfClient name.client newcomer
+kept_ready : (state : State) (name : StateOwner) (newcomer : Newcomer) (status : Status) → is_live_in state.clients.confirmed name.client ≡ true → IsOfClient state.owners name.client newcomer
     → HasPlaceFor state newcomer status → IsOwnerReady (kept_with name newcomer status) state
 kept_ready state name Nobody status live of place = tt
 kept_ready state name (Known newcomer) status live of place = tt
 kept_ready state name (Unknown newcomer) status live of place =
     cond_both (is_ok_status status) (owner_changes.Introduces name (lock_owner newcomer)) (owner_changes.Keeps name) (λ c. IsOwnerReady c state)
-    (λ ok. (subst (λ c. is_live_in state.clients.confirmed c ≡ true) (sym (equal_clients newcomer.client name.client of)) live, place ok)) (λ _. tt)
+    (λ ok. (subst (λ c. is_live_in state.clients.confirmed c ≡ true) (sym (equal_clients newcomer.client name.client of.0)) live, place ok, of.1)) (λ _. tt)
 
 pub continues_ready : (journal : History) (state : State) (op : Op) (name : StateOwner) (status : Status) → IsSound state → is_known_in state.owners name ≡ true
     → HasPlaceFor state (newcomer_of journal state name.client op) status
@@ -243,7 +247,7 @@ pub others_ready : (number : ℕ) (journal : History) (state : State) (requester
 others_ready number journal state requester op own sound other ready node passages.Continues owner ruling of fit h =
     let here = ready node owner ruling of fit h in
     (continues_ready journal state op owner (status_of ruling.answer) sound fit here.0, here.1)
-others_ready number journal state requester op own sound other ready node passages.Begins owner ruling of fit h = absurd (never (is_open op) other fit)
+others_ready number journal state requester op own sound other ready node passages.Begins owner ruling of fit h = absurd (never (is_open op) other fit.0)
 others_ready number journal state requester op own sound other ready node passages.Restarts owner ruling of fit h = absurd (never (is_open op) other fit.0)
 
 -- operations that introduce nobody, and whose changes are ready in each state

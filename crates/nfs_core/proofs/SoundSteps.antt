@@ -51,13 +51,15 @@ use Rattle.nfs_share.specs.Opens as opens
 use Rattle.nfs_share.specs.declared.open_state.OpenState.{OpenState}
 use Rattle.nfs_share.specs.Opens.{after_downgrade, is_numbered, is_refused, open_named_by, open_of, with_each, with_next_seqid, with_opening, without}
 
--- The client of an owner that becomes known is live, and there is a place for the owner. An owner that is dropped isn't
--- confirmed.
+-- The client of an owner that becomes known is live, there is a place for the owner, and it wasn't known. An owner that is
+-- dropped isn't confirmed.
 abbrev pub IsOwnerReady : OwnerChange → State → Type 0
 IsOwnerReady (owner_changes.Introduces name newcomer) state =
     (is_live_in state.clients.confirmed newcomer.client ≡ true) × (nat_lt (length state.owners) OWNER_LIMIT ≡ true)
+    × (is_known_in state.owners newcomer ≡ false)
 IsOwnerReady (owner_changes.Records name confirmed) state =
     (is_live_in state.clients.confirmed name.client ≡ true) × (nat_lt (length state.owners) OWNER_LIMIT ≡ true)
+    × (is_known_in state.owners (open_owner name) ≡ false)
 IsOwnerReady (owner_changes.Restarts name confirmed) state =
     (is_live_in state.clients.confirmed name.client ≡ true) × (is_confirmed (open_owner name) state.owners ≡ false)
     × (nat_lt (length (without_owner (open_owner name) state.owners)) OWNER_LIMIT ≡ true)

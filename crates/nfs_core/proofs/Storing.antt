@@ -1,6 +1,7 @@
 -- What a decision and its effect need of a core's store follows from what always holds of the store.
 use Rattle.nfs_core.proofs.FileChanges.{Lawful-changes}
 use Rattle.nfs_core.proofs.Journals.{Lawful-confirm, Lawful-state}
+use Rattle.nfs_core.proofs.SoundNames.{stored_apart}
 use Rattle.nfs_core.proofs.SoundNumbers.{given_numbers}
 use Rattle.nfs_core.specs.Following.{StoreAgrees}
 use Rattle.nfs_core.specs.Lawful.{Lawful}
@@ -14,10 +15,12 @@ pub store_agrees : ((journal : History) (state : State) → Lawful journal state
 store_agrees is_safe store lawful agrees =
     let journal = store.journal.history in
     let state = state_of store.tables in
+    let safe = is_safe journal state lawful in
     record {
       confirms = Lawful-confirm journal state lawful;
       states = Lawful-state journal state lawful;
       changes = Lawful-changes journal state lawful;
-      given = given_numbers state (is_safe journal state lawful).numbers_given;
+      given = given_numbers state safe.numbers_given;
       owners = agrees;
+      owners_differ = stored_apart store.tables.owners.owners safe.owners_differ;
     }

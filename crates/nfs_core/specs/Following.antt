@@ -8,6 +8,7 @@ use Rattle.nfs_core.specs.declared.event.Event.{Event}
 use Rattle.nfs_core.specs.declared.event.Event.TheVariants as events
 use Rattle.nfs_core.specs.declared.following.FollowError.{FollowError}
 use Rattle.nfs_core.specs.declared.following.FollowError.TheVariants as errors
+use Rattle.nfs_owners.specs.Owners.{AreApart}
 use Rattle.nfs_rules.specs.declared.decision.Decision.{Decision}
 use Rattle.nfs_rules.specs.operations.{IsRuled}
 use Rattle.nfs_state.specs.declared.effect.Effect.{Effect}
@@ -42,6 +43,8 @@ pub record StoreAgrees (store : Store) : Type 0 where
   pub changes : HaveFewChanges (length store.journal.history.entries)
       (state_of store.tables).files
   pub owners : OwnersAgree store
+  -- no two stored owners have one name
+  pub owners_differ : AreApart store.tables.owners.owners
 
 -- the request can be asked of a server with the journal's tree and profile
 abbrev pub CanBeAsked : History → Request → Type 0

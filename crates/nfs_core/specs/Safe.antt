@@ -13,7 +13,7 @@ use Rattle.nfs_state.specs.Files.{FileState}
 use Rattle.nfs_state.specs.Owners.{KnownOwner, is_confirmed, owner_of}
 use Rattle.nfs_state.specs.State.{State, History}
 use Rattle.nfs_owners.specs.Registry.{AreRecords, Registry, record_of}
-use Rattle.nfs_owners.specs.StateOwner.{lock_owner, open_owner}
+use Rattle.nfs_owners.specs.StateOwner.{is_same_state_owner, lock_owner, open_owner}
 use Rattle.nfs_owners.specs.declared.client_record.ClientRecord.{ClientRecord}
 use Rattle.nfs_owners.specs.declared.slots.TheConstants.{GENERATIONS}
 use Rattle.nfs_owners.specs.declared.owner.TheConstants.{OWNER_LIMIT}
@@ -127,6 +127,10 @@ have_same_owner a b = is_same_owner a.owner b.owner
 abbrev pub have_same_lock_owner : ByteLocks → ByteLocks → Bool
 have_same_lock_owner a b = is_same_lock_owner a.owner b.owner
 
+-- The owners have one name: they are of one kind and one client, whose name for them is one (section 9.1.5).
+abbrev pub have_same_name : KnownOwner → KnownOwner → Bool
+have_same_name a b = is_same_state_owner a.name b.name
+
 -- both records have one clientid
 abbrev pub have_same_client : ClientRecord → ClientRecord → Bool
 have_same_client r s = is_same_client r.state.client s.state.client
@@ -174,6 +178,8 @@ pub record IsSafe (state : State) : Type 0 where
   pub live : EachOpen (HasLiveClient state) state
   -- an owner is known only as long as its client has a confirmed record
   pub owners_live : AllByRecursion (IsOfLiveClient state) state.owners
+  -- no two known owners have one name
+  pub owners_differ : IsDistinct have_same_name state.owners
   -- no byte of a node is held by two lock owners, unless both hold it for reading
   pub locks_compatible : AllByRecursion AllLocksAreCompatible state.locks
   pub lockers_known : EachLock (HasKnownLocker state) state

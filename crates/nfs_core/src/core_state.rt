@@ -8,7 +8,7 @@ ghost use Rattle.nfs_core.specs.Events.{IsForgotten, IsForgottenFrom, IsNotEnter
 ghost use Rattle.nfs_core.specs.Following.{MayFollow};
 ghost use Rattle.nfs_core.specs.LiveClients.{AreNumbered, AreOfOneRun};
 ghost use Rattle.nfs_core.specs.Recalls.{AreLeftOf, no_recalls};
-ghost use Rattle.nfs_core.specs.Safe.{IsSafe, KeepRequests};
+ghost use Rattle.nfs_core.specs.Safe.{HaveFewBytes, IsSafe, KeepRequests};
 ghost use Rattle.nfs_core.specs.Server.{AreAlike, Enters, IsLawful};
 ghost use Rattle.nfs_core.specs.Step.{HasNoStep};
 ghost use Rattle.nfs_core.specs.declared.event.Event.TheVariants as events;
@@ -19,6 +19,7 @@ ghost use Rattle.nfs_state.specs.Kept.{Agrees};
 ghost use Rattle.nfs_state.specs.Stored.{empty_store, meaning};
 ghost use Rattle.nfs_state.specs.declared.entry.Entry.TheVariants as entries;
 ghost use Rattle.nfs_tree.specs.Profiles.{has_entry};
+ghost use Rattle.nfs_tree.specs.Tree.{IsTree};
 ghost use Rattle.nfs_xdr.specs.Op.{opnum_of};
 ghost use Rattle.nfs_xdr.specs.OpResult.{op_result};
 ghost use Rattle.nfs_xdr.specs.Opnum.{answer_limit};
@@ -364,8 +365,12 @@ impl Core {
         ensures lawful { IsLawful self.now }
         ensures safe { IsSafe (meaning self.now.stored) }
         ensures counted { KeepRequests self.now.journal (meaning self.now.stored) }
+        ensures tree { IsTree self.now.journal.nodes }
+        ensures bytes { HaveFewBytes (meaning self.now.stored).files }
     {
         lawful_is_safe();
-        &self.held.store.journal
+        let journal = &self.held.store.journal;
+        journal.tree().nodes_are_a_tree();
+        journal
     }
 }

@@ -2,7 +2,7 @@
 
 ghost use Rattle.std.specs.Prelude.{◌≡◌, ◌<◌, ◌≤◌, ◌+◌, ℕ, true, Some, IfOk, IfSome, OnSome, option_map, position};
 ghost use Rattle.std.specs.Option.{option_copied};
-ghost use Rattle.nfs_tree.specs.Tree.{child, handle_of, is_child, is_directory, node_at, node_count, node_of, resolution, text_of};
+ghost use Rattle.nfs_tree.specs.Tree.{IsTree, child, handle_of, is_child, is_directory, node_at, node_count, node_of, resolution, text_of};
 
 use crate::{NAME_LIMIT, Node, NodeKind, Policy};
 use byteorder::{BigEndian, ByteOrder};
@@ -55,6 +55,13 @@ impl Clone for Tree {
 }
 
 impl Tree {
+    /// The law that the nodes of a tree are one: each fits those before it, and they are no more than a tree can have.
+    pub fn nodes_are_a_tree(&self)
+        ensures { IsTree self.now.nodes }
+    {
+        let _ = &self.nodes;
+    }
+
     /// How many nodes there are, including the root: their numbers are exactly those below this one.
     pub fn len(&self) -> u32
         ensures count { result ≡ node_count self.now.nodes }
