@@ -1,4 +1,7 @@
--- The arguments and results of each operation as XDR forms.
+-- Each operation as a record: its number, its forms, what it names, and how long its result may be.
+pub mod Names
+pub mod Short
+pub mod Operation
 pub mod Access
 pub mod Close
 pub mod Commit

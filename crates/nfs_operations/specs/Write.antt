@@ -4,11 +4,16 @@
 use Rattle.std.proofs.Common.{refl}
 use Rattle.nfs_operations.specs.declared.write.Write.{Write}
 use Rattle.nfs_operations.specs.declared.write.WriteOk.{WriteOk}
-use Rattle.nfs_forms.specs.Answer.{PlainAnswer, plain_answer}
+use Rattle.nfs_forms.specs.Answer.{PlainAnswer, plain_answer, status_of}
 use Rattle.nfs_forms.specs.StableHow.{stable_how}
 use Rattle.nfs_forms.specs.Stateid.{stateid}
 use Rattle.nfs_forms.specs.Verifier.{verifier}
 use Rattle.xdr.specs.Form.{Form, ◌and◌, of, bytes as opaque_bytes, u32, u64}
+use Rattle.nfs_forms.specs.declared.answer.Answer.TheVariants.{Refused}
+use Rattle.nfs_operations.specs.Names.{State}
+use Rattle.nfs_operations.specs.Operation.{Operation, usual_limit}
+use Rattle.nfs_operations.specs.Short.{Any}
+use Rattle.nfs_operations.specs.declared.class.Class.TheVariants.{OnState}
 
 -- struct WRITE4args { stateid4 stateid; offset4 offset; stable_how4 stable; opaque data<>; };
 unfoldable pub arguments : Form Write
@@ -27,3 +32,16 @@ write_ok =
 -- union WRITE4res switch (nfsstat4 status) { case NFS4_OK: WRITE4resok resok4; default: void; };
 abbrev pub result : Form (PlainAnswer WriteOk)
 result = plain_answer write_ok
+
+abbrev pub operation : Operation Write (PlainAnswer WriteOk)
+operation = record {
+  number = 38;
+  class = OnState;
+  limit = usual_limit;
+  arguments = arguments;
+  result = result;
+  refused = Refused;
+  status = status_of;
+  names = λ args. State args.stateid;
+  IsShort = Any;
+}

@@ -3,6 +3,8 @@
 #![tactic(auto)]
 
 pub mod access;
+mod arguments;
+mod class;
 pub mod close;
 pub mod commit;
 pub mod delegreturn;
@@ -13,9 +15,11 @@ pub mod lock;
 pub mod lockt;
 pub mod locku;
 pub mod lookup;
+mod names;
 pub mod open;
 pub mod open_confirm;
 pub mod open_downgrade;
+mod outcome;
 pub mod putfh;
 pub mod putrootfh;
 pub mod read;
@@ -29,4 +33,8 @@ pub mod setclientid;
 pub mod setclientid_confirm;
 pub mod write;
 
+pub use arguments::Arguments;
+pub use class::Class;
 pub use limits::limit_of_ids;
+pub use names::Names;
+pub use outcome::{Data, Outcome};

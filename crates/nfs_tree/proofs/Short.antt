@@ -17,7 +17,7 @@ use Rattle.nfs_tree.specs.operations.Restorefh.{restorefh_of}
 use Rattle.nfs_tree.specs.operations.Savefh.{savefh_of}
 use Rattle.nfs_xdr.specs.Op.{opnum_of}
 use Rattle.nfs_xdr.specs.OpResult as of_results
-use Rattle.nfs_xdr.specs.Short.{IsShort}
+use Rattle.nfs_xdr.specs.OpResult.{IsShort}
 use Rattle.nfs_xdr.specs.declared.op_result.OpResult.TheVariants as results
 use Rattle.nfs_xdr.specs.declared.op.Op.{Op}
 use Rattle.nfs_xdr.specs.declared.op.Op.TheVariants as ops

@@ -18,38 +18,13 @@ use Rattle.nfs_forms.specs.declared.status.Refusal.{Refusal}
 use Rattle.nfs_forms.specs.declared.status.Refusal.TheVariants as refusals
 use Rattle.nfs_forms.specs.declared.status.Status.{Status}
 use Rattle.nfs_forms.specs.declared.status.Status.TheVariants as statuses
-use Rattle.nfs_xdr.specs.Opnum.{change_of, operation_of, opnum}
-use Rattle.nfs_xdr.specs.OpResult.{op_result, refused_change, refused_without_rule}
+use Rattle.nfs_xdr.specs.Opnum.{opnum}
+use Rattle.nfs_xdr.specs.OpResult.{op_result}
+use Rattle.nfs_xdr.specs.Table.{operation_of, unsupported_row}
 use Rattle.nfs_forms.specs.Status.{number_of, number_of_refusal, status}
 use Rattle.xdr.specs.Form.{◌and◌, constant, u32}
 use Rattle.xdr.specs.Writing.{Writes, written_number, written_u32}
 use Rattle.xdr.specs.declared.wire_error.WireError.{WireError}
-
-pub refusal_fits : (r : Refusal) → number_of_refusal r < 2 ^ 32
-refusal_fits refusals.NoEnt = omega arith
-refusal_fits r = omega arith
-
-pub status_fits : (s : Status) → number_of s < 2 ^ 32
-status_fits (statuses.Refused r) = refusal_fits r
-status_fits statuses.Ok = omega arith
-status_fits s = omega arith
-
--- SETATTR's result with at most two words of attributes.
-pub set_len : (r : SetattrResult) → length r.attributes ≤ 2 → length (result.encoding r) ≤ 16
-unfolding result status written_number
-set_len r few =
-    let number : length (written_u32 (number_of r.status)) ≡ 4 = length-bytes_high_first 4 (number_of r.status) in
-    let count : length (written_u32 (length r.attributes)) ≡ 4 = length-bytes_high_first 4 (length r.attributes) in
-    let words = flat_map written_u32 r.attributes in
-    omega (
-      arith,
-      few,
-      number,
-      count,
-      words_len r.attributes,
-      length-append (written_u32 (number_of r.status)) (written_u32 (length r.attributes) ++ words),
-      length-append (written_u32 (length r.attributes)) words,
-    )
 
 -- Of operations without a rule.
 pub unsupported_encoding : (o : Unsupported)
@@ -105,18 +80,24 @@ unfolding op_result opnum written_number
 read_only_len changes.Create = refl
 read_only_len change = refl
 
-change_fits : (found : Option DirectoryChange) (o : Unsupported) → op_result.Fits (refused_change found o)
-change_fits (Some change) o = read_only_fits change
-change_fits None o = unsupported_fits o
-
-change_len : (found : Option DirectoryChange) (o : Unsupported) → length (op_result.encoding (refused_change found o)) ≡ 8
-change_len (Some change) o = read_only_len change
-change_len None o = unsupported_len o
-
-pub refused_fits : (o : Unsupported) (r : Refusal) → op_result.Fits (refused_without_rule o r)
-refused_fits o refusals.Rofs = change_fits (change_of o) o
+pub refused_fits : (o : Unsupported) (r : Refusal) → op_result.Fits ((unsupported_row o).refusal r)
+refused_fits without.Create refusals.Rofs = read_only_fits changes.Create
+refused_fits without.Link refusals.Rofs = read_only_fits changes.Link
+refused_fits without.Remove refusals.Rofs = read_only_fits changes.Remove
+refused_fits without.Rename refusals.Rofs = read_only_fits changes.Rename
+refused_fits without.Create r = unsupported_fits without.Create
+refused_fits without.Link r = unsupported_fits without.Link
+refused_fits without.Remove r = unsupported_fits without.Remove
+refused_fits without.Rename r = unsupported_fits without.Rename
 refused_fits o r = unsupported_fits o
 
-pub refused_len : (o : Unsupported) (r : Refusal) → length (op_result.encoding (refused_without_rule o r)) ≡ 8
-refused_len o refusals.Rofs = change_len (change_of o) o
+pub refused_len : (o : Unsupported) (r : Refusal) → length (op_result.encoding ((unsupported_row o).refusal r)) ≡ 8
+refused_len without.Create refusals.Rofs = read_only_len changes.Create
+refused_len without.Link refusals.Rofs = read_only_len changes.Link
+refused_len without.Remove refusals.Rofs = read_only_len changes.Remove
+refused_len without.Rename refusals.Rofs = read_only_len changes.Rename
+refused_len without.Create r = unsupported_len without.Create
+refused_len without.Link r = unsupported_len without.Link
+refused_len without.Remove r = unsupported_len without.Remove
+refused_len without.Rename r = unsupported_len without.Rename
 refused_len o r = unsupported_len o

@@ -4,8 +4,9 @@ ghost use Rattle.std.specs.Prelude.{◌≡◌, ◌≤◌, length};
 ghost use Rattle.nfs_xdr.specs.OpResult as results;
 ghost use Rattle.nfs_xdr.specs.declared.opnum.Opnum.TheVariants as opnums;
 ghost use Rattle.nfs_xdr.specs.Opnum.{answer_limit};
-ghost use Rattle.nfs_xdr.specs.OpResult.{change_case, opnum_of, refusal_of, refused_without_rule, result_case, status_of};
+ghost use Rattle.nfs_xdr.specs.OpResult.{opnum_of, refusal_of, result_case, status_of};
 ghost use Rattle.nfs_xdr.specs.declared.op_result.OpResult.TheVariants as made;
+ghost use Rattle.nfs_xdr.specs.Table.{change_case, unsupported_row};
 ghost use Rattle.xdr.specs.Reading.{Gives};
 ghost use Rattle.xdr.specs.Switch.{case_at};
 ghost use Rattle.xdr.specs.Writing.{Writes};
@@ -13,7 +14,7 @@ ghost use Rattle.xdr.specs.Writing.{Writes};
 use crate::opnum::each_operation;
 use crate::{Answer, DirectoryChange, Opnum, Refusal, Status, Unsupported};
 use nfs_operations as of;
-use nfs_operations::setattr::SetattrResult;
+use nfs_operations::Outcome;
 use std::alloc::{AllocError, Global};
 use xdr::{Measure, Wire, WireError, read_constant, read_u32, write_two};
 
@@ -77,16 +78,6 @@ macro_rules! write_result_of {
     };
 }
 
-// The result of one operation with a rule, refused.
-macro_rules! refused {
-    (Setattr $refusal:expr) => {
-        OpResult::Setattr(SetattrResult::refused($refusal))
-    };
-    ($X:ident $refusal:expr) => {
-        OpResult::$X(Answer::Refused($refusal))
-    };
-}
-
 macro_rules! refusal_of_opnum {
     (
         [$($X:ident = $n:literal $c:ident,)*]
@@ -94,8 +85,8 @@ macro_rules! refusal_of_opnum {
         $opnum:expr, $refusal:expr
     ) => {
         match $opnum {
-            $(Opnum::$X => refused!($X $refusal),)*
-            $(Opnum::$Y => refused!($Y $refusal),)*
+            $(Opnum::$X => OpResult::$X(Outcome::refused($refusal)),)*
+            $(Opnum::$Y => OpResult::$Y(Outcome::refused($refusal)),)*
             Opnum::Unsupported(op) => op.refused($refusal),
             Opnum::Illegal => OpResult::Illegal(Answer::Refused($refusal)),
         }
@@ -219,7 +210,7 @@ const READ_ONLY: u32 = 30;
 impl Unsupported {
     // The result of the operation if it is refused with this status.
     fn refused(self, refusal: Refusal) -> OpResult
-        ensures { result ≡ refused_without_rule self refusal }
+        ensures { result ≡ (unsupported_row self).refusal refusal }
     {
         if refusal != Refusal::Rofs {
             return OpResult::Unsupported(self);

@@ -2,9 +2,11 @@
 
 ghost use Rattle.std.specs.Prelude.{◌≡◌};
 ghost use Rattle.nfs_xdr.specs.Opnum as opnums;
-ghost use Rattle.nfs_xdr.specs.Opnum.{answer_limit, change_of, class_of, number_of, number_of_unsupported, operation_of, opnum_of, room_of};
+ghost use Rattle.nfs_xdr.specs.Opnum.{answer_limit, change_of, class_of, number_of, number_of_unsupported, opnum_of, room_of};
+ghost use Rattle.nfs_xdr.specs.Table.{operation_of};
 ghost use Rattle.xdr.specs.Reading.{Answers};
 
+use nfs_operations::Class;
 use std::alloc::Global;
 use xdr::{Wire, WireError, read_u32, write_u32};
 
@@ -142,19 +144,6 @@ pub enum Opnum {
     Unsupported(Unsupported),
     /// The operation whose number is written in the answer to an operation that doesn't exist.
     Illegal,
-}
-
-/// What an operation works on.
-#[derive(Clone, Copy, PartialEq, Eq)]
-pub enum Class {
-    /// Only the tree of files and the filehandles.
-    OnTree,
-    /// The state: every answer except NFS4ERR_RESOURCE is an entry of the journal.
-    OnState,
-    /// Only the leases of the clients: it has no entry in the journal.
-    OnLeases,
-    /// Nothing: this server doesn't implement it, and doesn't run it.
-    OnNothing,
 }
 
 macro_rules! number_of_opnum {
