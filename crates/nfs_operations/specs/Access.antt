@@ -1,5 +1,5 @@
 -- ACCESS (RFC 7530, section 16.1): its argument is a number, and so are both parts of its result.
-use Rattle.std.specs.Prelude.{ℕ}
+use Rattle.std.specs.Prelude.{ℕ, true}
 use Rattle.std.proofs.Common.{refl}
 use Rattle.nfs_operations.specs.declared.access.AccessBits.{AccessBits}
 use Rattle.nfs_forms.specs.Answer.{PlainAnswer, plain_answer, status_of}
@@ -28,6 +28,7 @@ abbrev pub operation : Operation ℕ (PlainAnswer AccessBits)
 operation = record {
   number = 3;
   class = OnTree;
+  is_plain = true;
   limit = usual_limit;
   arguments = arguments;
   result = result;

@@ -1,4 +1,5 @@
 -- CLOSE (RFC 7530, section 16.2): its arguments are a sequence id and an open, and its result a stateid.
+use Rattle.std.specs.Prelude.{true}
 use Rattle.std.proofs.Common.{refl}
 use Rattle.nfs_operations.specs.declared.close.Close.{Close}
 use Rattle.nfs_forms.specs.declared.stateid.Stateid.{Stateid}
@@ -25,6 +26,7 @@ abbrev pub operation : Operation Close (PlainAnswer Stateid)
 operation = record {
   number = 4;
   class = OnState;
+  is_plain = true;
   limit = usual_limit;
   arguments = arguments;
   result = result;

@@ -1,5 +1,6 @@
 -- COMMIT (RFC 7530, section 16.3): its arguments say which bytes of the file are to be in stable storage; its result is
 -- a verifier of this start of the server.
+use Rattle.std.specs.Prelude.{false}
 use Rattle.std.proofs.Common.{refl}
 use Rattle.nfs_operations.specs.declared.commit.Commit.{Commit}
 use Rattle.nfs_forms.specs.declared.verifier.Verifier.{Verifier}
@@ -27,6 +28,7 @@ abbrev pub operation : Operation Commit (PlainAnswer Verifier)
 operation = record {
   number = 5;
   class = OnTree;
+  is_plain = false;
   limit = usual_limit;
   arguments = arguments;
   result = result;

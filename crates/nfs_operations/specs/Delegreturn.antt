@@ -1,4 +1,5 @@
 -- DELEGRETURN (RFC 7530, section 16.6): its argument is a delegation, and its result a status.
+use Rattle.std.specs.Prelude.{true}
 use Rattle.std.proofs.Common.{refl}
 use Rattle.nfs_operations.specs.declared.delegreturn.Delegreturn.{Delegreturn}
 use Rattle.nfs_forms.specs.Answer.{PlainAnswer, plain_answer, status_of}
@@ -22,6 +23,7 @@ abbrev pub operation : Operation Delegreturn (PlainAnswer (Unit {0}))
 operation = record {
   number = 8;
   class = OnState;
+  is_plain = true;
   limit = usual_limit;
   arguments = arguments;
   result = result;

@@ -1,5 +1,5 @@
 -- GETATTR (RFC 7530, section 16.7): its argument is a bitmap of attributes, and its result is their values.
-use Rattle.std.specs.Prelude.{◌≤◌, length, ℕ, List}
+use Rattle.std.specs.Prelude.{◌≤◌, length, ℕ, List, true}
 use Rattle.nfs_forms.specs.declared.fattr.Fattr.{Fattr}
 use Rattle.nfs_forms.specs.Answer.{PlainAnswer, plain_answer, status_of}
 use Rattle.nfs_forms.specs.Bitmap.{bitmap}
@@ -29,6 +29,7 @@ abbrev pub operation : Operation (List ℕ) (PlainAnswer Fattr)
 operation = record {
   number = 9;
   class = OnState;
+  is_plain = true;
   limit = usual_limit;
   arguments = arguments;
   result = result;

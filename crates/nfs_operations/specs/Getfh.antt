@@ -1,5 +1,5 @@
 -- GETFH (RFC 7530, section 16.8): it has no arguments, and its result is a filehandle.
-use Rattle.std.specs.Prelude.{ℕ, List}
+use Rattle.std.specs.Prelude.{ℕ, List, true}
 use Rattle.nfs_forms.specs.Answer.{PlainAnswer, plain_answer, status_of}
 use Rattle.nfs_forms.specs.FileHandle.{file_handle}
 use Rattle.xdr.specs.Form.{Form, nothing}
@@ -22,6 +22,7 @@ abbrev pub operation : Operation (Unit {0}) (PlainAnswer (List ℕ))
 operation = record {
   number = 10;
   class = OnTree;
+  is_plain = true;
   limit = usual_limit;
   arguments = arguments;
   result = result;

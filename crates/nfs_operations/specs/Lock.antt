@@ -1,5 +1,6 @@
 -- LOCK (RFC 7530, section 16.10): its arguments are bytes of a file, how they are to be locked and for whom; its result
 -- is a stateid, or with NFS4ERR_DENIED a lock that is in the way.
+use Rattle.std.specs.Prelude.{true}
 use Rattle.std.proofs.Common.{refl}
 use Rattle.nfs_forms.specs.declared.answer.Answer.{Answer}
 use Rattle.nfs_forms.specs.declared.lock_denied.LockDenied.{LockDenied}
@@ -40,6 +41,7 @@ abbrev pub operation : Operation Lock (Answer Stateid LockDenied (Unit {0}))
 operation = record {
   number = 12;
   class = OnState;
+  is_plain = true;
   limit = usual_limit;
   arguments = arguments;
   result = result;

@@ -1,5 +1,6 @@
 -- LOCKT (RFC 7530, section 16.11): its arguments are bytes of a file, how they would be locked and for whom; its result
 -- is a status, with NFS4ERR_DENIED a lock that would be in the way.
+use Rattle.std.specs.Prelude.{true}
 use Rattle.std.proofs.Common.{refl}
 use Rattle.nfs_forms.specs.declared.answer.Answer.{Answer}
 use Rattle.nfs_forms.specs.declared.lock_denied.LockDenied.{LockDenied}
@@ -31,6 +32,7 @@ abbrev pub operation : Operation Lockt (Answer (Unit {0}) LockDenied (Unit {0}))
 operation = record {
   number = 13;
   class = OnState;
+  is_plain = true;
   limit = usual_limit;
   arguments = arguments;
   result = result;

@@ -1,5 +1,6 @@
 -- LOCKU (RFC 7530, section 16.12): its arguments are a lock state, a sequence id, and the bytes that are given up; its
 -- result is the lock state's new stateid.
+use Rattle.std.specs.Prelude.{true}
 use Rattle.std.proofs.Common.{refl}
 use Rattle.nfs_operations.specs.declared.locku.Locku.{Locku}
 use Rattle.nfs_forms.specs.declared.stateid.Stateid.{Stateid}
@@ -35,6 +36,7 @@ abbrev pub operation : Operation Locku (PlainAnswer Stateid)
 operation = record {
   number = 14;
   class = OnState;
+  is_plain = true;
   limit = usual_limit;
   arguments = arguments;
   result = result;

@@ -1,5 +1,5 @@
 -- LOOKUP (RFC 7530, section 16.13): its argument is a name, and its result a status.
-use Rattle.std.specs.Prelude.{ℕ, List}
+use Rattle.std.specs.Prelude.{ℕ, List, true}
 use Rattle.nfs_forms.specs.Answer.{PlainAnswer, plain_answer, status_of}
 use Rattle.xdr.specs.Form.{Form, nothing, bytes}
 use Rattle.nfs_forms.specs.declared.answer.Answer.TheVariants.{Refused}
@@ -20,6 +20,7 @@ abbrev pub operation : Operation (List ℕ) (PlainAnswer (Unit {0}))
 operation = record {
   number = 15;
   class = OnTree;
+  is_plain = true;
   limit = usual_limit;
   arguments = arguments;
   result = result;

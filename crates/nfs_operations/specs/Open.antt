@@ -1,6 +1,6 @@
 -- OPEN (RFC 7530, section 16.16): its arguments name a file, and how it is opened and by whom; its result is a stateid,
 -- and what came of the creation and of the delegation.
-use Rattle.std.specs.Prelude.{◌≡◌, []}
+use Rattle.std.specs.Prelude.{◌≡◌, [], true}
 use Rattle.std.proofs.Common.{refl}
 use Rattle.nfs_operations.specs.declared.«open».Open.{Open}
 use Rattle.nfs_operations.specs.declared.«open».OpenOk.{OpenOk}
@@ -61,6 +61,7 @@ abbrev pub operation : Operation Open (PlainAnswer OpenOk)
 operation = record {
   number = 18;
   class = OnState;
+  is_plain = true;
   limit = usual_limit;
   arguments = arguments;
   result = result;

@@ -1,5 +1,6 @@
 -- OPEN_CONFIRM (RFC 7530, section 16.18): its arguments are an open and a sequence id, and its result the open's new
 -- stateid.
+use Rattle.std.specs.Prelude.{true}
 use Rattle.std.proofs.Common.{refl}
 use Rattle.nfs_operations.specs.declared.open_confirm.OpenConfirm.{OpenConfirm}
 use Rattle.nfs_forms.specs.declared.stateid.Stateid.{Stateid}
@@ -27,6 +28,7 @@ abbrev pub operation : Operation OpenConfirm (PlainAnswer Stateid)
 operation = record {
   number = 20;
   class = OnState;
+  is_plain = true;
   limit = usual_limit;
   arguments = arguments;
   result = result;

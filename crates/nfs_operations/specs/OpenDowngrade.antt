@@ -1,5 +1,6 @@
 -- OPEN_DOWNGRADE (RFC 7530, section 16.19): its arguments are an open, a sequence id, and the access and deny that the
 -- open is to have; its result is the open's new stateid.
+use Rattle.std.specs.Prelude.{true}
 use Rattle.std.proofs.Common.{refl}
 use Rattle.nfs_operations.specs.declared.open_downgrade.OpenDowngrade.{OpenDowngrade}
 use Rattle.nfs_forms.specs.declared.stateid.Stateid.{Stateid}
@@ -28,6 +29,7 @@ abbrev pub operation : Operation OpenDowngrade (PlainAnswer Stateid)
 operation = record {
   number = 21;
   class = OnState;
+  is_plain = true;
   limit = usual_limit;
   arguments = arguments;
   result = result;

@@ -1,6 +1,6 @@
 -- What there is to say of an operation beside its rule (RFC 7530, section 16), in one record, which stands in the
 -- operation's own file.
-use Rattle.std.specs.Prelude.{ℕ}
+use Rattle.std.specs.Prelude.{ℕ, Bool}
 use Rattle.nfs_forms.specs.declared.status.Refusal.{Refusal}
 use Rattle.nfs_forms.specs.declared.status.Status.{Status}
 use Rattle.nfs_operations.specs.Names.{Names}
@@ -11,6 +11,8 @@ pub record Operation (Arguments Result : Type 0) : Type 1 where
   pub number : ℕ
   -- what the operation works on
   pub class : Class
+  -- the profile "plain" has the operation, too
+  pub is_plain : Bool
   -- no result is longer
   pub limit : ℕ
   pub arguments : Form Arguments

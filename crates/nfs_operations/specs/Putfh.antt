@@ -1,5 +1,5 @@
 -- PUTFH (RFC 7530, section 16.20): its argument is a filehandle, and its result a status.
-use Rattle.std.specs.Prelude.{ℕ, List}
+use Rattle.std.specs.Prelude.{ℕ, List, true}
 use Rattle.nfs_forms.specs.Answer.{PlainAnswer, plain_answer, status_of}
 use Rattle.nfs_forms.specs.FileHandle.{file_handle}
 use Rattle.xdr.specs.Form.{Form, nothing}
@@ -21,6 +21,7 @@ abbrev pub operation : Operation (List ℕ) (PlainAnswer (Unit {0}))
 operation = record {
   number = 22;
   class = OnTree;
+  is_plain = true;
   limit = usual_limit;
   arguments = arguments;
   result = result;

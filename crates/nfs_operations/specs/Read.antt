@@ -1,6 +1,6 @@
 -- READ (RFC 7530, section 16.23): its arguments are a stateid, and which bytes of the file are asked for; its result is
 -- the bytes, and whether the file ends with them. No limit is given for the bytes.
-use Rattle.std.specs.Prelude.{◌≤◌, length}
+use Rattle.std.specs.Prelude.{◌≤◌, length, true}
 use Rattle.std.proofs.Common.{refl}
 use Rattle.nfs_operations.specs.declared.read.Read.{Read}
 use Rattle.nfs_operations.specs.declared.read.ReadOk.{ReadOk}
@@ -38,6 +38,7 @@ abbrev pub operation : Operation Read (PlainAnswer ReadOk)
 operation = record {
   number = 25;
   class = OnState;
+  is_plain = true;
   limit = 67_572;
   arguments = arguments;
   result = result;

@@ -1,7 +1,7 @@
 -- READDIR (RFC 7530, section 16.24): its arguments say behind which entry of the directory the listing begins, how long
 -- the answer may be, and which attributes of each entry are asked for; its result is entries, and whether they are the
 -- last ones. No limit is given for names, and none for the entries.
-use Rattle.std.specs.Prelude.{◌≤◌, length}
+use Rattle.std.specs.Prelude.{◌≤◌, length, false}
 use Rattle.std.proofs.Common.{refl}
 use Rattle.nfs_operations.specs.declared.readdir.DirectoryEntry.{DirectoryEntry}
 use Rattle.nfs_operations.specs.declared.readdir.Readdir.{Readdir}
@@ -59,6 +59,7 @@ abbrev pub operation : Operation Readdir (PlainAnswer ReaddirOk)
 operation = record {
   number = 26;
   class = OnState;
+  is_plain = false;
   limit = 67_572;
   arguments = arguments;
   result = result;

@@ -1,4 +1,5 @@
 -- RELEASE_LOCKOWNER (RFC 7530, section 16.37): its argument is a lock owner, and its result a status.
+use Rattle.std.specs.Prelude.{true}
 use Rattle.std.proofs.Common.{refl}
 use Rattle.nfs_operations.specs.declared.release_lockowner.ReleaseLockowner.{ReleaseLockowner}
 use Rattle.nfs_forms.specs.Answer.{PlainAnswer, plain_answer, status_of}
@@ -22,6 +23,7 @@ abbrev pub operation : Operation ReleaseLockowner (PlainAnswer (Unit {0}))
 operation = record {
   number = 39;
   class = OnState;
+  is_plain = true;
   limit = usual_limit;
   arguments = arguments;
   result = result;

@@ -1,4 +1,5 @@
 -- RENEW (RFC 7530, section 16.28): its argument is a clientid, and its result a status.
+use Rattle.std.specs.Prelude.{true}
 use Rattle.std.proofs.Common.{refl}
 use Rattle.nfs_operations.specs.declared.renew.Renew.{Renew}
 use Rattle.nfs_forms.specs.Answer.{PlainAnswer, plain_answer, status_of}
@@ -22,6 +23,7 @@ abbrev pub operation : Operation Renew (PlainAnswer (Unit {0}))
 operation = record {
   number = 30;
   class = OnLeases;
+  is_plain = true;
   limit = usual_limit;
   arguments = arguments;
   result = result;

@@ -1,4 +1,5 @@
 -- RESTOREFH (RFC 7530, section 16.29): it has no arguments, and its result is a status.
+use Rattle.std.specs.Prelude.{true}
 use Rattle.nfs_forms.specs.Answer.{PlainAnswer, plain_answer, status_of}
 use Rattle.xdr.specs.Form.{Form, nothing}
 use Rattle.nfs_forms.specs.declared.answer.Answer.TheVariants.{Refused}
@@ -19,6 +20,7 @@ abbrev pub operation : Operation (Unit {0}) (PlainAnswer (Unit {0}))
 operation = record {
   number = 31;
   class = OnTree;
+  is_plain = true;
   limit = usual_limit;
   arguments = arguments;
   result = result;

@@ -1,6 +1,6 @@
 -- SETATTR (RFC 7530, section 16.32): its arguments are a stateid, and the attributes that a file is to have; its result
 -- is a status, and the attributes that were set, with each status.
-use Rattle.std.specs.Prelude.{◌≤◌, length, []}
+use Rattle.std.specs.Prelude.{◌≤◌, length, [], false}
 use Rattle.std.proofs.Common.{refl}
 use Rattle.nfs_operations.specs.declared.setattr.Setattr.{Setattr}
 use Rattle.nfs_operations.specs.declared.setattr.SetattrResult.{SetattrResult}
@@ -39,6 +39,7 @@ abbrev pub operation : Operation Setattr SetattrResult
 operation = record {
   number = 34;
   class = OnState;
+  is_plain = false;
   limit = usual_limit;
   arguments = arguments;
   result = result;

@@ -1,5 +1,5 @@
 -- SETCLIENTID (RFC 7530, section 16.33): its arguments introduce a client, and its result has to be confirmed.
-use Rattle.std.specs.Prelude.{◌≤◌, length}
+use Rattle.std.specs.Prelude.{◌≤◌, length, true}
 use Rattle.std.proofs.Common.{refl}
 use Rattle.nfs_forms.specs.declared.answer.Answer.{Answer}
 use Rattle.nfs_forms.specs.declared.callback.Address.{Address}
@@ -39,6 +39,7 @@ abbrev pub operation : Operation Setclientid (Answer SetclientidConfirm (Unit {0
 operation = record {
   number = 35;
   class = OnState;
+  is_plain = true;
   limit = usual_limit;
   arguments = arguments;
   result = result;

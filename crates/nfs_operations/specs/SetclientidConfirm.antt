@@ -1,5 +1,6 @@
 -- SETCLIENTID_CONFIRM (RFC 7530, section 16.34): its arguments are the values that SETCLIENTID returned, and its result
 -- is a status.
+use Rattle.std.specs.Prelude.{true}
 use Rattle.std.proofs.Common.{refl}
 use Rattle.nfs_operations.specs.declared.setclientid_confirm.SetclientidConfirm.{SetclientidConfirm}
 use Rattle.nfs_forms.specs.Answer.{PlainAnswer, plain_answer, status_of}
@@ -25,6 +26,7 @@ abbrev pub operation : Operation SetclientidConfirm (PlainAnswer (Unit {0}))
 operation = record {
   number = 36;
   class = OnState;
+  is_plain = true;
   limit = usual_limit;
   arguments = arguments;
   result = result;

@@ -1,6 +1,7 @@
 -- WRITE (RFC 7530, section 16.36): its arguments are a stateid, bytes, where in the file they go, and how much of them
 -- has to be in stable storage before the answer; its result is how many were written, how much is in stable storage,
 -- and a verifier of this start of the server.
+use Rattle.std.specs.Prelude.{true}
 use Rattle.std.proofs.Common.{refl}
 use Rattle.nfs_operations.specs.declared.write.Write.{Write}
 use Rattle.nfs_operations.specs.declared.write.WriteOk.{WriteOk}
@@ -37,6 +38,7 @@ abbrev pub operation : Operation Write (PlainAnswer WriteOk)
 operation = record {
   number = 38;
   class = OnState;
+  is_plain = true;
   limit = usual_limit;
   arguments = arguments;
   result = result;

@@ -24,7 +24,7 @@ op_arm o = (asked o).arm
 
 pub op_agrees : (o : Opnum) → Agrees opnum_of op_arm o (op_case o)
 op_agrees opnums.Illegal = tt
-op_agrees (opnums.Unsupported without.Create) = tt
+op_agrees (opnums.Unsupported without.Delegpurge) = tt
 op_agrees (opnums.Unsupported o) = tt
 op_agrees o = λ v. (refl, refl)
 

@@ -1,17 +1,14 @@
 -- The results of operations, by the table (RFC 7530, section 16; RFC 7531, nfs_resop4).
-use Rattle.std.specs.Prelude.{true, false}
 use Rattle.std.proofs.Common.{refl}
 use Rattle.nfs_forms.specs.declared.status.Refusal.{Refusal}
 use Rattle.nfs_forms.specs.declared.status.Status.{Status}
 use Rattle.nfs_xdr.specs.declared.op_result.OpResult.{OpResult}
 use Rattle.nfs_xdr.specs.declared.op_result.OpResult.TheVariants as results
-use Rattle.nfs_xdr.specs.declared.opnum.DirectoryChange.{DirectoryChange}
-use Rattle.nfs_xdr.specs.declared.opnum.DirectoryChange.TheVariants as changes
 use Rattle.nfs_xdr.specs.declared.opnum.Opnum.{Opnum}
 use Rattle.nfs_xdr.specs.declared.opnum.Opnum.TheVariants as opnums
 use Rattle.nfs_xdr.specs.declared.opnum.Unsupported.TheVariants as without
 use Rattle.nfs_xdr.specs.Opnum.{opnum}
-use Rattle.nfs_xdr.specs.Table.{change_case, given, operation_of, row_of}
+use Rattle.nfs_xdr.specs.Table.{given, row_of}
 use Rattle.xdr.specs.Form.{Form}
 use Rattle.xdr.specs.Switch.{Case, Arm, Agrees, IsRead}
 use Rattle.xdr.specs.Union.{switch}
@@ -33,28 +30,16 @@ result_arm r = (given r).arm
 abbrev pub IsShort : OpResult → Type 0
 IsShort r = (given r).IsShort
 
-change_agrees : (change : DirectoryChange)
-    → Agrees opnum_of result_arm (opnums.Unsupported (operation_of change)) (change_case change)
-change_agrees changes.Create true = (refl, refl)
-change_agrees changes.Create false = (refl, refl)
-change_agrees change true = (refl, refl)
-change_agrees change false = (refl, refl)
-
 pub result_agrees : (o : Opnum) → Agrees opnum_of result_arm o (result_case o)
 result_agrees opnums.Illegal = λ a. (refl, refl)
-result_agrees (opnums.Unsupported without.Create) = change_agrees changes.Create
-result_agrees (opnums.Unsupported without.Link) = change_agrees changes.Link
-result_agrees (opnums.Unsupported without.Remove) = change_agrees changes.Remove
-result_agrees (opnums.Unsupported without.Rename) = change_agrees changes.Rename
+result_agrees (opnums.Unsupported without.Delegpurge) = λ a. (refl, refl)
 result_agrees (opnums.Unsupported o) = λ a. (refl, refl)
 result_agrees o = λ a. (refl, refl)
 
 pub result_is_read : (r : OpResult) → IsRead result_case opnum_of result_arm r
 result_is_read (results.Illegal a) = record { is = refl; reads = λ bytes. refl }
-result_is_read (results.Unsupported without.Create) = record { is = refl; reads = λ bytes. refl }
+result_is_read (results.Unsupported without.Delegpurge) = record { is = refl; reads = λ bytes. refl }
 result_is_read (results.Unsupported o) = record { is = refl; reads = λ bytes. refl }
-result_is_read (results.ReadOnly changes.Create) = record { is = refl; reads = λ bytes. refl }
-result_is_read (results.ReadOnly change) = record { is = refl; reads = λ bytes. refl }
 result_is_read r = record { is = refl; reads = λ bytes. refl }
 
 unfoldable pub op_result : Form OpResult

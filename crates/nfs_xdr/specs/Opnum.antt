@@ -5,32 +5,22 @@ use Rattle.std.proofs.Common.{refl}
 use Rattle.std.specs.List.{find}
 use Rattle.nfs_operations.specs.declared.class.Class.{Class}
 use Rattle.nfs_operations.specs.declared.class.Class.TheVariants.{OnTree, OnState, OnLeases, OnNothing}
-use Rattle.nfs_xdr.specs.Table.{row_of, unsupported_row}
-use Rattle.nfs_xdr.specs.declared.opnum.DirectoryChange.{DirectoryChange}
-use Rattle.nfs_xdr.specs.declared.opnum.DirectoryChange.TheVariants as changes
+use Rattle.nfs_xdr.specs.Table.{row_of}
 use Rattle.nfs_xdr.specs.declared.opnum.Opnum.{Opnum}
 use Rattle.nfs_xdr.specs.declared.opnum.Opnum.TheVariants as op
 use Rattle.nfs_xdr.specs.declared.opnum.TheConstants.{OPNUMS}
-use Rattle.nfs_xdr.specs.declared.opnum.Unsupported.{Unsupported}
 use Rattle.nfs_xdr.specs.declared.opnum.Unsupported.TheVariants as without
 use Rattle.xdr.specs.Form.{Form, enumeration}
-
-abbrev pub number_of_unsupported : Unsupported → ℕ
-number_of_unsupported o = (unsupported_row o).number
-
--- which change of a directory an operation without a rule would be, if it is one
-abbrev pub change_of : Unsupported → Option DirectoryChange
-change_of without.Create = Some changes.Create
-change_of without.Link = Some changes.Link
-change_of without.Remove = Some changes.Remove
-change_of without.Rename = Some changes.Rename
-change_of o = None
 
 abbrev pub number_of : Opnum → ℕ
 number_of o = (row_of o).number
 
 abbrev pub class_of : Opnum → Class
 class_of o = (row_of o).class
+
+-- the profile "plain" has the operation, too
+abbrev pub is_plain : Opnum → Bool
+is_plain o = (row_of o).is_plain
 
 abbrev pub is_on_state : Class → Bool
 is_on_state OnTree = false
@@ -59,7 +49,7 @@ opnum_of number = find (λ o. number_of o == number) OPNUMS
 
 pub known : (o : Opnum) → opnum_of (number_of o) ≡ Some o
 known op.Illegal = refl
-known (op.Unsupported without.Create) = refl
+known (op.Unsupported without.Delegpurge) = refl
 known (op.Unsupported o) = refl
 known o = refl
 

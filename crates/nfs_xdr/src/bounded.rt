@@ -11,7 +11,7 @@ use nfs_operations::Data;
 
 impl OpResult {
     /// The law that the result fits its form and the room of its operation, if what its type doesn't bound is short.
-    #[tactic(auto, using(crate::proofs::Refusals::unsupported_fits, crate::proofs::Refusals::unsupported_len, crate::proofs::Refusals::read_only_fits, crate::proofs::Refusals::read_only_len), unfolding(crate::specs::OpResult::op_result, crate::specs::Opnum::opnum, xdr::specs::Writing::written_number))]
+    #[tactic(auto, using(crate::proofs::Refusals::unsupported_fits, crate::proofs::Refusals::unsupported_len), unfolding(crate::specs::OpResult::op_result, crate::specs::Opnum::opnum, xdr::specs::Writing::written_number))]
     pub fn fits(&self)
         requires short { IsShort self.now }
         ensures form { op_result.Fits self.now }
@@ -19,7 +19,7 @@ impl OpResult {
     {
         each_operation!(
             of_answer self, answer => answer.fits();
-            OpResult::Unsupported(_) | OpResult::ReadOnly(_) => {},
+            OpResult::Unsupported(_) => {},
             OpResult::Illegal(answer) => answer.fits(),
         )
     }

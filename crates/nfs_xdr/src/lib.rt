@@ -24,7 +24,7 @@ pub use nfs_forms::{
     NewLocker, OWNER_NAME_LIMIT, OpenDelegation, OpenHow, OpenOwner, Principal, Refusal, STATUSES,
     StableHow, Stateid, Status, Values, Verifier, limits_of_forms,
 };
-pub use nfs_operations::{Class, Names};
+pub use nfs_operations::{Class, Names, Never};
 pub use op::Op;
 pub use op_result::OpResult;
-pub use opnum::{DirectoryChange, OPNUMS, Opnum, Unsupported};
+pub use opnum::{OPNUMS, Opnum, Unsupported};

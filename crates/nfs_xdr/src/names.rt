@@ -9,7 +9,7 @@ use crate::{Names, Op};
 use nfs_operations::Arguments;
 
 macro_rules! names_of_op {
-    ([$($X:ident = $n:literal $c:ident,)*] [$($Y:ident = $m:literal $d:ident,)*] $op:expr) => {
+    ([$($X:ident = $n:literal $c:ident $p:literal,)*] [$($Y:ident = $m:literal $d:ident $q:literal,)*] $op:expr) => {
         match $op {
             $(Op::$X(args) => args.names(),)*
             $(Op::$Y => Names::Nothing,)*

@@ -8,8 +8,8 @@ use nfs_operations::{Arguments, Data};
 
 macro_rules! is_same_op {
     (
-        [$($With:ident = $n:literal $c:ident,)*]
-        [$($Without:ident = $m:literal $d:ident,)*]
+        [$($With:ident = $n:literal $c:ident $p:literal,)*]
+        [$($Without:ident = $m:literal $d:ident $q:literal,)*]
         $op:expr, $other:expr
     ) => {
         match ($op, $other) {
@@ -22,15 +22,14 @@ macro_rules! is_same_op {
 
 macro_rules! is_same_result {
     (
-        [$($X:ident = $n:literal $c:ident,)*]
-        [$($Y:ident = $m:literal $d:ident,)*]
+        [$($X:ident = $n:literal $c:ident $p:literal,)*]
+        [$($Y:ident = $m:literal $d:ident $q:literal,)*]
         $result:expr, $other:expr
     ) => {
         match ($result, $other) {
             $((OpResult::$X(answer), OpResult::$X(other)) => Data::is_same(answer, other),)*
             $((OpResult::$Y(answer), OpResult::$Y(other)) => Data::is_same(answer, other),)*
             (OpResult::Unsupported(op), OpResult::Unsupported(other)) => op == other,
-            (OpResult::ReadOnly(change), OpResult::ReadOnly(other)) => change == other,
             (OpResult::Illegal(answer), OpResult::Illegal(other)) => Data::is_same(answer, other),
             _ => false,
         }

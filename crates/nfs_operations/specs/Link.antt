@@ -1,0 +1,34 @@
+-- LINK (RFC 7530, section 16.9): its argument is a name, and its result a status other than
+-- NFS4_OK, because no operation changes the tree.
+use Rattle.std.specs.Prelude.{ℕ, List, false}
+use Rattle.nfs_forms.specs.Answer.{PlainAnswer, plain_answer, status_of}
+use Rattle.xdr.specs.Form.{Form, bytes}
+use Rattle.nfs_forms.specs.declared.answer.Answer.TheVariants.{Refused}
+use Rattle.nfs_operations.specs.Names.{Nothing}
+use Rattle.nfs_operations.specs.Never.{never}
+use Rattle.nfs_operations.specs.Operation.{Operation, usual_limit}
+use Rattle.nfs_operations.specs.Short.{Any}
+use Rattle.nfs_operations.specs.declared.class.Class.TheVariants.{OnTree}
+use Rattle.nfs_operations.specs.declared.never.Never.{Never}
+
+-- struct LINK4args { component4 newname; };
+abbrev pub arguments : Form (List ℕ)
+arguments = bytes
+
+-- union LINK4res switch (nfsstat4 status) { case NFS4_OK: ..; default: void; };
+abbrev pub result : Form (PlainAnswer Never)
+result = plain_answer never
+
+abbrev pub operation : Operation (List ℕ) (PlainAnswer Never)
+operation = record {
+  number = 11;
+  class = OnTree;
+  is_plain = false;
+  limit = usual_limit;
+  arguments = arguments;
+  result = result;
+  refused = Refused;
+  status = status_of;
+  names = λ args. Nothing;
+  IsShort = Any;
+}

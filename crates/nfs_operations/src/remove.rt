@@ -1,0 +1,11 @@
+//! REMOVE's arguments and result.
+
+use crate::Never;
+use nfs_forms::Answer;
+use xdr::Bytes;
+
+/// The name to be removed from the current directory (RFC 7530, section 16.26).
+pub type Arguments = Bytes;
+
+/// A refusal: no operation changes the tree.
+pub type Outcome = Answer<Never>;
