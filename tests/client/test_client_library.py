@@ -392,6 +392,12 @@ def test_profile(command):
         assert [entry.name for entry in listing.entries] == [b"a", b"b", b"d"]
         reply = client.compound(root(op.create(2, "new")))
         assert (reply.status, reply[1].name) == (Status.ROFS, "CREATE")
+        reply = client.compound(root(op.secinfo("d"), op.lookup("d"), op.lookupp(), op.putpubfh(), op.readlink()))
+        assert reply.status == Status.INVAL and reply[1].value == [(1,), (0,)]
+        assert repr(reply[1]) == "SECINFO NFS4_OK flavor=AUTH_SYS flavor=AUTH_NONE"
+        for request in op.link("x"), op.rename("a", "x"):
+            assert client.compound(root(request)).status == Status.NOFILEHANDLE
+            assert client.compound(root(op.savefh(), request)).status == Status.ROFS
 
 
 # Requests as bytes, written by hand after RFC 7531.
@@ -443,6 +449,8 @@ def test_names_of_requests():
     assert repr(op.lock(WRITE_LT, 3, TO_THE_END, KnownLocker(Stateid(5, 1, 2, 3), 6))) == (
         "LOCK locktype=WRITE_LT reclaim=FALSE offset=3 length=NFS4_UINT64_MAX lock_stateid=5:1:2:3 lock_seqid=6"
     )
-    assert repr(op.link("x")) == 'LINK name="x"'
+    assert repr(op.link("x")) == 'LINK newname="x"'
+    assert repr(op.remove("x")) == 'REMOVE target="x"'
+    assert repr(op.create(5, "l", b"to")) == 'CREATE objtype=NF4LNK linkdata="to" objname="l" createattrs=[]'
     assert repr(op.getattr("size", "type")) == "GETATTR attr_request=[type,size]"
     assert repr(op.lookupp()) == "LOOKUPP"

@@ -25,7 +25,18 @@ from helpers.journal_cases import (
     with_words,
 )
 from nfs4tools import wire
-from nfs4tools.journal.entries import Answer, Call, Expire, Forget, MOMENT_LIMIT, Path, Revoke, STATUSES, StrictReader
+from nfs4tools.journal.entries import (
+    Answer,
+    Call,
+    Expire,
+    Forget,
+    MOMENT_LIMIT,
+    NEVER_OK,
+    Path,
+    Revoke,
+    STATUSES,
+    StrictReader,
+)
 from nfs4tools.journal.journal import EARLIER, HEAD, HEAD_OF_CLIENTS, head_bytes, journal_bytes, read_whole
 from nfs4tools.model.tree import CALLBACKS, CLOSE_LOCKS, DELEGATIONS, Node, PROFILES, Policy, Tree
 from nfs4tools.wire import (
@@ -172,23 +183,33 @@ def broken_operations() -> Iterator[Broken]:
     without = {
         Opnum.ACCESS,
         Opnum.COMMIT,
+        Opnum.CREATE,
         Opnum.GETFH,
+        Opnum.LINK,
         Opnum.LOOKUP,
+        Opnum.LOOKUPP,
         Opnum.PUTFH,
+        Opnum.PUTPUBFH,
         Opnum.PUTROOTFH,
+        Opnum.READLINK,
+        Opnum.REMOVE,
+        Opnum.RENAME,
         Opnum.RESTOREFH,
         Opnum.SAVEFH,
+        Opnum.SECINFO,
         Opnum.ILLEGAL,
         0,
         2,
         7,
+        17,
+        19,
         30,
         37,
         40,
     }
     for number in sorted(without | {Opnum.READDIR, Opnum.SETATTR}):
         yield f"operation {number}", with_words(data, begin, number), no_entry
-    for number in sorted(without | {6, 11, 28, 29}):
+    for number in sorted(without):
         other = with_words(HEAD_OF_CLIENTS + data[8:], begin, number)
         yield f'operation {number} under "clients"', other, no_entry
     for head in (HEAD, EARLIER):
@@ -227,9 +248,17 @@ def broken_answers() -> Iterator[Broken]:
         yield f"an answer to {number}", answered(Answer(number, Status.OK, b"")), "an answer to no operation"
     for status in (1, 5, 10006, 10045, 2**32 - 1):
         yield f"status {status}", answered(Answer(Opnum.LOCKT, status, b"")), "no status"
-    for number, status in ((16, Status.OK), (16, Status.ROFS), (6, Status.OK), (29, Status.INVAL), (7, Status.ROFS)):
+    for number, status in ((17, Status.OK), (37, Status.SAME), (7, Status.ROFS), (19, Status.INVAL)):
         yield f"{number} with {status.name}", answered(Answer(number, status, b"")), none
+    for number in sorted(NEVER_OK):
+        whole = answered(Answer(number, Status.OK, u32(1) + u64(5) + u64(6) + u32(1, 5) + u64(6) + u64(7)))
+        yield f"{number} with OK", whole, "an operation that is never OK"
     early = "it ends too early"
+    for rest in (b"", u32(1), u32(2, 1), u32(3, 1, 0), u32(LAST, 1, 0)):
+        yield f"SECINFO with OK and {len(rest)} bytes", answered(Answer(Opnum.SECINFO, Status.OK, rest)), early
+    for rest in (u32(1, 2), u32(2, 1, 6) + opaque(b"oid") + u32(0, 1), u32(1, LAST)):
+        flavors = answered(Answer(Opnum.SECINFO, Status.OK, rest))
+        yield f"SECINFO with the flavors {rest.hex()}", flavors, "a number that isn't 0 to 1"
     for rest in (b"", NO_VERIFIER, NO_VERIFIER + u32(0), NO_VERIFIER + u32(1)):
         yield f"READDIR with OK and {len(rest)} bytes", answered(Answer(Opnum.READDIR, Status.OK, rest)), early
     for rest in (NO_VERIFIER + u32(2), NO_VERIFIER + u32(0, 2)):
@@ -381,7 +410,11 @@ def whole_files() -> Iterator[Named]:
     answers += [Answer(Opnum.COMMIT, Status.OK, b"verifier"), Answer(Opnum.COMMIT, Status.NOFILEHANDLE, b"")]
     entry = u32(1) + u64(LAST) + opaque(b"n" * 300) + u32(0) + opaque(b"values")
     answers += [Answer(Opnum.READDIR, Status.OK, b"verifier" + count * entry + u32(0, 1)) for count in (0, 1, 200)]
-    answers += [Answer(number, status, b"") for number in (6, 11, 28, 29) for status in (Status.NOTSUPP, Status.ROFS)]
+    # Operations on the tree alone have any status, and SECINFO any number of flavors.
+    on_tree = (*sorted(NEVER_OK), Opnum.LOOKUPP, Opnum.PUTPUBFH, Opnum.SECINFO)
+    answers += [Answer(it, status, b"") for it in on_tree for status in sorted(GIVEN_STATUSES - {Status.OK})]
+    answers += [Answer(Opnum.LOOKUPP, Status.OK, b""), Answer(Opnum.PUTPUBFH, Status.OK, b"")]
+    answers += [Answer(Opnum.SECINFO, Status.OK, u32(len(it), *it)) for it in ((), (1, 0), (0,) * 999)]
     answers += [
         Answer(Opnum.LOCKT, status, b"")
         for status in (Status.ROFS, Status.BAD_COOKIE, Status.TOOSMALL, Status.NOT_SAME, Status.ATTRNOTSUPP)

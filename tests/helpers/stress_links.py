@@ -372,11 +372,16 @@ class Link:
                 [
                     [*way_to(4), u32(Opnum.LOOKUP) + opaque(b"c"), u32(Opnum.GETFH)],
                     [putfh(1), u32(Opnum.SAVEFH), putfh(2), u32(Opnum.RESTOREFH), u32(Opnum.ACCESS, 63)],
+                    [u32(Opnum.PUTPUBFH), u32(Opnum.SECINFO) + opaque(b"d"), u32(Opnum.LOOKUP) + opaque(b"d")],
+                    [u32(Opnum.PUTROOTFH), u32(Opnum.LOOKUP) + opaque(b"d"), u32(Opnum.LOOKUPP), u32(Opnum.GETFH)],
                 ]
             )
         )
         if self.chance.random() < 0.1:
             self.add(u32(Opnum.PUTROOTFH), u32(Opnum.LOOKUP) + opaque(b"nothing"), may_fail=True)
+            name = opaque(b"a")
+            refused = [u32(Opnum.READLINK), u32(Opnum.REMOVE) + name, u32(Opnum.RENAME) + name + name]
+            self.add(putfh(1), u32(Opnum.SAVEFH), self.chance.choice(refused), may_fail=True)
 
     def getattr(self) -> None:
         self.add(putfh(self.chance.randint(0, 4)), u32(Opnum.GETATTR, 1, 0x100012), u32(Opnum.GETFH))

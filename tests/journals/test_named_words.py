@@ -55,6 +55,22 @@ ARGUMENTS = [
     (Opnum.ACCESS, u32(0x41), "ACCESS access=READ|64"),
     (Opnum.CLOSE, u32(7, 2, 1, 3, 4), "CLOSE seqid=7 open_stateid=2:1:3:4"),
     (Opnum.COMMIT, u64(70000) + u32(5), "COMMIT offset=70000 count=5"),
+    # A directory; a symbolic link, and a device, of which each has more.
+    (
+        Opnum.CREATE,
+        u32(2) + opaque(b"new") + fattr([0, 2], u32(0o755)),
+        'CREATE objtype=NF4DIR objname="new" createattrs=[mode=0755]',
+    ),
+    (
+        Opnum.CREATE,
+        u32(5) + opaque(b"a") + opaque(b"l") + fattr([], b""),
+        'CREATE objtype=NF4LNK linkdata="a" objname="l" createattrs=[]',
+    ),
+    (
+        Opnum.CREATE,
+        u32(3, 8, 1) + opaque(b"sda") + fattr([], b""),
+        'CREATE objtype=NF4BLK devdata=8:1 objname="sda" createattrs=[]',
+    ),
     (Opnum.DELEGRETURN, u32(1, 1, 2, 3), "DELEGRETURN deleg_stateid=1:1:2:3"),
     (
         Opnum.GETATTR,
@@ -63,6 +79,7 @@ ARGUMENTS = [
     ),
     (Opnum.GETATTR, u32(2, 1 << 12, 1 << 24), "GETATTR attr_request=[acl,56]"),
     (Opnum.GETFH, b"", "GETFH"),
+    (Opnum.LINK, opaque(b"x"), 'LINK newname="x"'),
     # An open_to_lock_owner4, and an exist_lock_owner4.
     (
         Opnum.LOCK,
@@ -86,6 +103,9 @@ ARGUMENTS = [
         "LOCKU locktype=READ_LT seqid=4 lock_stateid=2:1:1:9 offset=0 length=1",
     ),
     (Opnum.LOOKUP, opaque(b"d"), 'LOOKUP objname="d"'),
+    (Opnum.REMOVE, opaque(b"a"), 'REMOVE target="a"'),
+    (Opnum.RENAME, opaque(b"a") + opaque(b"x"), 'RENAME oldname="a" newname="x"'),
+    (Opnum.SECINFO, opaque(b"a"), 'SECINFO name="a"'),
     # The claims, and how it creates.
     (Opnum.OPEN, opening(u32(0, 0), opaque(b"a")), PLAIN_OPEN + 'opentype=OPEN4_NOCREATE claim=CLAIM_NULL file="a"'),
     (
@@ -293,6 +313,12 @@ ANSWERS = [
         'NFS4ERR_CLID_INUSE r_netid="tcp" r_addr="127.0.0.1.8.1"',
     ),
     (Opnum.SETCLIENTID_CONFIRM, Status.OK, b"", "NFS4_OK"),
+    # These make no entry; another operation's entry may have their results.
+    (Opnum.SECINFO, Status.OK, u32(2, 1, 0), "NFS4_OK flavor=AUTH_SYS flavor=AUTH_NONE"),
+    (Opnum.SECINFO, Status.NOENT, b"", "NFS4ERR_NOENT"),
+    (Opnum.LOOKUPP, Status.OK, b"", "NFS4_OK"),
+    (Opnum.READLINK, Status.INVAL, b"", "NFS4ERR_INVAL"),
+    (Opnum.RENAME, Status.ROFS, b"", "NFS4ERR_ROFS"),
     (Opnum.WRITE, Status.OK, u32(5, 2, 1, 0), "NFS4_OK count=5 committed=FILE_SYNC4 writeverf=0x0000000100000000"),
 ]
 
@@ -320,7 +346,8 @@ def test_every_operation():
     assert (
         stateful
         <= {opnum for opnum, _, _ in ARGUMENTS}
-        == set(wire.ARGUMENTS) - {Opnum.PUTROOTFH, Opnum.RESTOREFH, Opnum.SAVEFH}
+        == set(wire.ARGUMENTS)
+        - {Opnum.LOOKUPP, Opnum.PUTPUBFH, Opnum.PUTROOTFH, Opnum.READLINK, Opnum.RESTOREFH, Opnum.SAVEFH}
     )
     assert stateful <= {opnum for opnum, *_ in ANSWERS}
 
@@ -350,7 +377,8 @@ def test_names_of_state():
 
 def test_lines():
     tree = Tree()
-    refused = call_of(Opnum.LOCK, ARGUMENTS[8][1], Answer(Opnum.LOCK, Status.DENIED, DENIED), 1, (1, 500))
+    lock = next(arguments for opnum, arguments, _ in ARGUMENTS if opnum == Opnum.LOCK)
+    refused = call_of(Opnum.LOCK, lock, Answer(Opnum.LOCK, Status.DENIED, DENIED), 1, (1, 500))
     assert named_line_of(refused, tree) == (
         'moment 3, AUTH_SYS 500, file "/a": LOCK locktype=WRITE_LT reclaim=FALSE offset=5 length=10 open_seqid=3 '
         'open_stateid=1:1:2:2 lock_seqid=0 lock_owner=1/"L2" -> ' + DENIED_WORDS

@@ -10,14 +10,14 @@ from nfs4tools.model.attributes import FIRST_COOKIE
 from nfs4tools.model.operations.readdir import LISTING_ENDS
 from nfs4tools.model.pages import LENGTHS, PAGE
 from nfs4tools.model.ranges import ALL_ONES, LAST_BYTE
-from nfs4tools.model.server import CLIENTS_LIMIT
+from nfs4tools.model.server import CLIENTS_LIMIT, OF_CLIENTS
 from nfs4tools.model.state_parts import Delegation, KeptState, LockState, OwnerName, SLOTS, handle_of, next_sequence_id
 from nfs4tools.model.tree import CLIENTS, PROFILES, TEXT_LIMIT, Tree
 from nfs4tools.rows.by_model import outcome_of
 from nfs4tools.rows.driver import ALONE, SHARED
 from nfs4tools.rows.orders import Forget, Mark, Order, Pending, Probe, Revoke, Sweep, TakeRecall
 from nfs4tools.rows.row import Part, Step
-from nfs4tools.wire import OpenOwner, Opnum, opaque, u32, u64
+from nfs4tools.wire import NF4BLK, NF4CHR, NF4LNK, OpenOwner, Opnum, opaque, u32, u64
 
 T = TypeVar("T")
 
@@ -159,6 +159,7 @@ class Caller:
         if self.profile == CLIENTS:
             share = {LOCKING: 0.5, LENDING: 2, WRITING: 8}[self.kind]
             often |= {self.setattr: 3 * share, self.readdir: share, self.getattr: 1 + share, self.commit: 0.3}
+            often |= {self.about_names: 2}
         self.makers = {LOCKING: locks, LENDING: lends, WRITING: writes}[self.kind] | often
 
     def new_server(self) -> Counting:
@@ -273,7 +274,7 @@ class Caller:
     def on_tree(self) -> Operations:
         name, node = self.chance.choice(NAMES), self.chance.randint(0, 5)
         # Operations whose arguments aren't read.
-        unread = [2, 6, 11, 28, 29, 40, 10044] + [5, 26, 34] * (self.profile != CLIENTS)
+        unread = [2, 7, 40, 10044] + sorted(OF_CLIENTS) * (self.profile != CLIENTS)
         return self.chance.choice(
             [
                 [u32(Opnum.PUTROOTFH), u32(Opnum.LOOKUP) + opaque(name), u32(Opnum.GETFH)],
@@ -282,6 +283,28 @@ class Caller:
                 [u32(self.chance.choice(unread))],
             ]
         )
+
+    def about_names(self) -> Operations:
+        """What a file is called, who may ask for it, and what would change a directory."""
+        name, other = (opaque(self.chance.choice(NAMES)) for _ in range(2))
+        saved = [u32(Opnum.SAVEFH)] * self.is_rare(0.7)
+        asked: list[Operations] = [
+            [u32(Opnum.LOOKUPP), u32(Opnum.GETFH)],
+            [u32(Opnum.PUTPUBFH), u32(Opnum.SECINFO) + name, u32(Opnum.GETFH)],
+            [u32(Opnum.SECINFO) + name],
+            [u32(Opnum.READLINK)],
+            [u32(Opnum.CREATE) + self.created() + name + self.mask() + other],
+            [u32(Opnum.REMOVE) + name],
+            [*saved, u32(Opnum.LINK) + name],
+            [*saved, u32(Opnum.RENAME) + name + other],
+        ]
+        return self.handle(self.chance.randint(0, 4)) * (not self.is_rare(0.1)) + self.chance.choice(asked)
+
+    def created(self) -> bytes:
+        """A type of file, seldom a number that is none, with what belongs to that type."""
+        kind = 10 * self.is_rare(0.03) or self.chance.randint(1, 9)
+        rest = {NF4BLK: u32(8, 1), NF4CHR: u32(8, 1), NF4LNK: opaque(b"there")}
+        return u32(kind) + rest.get(kind, b"")
 
     def getattr(self) -> Operations:
         return self.handle(self.chance.randint(0, 4)) + [u32(Opnum.GETATTR) + self.mask()]

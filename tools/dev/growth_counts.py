@@ -1,9 +1,11 @@
 """What grows by a little at a time: `tools/floors` tells what is counted."""
 import re
 from collections import Counter
+from collections.abc import Iterator
 from typing import NamedTuple
 
-from dev.clause_index import TOP, Function, Source, crates, functions_of, sources_of
+from dev.clause_index import TOP, Function, Source, crates, functions_of, items_in, sources_of
+from nfs4tools.model.traces import OPERATION_NAMES
 
 LAYERS = "nfs_core", "nfs_leases", "nfs_shared", "nfs_server", "nfs_threads"
 VERB = re.compile(
@@ -30,6 +32,17 @@ OTHER = "nfs_rules/src/operations/setclientid_confirm.rt", "nfs_rules/specs/oper
 # The files of one operation, and those that list all.
 OF_ONE = re.compile(r"/operations/|^nfs_operations/(?!(?:src/lib\.rt|specs/Lib\.antt)$)")
 LISTS = "nfs_xdr/src/op.rt", "nfs_xdr/src/op_result.rt", "nfs_xdr/src/opnum.rt"
+# The operations whose shared lines are counted.
+COUNTED = "SAVEFH", "LOOKUPP", "GETATTR", "CLOSE", "READ", "LOCK", "OPEN", "WRITE", "SETATTR", "READDIR"
+# The types and modules whose members operations are; and the operations by the names of the sources.
+MEMBER_OF = r"\b(?:Op|OpResult|Opnum|Unsupported|Transfer|ops?|opnums|results|of|transfers|operations|without)(?:::|\.)"
+NAMES = {"".join(map(str.capitalize, name.split("_"))) for name in OPERATION_NAMES.values() if name != "ILLEGAL"}
+# What names so many operations is a list of operations.
+FEWEST = 5
+# What begins a definition of Antt, up to its name; and what begins a line that is no part of a definition.
+ANTT_HEAD = re.compile(r"(?:(?:abbrev|pub|unfoldable|inductive|record)\s+)*(?P<name>[^\s(:]+)")
+ANTT_NO_HEAD = "use", "mod", "unfolding"
+TYPE = re.compile(r"\bpub (?:struct|enum) (\w+)")
 
 
 class Count(NamedTuple):
@@ -125,14 +138,20 @@ def count_kind(sources: list[Source], functions: list[Function]) -> Count:
     return shared("lines", "the kind `Path`", found, more)._replace(wrong=wrong)
 
 
+def types_of(form: Source, sources: list[Source]) -> set[str]:
+    """The types of an operation's form that no other crate has by the same name."""
+    others = {name for it in sources if it.crate != form.crate for name in TYPE.findall(it.code)}
+    return set(TYPE.findall(form.code)) - others
+
+
 def count_operation(sources: list[Source], name: str) -> Count:
     big, small = name.capitalize(), name.lower()
     form = next(it for it in sources if it.path == f"nfs_operations/src/{small}.rt")
-    types = set(re.findall(r"\bpub (?:struct|enum) (\w+)", form.code)) - {big}
+    types = types_of(form, sources) - {big}
     # A member of the lists of operations; the module of its own file; and what its file in nfs_operations has.
     word = (
         rf"\b(?:Op|OpResult|Opnum|Transfer|ops?|opnums|results|of|transfers|operations)(?:::|\.){big}\b"
-        rf"|\bmod (?:{big}|{small})\b|\b{small}(?:::|\.rule\b)|\b(?:of|operations)::{small}\b"
+        rf"|\bmod (?:{big}|{small})\b|\b{small}(?:::(?!<)|\.rule\b)|\b(?:of|operations)::{small}\b"
         rf"|\b(?:{'|'.join([f'(?:Same|Bounded) for {big}', *types])})\b"
     )
     plain, listing = re.compile(word), re.compile(rf"{word}|^\s+{big}(?:,|\(| = )")
@@ -148,19 +167,86 @@ def count_operation(sources: list[Source], name: str) -> Count:
     )
 
 
-def counts() -> list[Count]:
-    sources = [
+# What lists operations.
+
+
+class Definition(NamedTuple):
+    """A type, a constant, a macro or a function; where it begins in the code of its file, and its code."""
+
+    name: str
+    start: int
+    code: str
+
+
+def definitions_in_rattle(source: Source) -> Iterator[Definition]:
+    """Those of a file, without imports and modules."""
+    for item in items_in(source.code, 0, len(source.code)):
+        if item.kind in ("impl", "trait"):
+            parts = [it for it in items_in(source.code, item.block + 1, item.end - 1) if it.kind == "fn"]
+        else:
+            parts = [item] if item.kind not in ("use", "ghost use", "mod") else []
+        yield from (Definition(it.name, it.start, source.code[it.start : it.end]) for it in parts)
+
+
+def definitions_in_antt(source: Source) -> Iterator[Definition]:
+    """The equations of a name that stand together, with its type before them."""
+    found: list[Definition] = []
+    at = 0
+    for line in source.code.splitlines(keepends=True):
+        head = ANTT_HEAD.match(line)
+        name = head["name"] if head else ""
+        is_head = bool(head) and name not in ANTT_NO_HEAD
+        if is_head and (not found or found[-1].name != name):
+            found.append(Definition(name, at, line))
+        elif found and (is_head or line[:1].isspace()):
+            found[-1] = found[-1]._replace(code=found[-1].code + line)
+        at += len(line)
+    yield from found
+
+
+def is_of_one(path: str) -> bool:
+    """Whether a file is an operation's own."""
+    stem = path.rpartition("/")[2].partition(".")[0]
+    name = "".join(part[:1].upper() + part[1:] for part in stem.split("_"))
+    return OF_ONE.search(path) is not None and name in NAMES
+
+
+def count_lists(sources: list[Source]) -> Count:
+    names = "|".join(sorted(NAMES))
+    plain = re.compile(rf"{MEMBER_OF}({names})\b")
+    listing = re.compile(rf"(?:{MEMBER_OF}|^\s+(?=\w+(?:,|\(| = )))({names})\b", re.M)
+    listed = []
+    for source in sources:
+        if is_of_one(source.path):
+            continue
+        parts = definitions_in_rattle if source.file.suffix == ".rt" else definitions_in_antt
+        for part in parts(source):
+            named = set((listing if source.path in LISTS else plain).findall(part.code))
+            if len(named) >= FEWEST:
+                row = source.code.count("\n", 0, part.start) + 1
+                listed.append(f"{source.path}:{row}  {part.name}  {len(named)} operations")
+    line = f"definitions and functions that list {FEWEST} operations or more: {len(listed)}"
+    return Count("lists", len(listed), line, listed, [])
+
+
+def sources_counted() -> list[Source]:
+    """The sources of the crates that are no tests."""
+    return [
         it
         for name in crates()
         if name != "rows" and not name.endswith("_tests")
         for pattern in ("src/**/*.rt", "specs/**/*.antt")
         for it in sources_of(name, pattern)
     ]
+
+
+def counts() -> list[Count]:
+    sources = sources_counted()
     functions = [it for source in sources if source.file.suffix == ".rt" for it in functions_of(source)]
     return [
         count_functions(functions),
         count_calls(functions),
         count_kind(sources, functions),
-        count_operation(sources, "GETATTR"),
-        count_operation(sources, "READ"),
+        *(count_operation(sources, name) for name in COUNTED),
+        count_lists(sources),
     ]

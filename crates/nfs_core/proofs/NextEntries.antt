@@ -38,8 +38,9 @@ use Rattle.nfs_ranges.specs.declared.range.Range.{Range}
 use Rattle.nfs_share.specs.AllOpens.{DelegationAt}
 use Rattle.nfs_state.specs.Kept.{CanBeKept, kept_with}
 use Rattle.nfs_state.specs.declared.owner_change.OwnerChange.TheVariants as owner_changes
-use Rattle.nfs_xdr.specs.Names as names
-use Rattle.nfs_xdr.specs.Names.{Names, Nothing, Client, Opener, Owned, names_of, seqid_in}
+use Rattle.nfs_operations.specs.Names as names
+use Rattle.nfs_operations.specs.Names.{Names, Nothing, Client, Opener, Owned, seqid_in}
+use Rattle.nfs_xdr.specs.Names.{names_of}
 use Rattle.nfs_state.specs.Changes.{after}
 use Rattle.nfs_state.specs.Entries.{IsFilehandle, IsSendable, can_be_asked, entry_of, is_filehandle}
 use Rattle.nfs_state.specs.State.{State, History}

@@ -49,7 +49,8 @@ use Rattle.nfs_state.specs.declared.entry.Entry.TheVariants as entries
 use Rattle.nfs_state.specs.declared.owner_change.OwnerChange.{OwnerChange}
 use Rattle.nfs_state.specs.declared.owner_change.OwnerChange.TheVariants as owner_changes
 use Rattle.nfs_state.specs.declared.request.Request.{Request}
-use Rattle.nfs_xdr.specs.Names.{Names, Opener, Owned, names_of, seqid_in}
+use Rattle.nfs_operations.specs.Names.{Names, Opener, Owned, seqid_in}
+use Rattle.nfs_xdr.specs.Names.{names_of}
 use Rattle.nfs_xdr.specs.OpResult.{status_of}
 use Rattle.nfs_xdr.specs.declared.op.Op.{Op}
 use Rattle.nfs_xdr.specs.declared.op.Op.TheVariants as ops

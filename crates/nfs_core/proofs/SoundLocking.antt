@@ -54,7 +54,7 @@ use Rattle.nfs_state.specs.State.{State, History}
 use Rattle.nfs_state.specs.declared.change.Change.TheVariants as changes
 use Rattle.nfs_state.specs.declared.owner_change.OwnerChange.TheVariants as owner_changes
 use Rattle.nfs_state.specs.declared.request.Request.{Request}
-use Rattle.nfs_xdr.specs.Names.{locker_names}
+use Rattle.nfs_operations.specs.Names.{locker_names}
 use Rattle.nfs_xdr.specs.OpResult.{status_of}
 use Rattle.nfs_xdr.specs.declared.op.Op.{Op}
 use Rattle.nfs_xdr.specs.declared.op.Op.TheVariants as ops

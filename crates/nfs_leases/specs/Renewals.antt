@@ -7,7 +7,8 @@ use Rattle.nfs_forms.specs.declared.answer.Answer.TheVariants.{Done, Refused}
 use Rattle.nfs_forms.specs.declared.status.Refusal.TheVariants.{StaleClientId}
 use Rattle.nfs_leases.specs.declared.lease_state.LeaseState.{LeaseState}
 use Rattle.nfs_leases.specs.declared.lease_state.LeaseState.TheVariants as lease_state
-use Rattle.nfs_xdr.specs.Names.{client_in, names_of}
+use Rattle.nfs_operations.specs.Names.{client_in}
+use Rattle.nfs_xdr.specs.Names.{names_of}
 use Rattle.nfs_xdr.specs.declared.op.Op.{Op}
 
 -- The number of the client whose lease an operation renews, RENEW among them, in the server's run with this epoch: that

@@ -1,11 +1,17 @@
 -- COMMIT (RFC 7530, section 16.3): its arguments say which bytes of the file are to be in stable storage; its result is
 -- a verifier of this start of the server.
+use Rattle.std.specs.Prelude.{false}
 use Rattle.std.proofs.Common.{refl}
 use Rattle.nfs_operations.specs.declared.commit.Commit.{Commit}
 use Rattle.nfs_forms.specs.declared.verifier.Verifier.{Verifier}
-use Rattle.nfs_forms.specs.Answer.{PlainAnswer, plain_answer}
+use Rattle.nfs_forms.specs.Answer.{PlainAnswer, plain_answer, status_of}
 use Rattle.nfs_forms.specs.Verifier.{verifier}
 use Rattle.xdr.specs.Form.{Form, ◌and◌, of, u32, u64}
+use Rattle.nfs_forms.specs.declared.answer.Answer.TheVariants.{Refused}
+use Rattle.nfs_operations.specs.Names.{Nothing}
+use Rattle.nfs_operations.specs.Operation.{Operation, usual_limit}
+use Rattle.nfs_operations.specs.Short.{Any}
+use Rattle.nfs_operations.specs.declared.class.Class.TheVariants.{OnTree}
 
 -- struct COMMIT4args { offset4 offset; count4 count; };
 unfoldable pub arguments : Form Commit
@@ -17,3 +23,17 @@ arguments =
 -- struct COMMIT4resok { verifier4 writeverf; };
 abbrev pub result : Form (PlainAnswer Verifier)
 result = plain_answer verifier
+
+abbrev pub operation : Operation Commit (PlainAnswer Verifier)
+operation = record {
+  number = 5;
+  class = OnTree;
+  is_plain = false;
+  limit = usual_limit;
+  arguments = arguments;
+  result = result;
+  refused = Refused;
+  status = status_of;
+  names = λ args. Nothing;
+  IsShort = Any;
+}

@@ -1,16 +1,22 @@
 -- LOCK (RFC 7530, section 16.10): its arguments are bytes of a file, how they are to be locked and for whom; its result
 -- is a stateid, or with NFS4ERR_DENIED a lock that is in the way.
+use Rattle.std.specs.Prelude.{true}
 use Rattle.std.proofs.Common.{refl}
 use Rattle.nfs_forms.specs.declared.answer.Answer.{Answer}
 use Rattle.nfs_forms.specs.declared.lock_denied.LockDenied.{LockDenied}
 use Rattle.nfs_operations.specs.declared.lock.Lock.{Lock}
 use Rattle.nfs_forms.specs.declared.stateid.Stateid.{Stateid}
-use Rattle.nfs_forms.specs.Answer.{answer}
+use Rattle.nfs_forms.specs.Answer.{answer, status_of}
 use Rattle.nfs_forms.specs.LockDenied.{lock_denied}
 use Rattle.nfs_forms.specs.Locker.{locker}
 use Rattle.nfs_forms.specs.LockType.{lock_type}
 use Rattle.nfs_forms.specs.Stateid.{stateid}
 use Rattle.xdr.specs.Form.{Form, ◌and◌, of, flag, nothing, u64}
+use Rattle.nfs_forms.specs.declared.answer.Answer.TheVariants.{Refused}
+use Rattle.nfs_operations.specs.Names.{locker_names}
+use Rattle.nfs_operations.specs.Operation.{Operation, usual_limit}
+use Rattle.nfs_operations.specs.Short.{Any, HasShortName, IsShortAnswer}
+use Rattle.nfs_operations.specs.declared.class.Class.TheVariants.{OnState}
 
 -- struct LOCK4args { nfs_lock_type4 locktype; bool reclaim; offset4 offset; length4 length; locker4 locker; };
 unfoldable pub arguments : Form Lock
@@ -30,3 +36,17 @@ arguments =
 -- struct LOCK4resok { stateid4 lock_stateid; };
 abbrev pub result : Form (Answer Stateid LockDenied (Unit {0}))
 result = answer stateid lock_denied nothing
+
+abbrev pub operation : Operation Lock (Answer Stateid LockDenied (Unit {0}))
+operation = record {
+  number = 12;
+  class = OnState;
+  is_plain = true;
+  limit = usual_limit;
+  arguments = arguments;
+  result = result;
+  refused = Refused;
+  status = status_of;
+  names = λ args. locker_names args.locker;
+  IsShort = IsShortAnswer Any HasShortName Any;
+}

@@ -1,9 +1,10 @@
 -- OPEN (RFC 7530, section 16.16): its arguments name a file, and how it is opened and by whom; its result is a stateid,
 -- and what came of the creation and of the delegation.
+use Rattle.std.specs.Prelude.{◌≡◌, [], true}
 use Rattle.std.proofs.Common.{refl}
 use Rattle.nfs_operations.specs.declared.«open».Open.{Open}
 use Rattle.nfs_operations.specs.declared.«open».OpenOk.{OpenOk}
-use Rattle.nfs_forms.specs.Answer.{PlainAnswer, plain_answer}
+use Rattle.nfs_forms.specs.Answer.{PlainAnswer, plain_answer, status_of}
 use Rattle.nfs_forms.specs.Bitmap.{bitmap}
 use Rattle.nfs_forms.specs.ChangeInfo.{change_info}
 use Rattle.nfs_forms.specs.Claim.{claim}
@@ -12,6 +13,11 @@ use Rattle.nfs_forms.specs.OpenHow.{open_how}
 use Rattle.nfs_forms.specs.OpenOwner.{open_owner}
 use Rattle.nfs_forms.specs.Stateid.{stateid}
 use Rattle.xdr.specs.Form.{Form, ◌and◌, of, u32}
+use Rattle.nfs_forms.specs.declared.answer.Answer.TheVariants.{Refused}
+use Rattle.nfs_operations.specs.Names.{Opener}
+use Rattle.nfs_operations.specs.Operation.{Operation, usual_limit}
+use Rattle.nfs_operations.specs.Short.{Any, IsShortAnswer}
+use Rattle.nfs_operations.specs.declared.class.Class.TheVariants.{OnState}
 
 -- struct OPEN4args {
 --   seqid4 seqid; uint32_t share_access; uint32_t share_deny; open_owner4 owner; openflag4 openhow; open_claim4 claim;
@@ -46,3 +52,21 @@ open_ok =
 -- union OPEN4res switch (nfsstat4 status) { case NFS4_OK: OPEN4resok resok4; default: void; };
 abbrev pub result : Form (PlainAnswer OpenOk)
 result = plain_answer open_ok
+
+-- no attributes were set
+abbrev pub SetsNothing : OpenOk → Type 0
+SetsNothing answer = answer.attrset ≡ []
+
+abbrev pub operation : Operation Open (PlainAnswer OpenOk)
+operation = record {
+  number = 18;
+  class = OnState;
+  is_plain = true;
+  limit = usual_limit;
+  arguments = arguments;
+  result = result;
+  refused = Refused;
+  status = status_of;
+  names = λ args. Opener args.owner args.seqid;
+  IsShort = IsShortAnswer SetsNothing Any Any;
+}

@@ -1,11 +1,17 @@
 -- OPEN_DOWNGRADE (RFC 7530, section 16.19): its arguments are an open, a sequence id, and the access and deny that the
 -- open is to have; its result is the open's new stateid.
+use Rattle.std.specs.Prelude.{true}
 use Rattle.std.proofs.Common.{refl}
 use Rattle.nfs_operations.specs.declared.open_downgrade.OpenDowngrade.{OpenDowngrade}
 use Rattle.nfs_forms.specs.declared.stateid.Stateid.{Stateid}
-use Rattle.nfs_forms.specs.Answer.{PlainAnswer, plain_answer}
+use Rattle.nfs_forms.specs.Answer.{PlainAnswer, plain_answer, status_of}
 use Rattle.nfs_forms.specs.Stateid.{stateid}
 use Rattle.xdr.specs.Form.{Form, ◌and◌, of, u32}
+use Rattle.nfs_forms.specs.declared.answer.Answer.TheVariants.{Refused}
+use Rattle.nfs_operations.specs.Names.{Owned}
+use Rattle.nfs_operations.specs.Operation.{Operation, usual_limit}
+use Rattle.nfs_operations.specs.Short.{Any}
+use Rattle.nfs_operations.specs.declared.class.Class.TheVariants.{OnState}
 
 -- struct OPEN_DOWNGRADE4args { stateid4 open_stateid; seqid4 seqid; uint32_t share_access; uint32_t share_deny; };
 unfoldable pub arguments : Form OpenDowngrade
@@ -18,3 +24,17 @@ arguments =
 -- struct OPEN_DOWNGRADE4resok { stateid4 open_stateid; };
 abbrev pub result : Form (PlainAnswer Stateid)
 result = plain_answer stateid
+
+abbrev pub operation : Operation OpenDowngrade (PlainAnswer Stateid)
+operation = record {
+  number = 21;
+  class = OnState;
+  is_plain = true;
+  limit = usual_limit;
+  arguments = arguments;
+  result = result;
+  refused = Refused;
+  status = status_of;
+  names = λ args. Owned args.stateid args.seqid;
+  IsShort = Any;
+}

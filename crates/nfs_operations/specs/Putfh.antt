@@ -1,8 +1,13 @@
 -- PUTFH (RFC 7530, section 16.20): its argument is a filehandle, and its result a status.
-use Rattle.std.specs.Prelude.{ℕ, List}
-use Rattle.nfs_forms.specs.Answer.{PlainAnswer, plain_answer}
+use Rattle.std.specs.Prelude.{ℕ, List, true}
+use Rattle.nfs_forms.specs.Answer.{PlainAnswer, plain_answer, status_of}
 use Rattle.nfs_forms.specs.FileHandle.{file_handle}
 use Rattle.xdr.specs.Form.{Form, nothing}
+use Rattle.nfs_forms.specs.declared.answer.Answer.TheVariants.{Refused}
+use Rattle.nfs_operations.specs.Names.{Nothing}
+use Rattle.nfs_operations.specs.Operation.{Operation, usual_limit}
+use Rattle.nfs_operations.specs.Short.{Any}
+use Rattle.nfs_operations.specs.declared.class.Class.TheVariants.{OnTree}
 
 -- struct PUTFH4args { nfs_fh4 object; };
 abbrev pub arguments : Form (List ℕ)
@@ -11,3 +16,17 @@ arguments = file_handle
 -- struct PUTFH4res { nfsstat4 status; };
 abbrev pub result : Form (PlainAnswer (Unit {0}))
 result = plain_answer nothing
+
+abbrev pub operation : Operation (List ℕ) (PlainAnswer (Unit {0}))
+operation = record {
+  number = 22;
+  class = OnTree;
+  is_plain = true;
+  limit = usual_limit;
+  arguments = arguments;
+  result = result;
+  refused = Refused;
+  status = status_of;
+  names = λ args. Nothing;
+  IsShort = Any;
+}

@@ -1,11 +1,17 @@
 -- READ (RFC 7530, section 16.23): its arguments are a stateid, and which bytes of the file are asked for; its result is
 -- the bytes, and whether the file ends with them. No limit is given for the bytes.
+use Rattle.std.specs.Prelude.{◌≤◌, length, true}
 use Rattle.std.proofs.Common.{refl}
 use Rattle.nfs_operations.specs.declared.read.Read.{Read}
 use Rattle.nfs_operations.specs.declared.read.ReadOk.{ReadOk}
-use Rattle.nfs_forms.specs.Answer.{PlainAnswer, plain_answer}
+use Rattle.nfs_forms.specs.Answer.{PlainAnswer, plain_answer, status_of}
 use Rattle.nfs_forms.specs.Stateid.{stateid}
 use Rattle.xdr.specs.Form.{Form, ◌and◌, of, bytes as opaque_bytes, flag, u32, u64}
+use Rattle.nfs_forms.specs.declared.answer.Answer.TheVariants.{Refused}
+use Rattle.nfs_operations.specs.Names.{State}
+use Rattle.nfs_operations.specs.Operation.{Operation}
+use Rattle.nfs_operations.specs.Short.{Any, IsShortAnswer}
+use Rattle.nfs_operations.specs.declared.class.Class.TheVariants.{OnState}
 
 -- struct READ4args { stateid4 stateid; offset4 offset; count4 count; };
 unfoldable pub arguments : Form Read
@@ -23,3 +29,21 @@ read_ok =
 -- union READ4res switch (nfsstat4 status) { case NFS4_OK: READ4resok resok4; default: void; };
 abbrev pub result : Form (PlainAnswer ReadOk)
 result = plain_answer read_ok
+
+-- no more bytes than a file can have
+abbrev pub AreFewBytes : ReadOk → Type 0
+AreFewBytes answer = length answer.bytes ≤ 65_536
+
+abbrev pub operation : Operation Read (PlainAnswer ReadOk)
+operation = record {
+  number = 25;
+  class = OnState;
+  is_plain = true;
+  limit = 67_572;
+  arguments = arguments;
+  result = result;
+  refused = Refused;
+  status = status_of;
+  names = λ args. State args.stateid;
+  IsShort = IsShortAnswer AreFewBytes Any Any;
+}

@@ -1,15 +1,21 @@
 -- READDIR (RFC 7530, section 16.24): its arguments say behind which entry of the directory the listing begins, how long
 -- the answer may be, and which attributes of each entry are asked for; its result is entries, and whether they are the
 -- last ones. No limit is given for names, and none for the entries.
+use Rattle.std.specs.Prelude.{◌≤◌, length, false}
 use Rattle.std.proofs.Common.{refl}
 use Rattle.nfs_operations.specs.declared.readdir.DirectoryEntry.{DirectoryEntry}
 use Rattle.nfs_operations.specs.declared.readdir.Readdir.{Readdir}
 use Rattle.nfs_operations.specs.declared.readdir.ReaddirOk.{ReaddirOk}
-use Rattle.nfs_forms.specs.Answer.{PlainAnswer, plain_answer}
+use Rattle.nfs_forms.specs.Answer.{PlainAnswer, plain_answer, status_of}
 use Rattle.nfs_forms.specs.Bitmap.{bitmap}
 use Rattle.nfs_forms.specs.Fattr.{fattr}
 use Rattle.nfs_forms.specs.Verifier.{verifier}
 use Rattle.xdr.specs.Form.{Form, ◌and◌, of, bytes as opaque_bytes, chain, flag, u32, u64}
+use Rattle.nfs_forms.specs.declared.answer.Answer.TheVariants.{Refused}
+use Rattle.nfs_operations.specs.Names.{Nothing}
+use Rattle.nfs_operations.specs.Operation.{Operation}
+use Rattle.nfs_operations.specs.Short.{Any, IsShortAnswer}
+use Rattle.nfs_operations.specs.declared.class.Class.TheVariants.{OnState}
 
 -- struct READDIR4args
 --   { nfs_cookie4 cookie; verifier4 cookieverf; count4 dircount; count4 maxcount; bitmap4 attr_request; };
@@ -44,3 +50,21 @@ readdir_ok =
 -- union READDIR4res switch (nfsstat4 status) { case NFS4_OK: READDIR4resok resok4; default: void; };
 abbrev pub result : Form (PlainAnswer ReaddirOk)
 result = plain_answer readdir_ok
+
+-- the entries fit their form, and take no more bytes than READDIR may give behind its status
+abbrev pub AreFewEntries : ReaddirOk → Type 0
+AreFewEntries answer = readdir_ok.Fits answer × (length (readdir_ok.encoding answer) ≤ 65_536)
+
+abbrev pub operation : Operation Readdir (PlainAnswer ReaddirOk)
+operation = record {
+  number = 26;
+  class = OnState;
+  is_plain = false;
+  limit = 67_572;
+  arguments = arguments;
+  result = result;
+  refused = Refused;
+  status = status_of;
+  names = λ args. Nothing;
+  IsShort = IsShortAnswer AreFewEntries Any Any;
+}

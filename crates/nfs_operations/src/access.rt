@@ -2,7 +2,9 @@
 
 ghost use Rattle.nfs_operations.specs.Access as forms;
 ghost use Rattle.xdr.specs.Reading.{Answers};
+ghost use Rattle.nfs_operations.specs.Short.{Any};
 
+use crate::Data;
 use nfs_forms::Answer;
 use std::alloc::Global;
 use xdr::{Measure, Wire, WireError, write_two};
@@ -43,5 +45,21 @@ impl Measure for AccessBits {
     #[tactic(auto, unfolding(crate::specs::Access::access_bits))]
     fn written_len(&self) -> usize {
         self.supported.written_len() + self.access.written_len()
+    }
+}
+
+impl Data for AccessBits {
+    ghost most = { 8 };
+
+    ghost IsShort = { Any };
+
+    #[tactic(auto, unfolding(crate::specs::Access::access_bits))]
+    fn fits(&self) {
+        self.supported.fits();
+        self.access.fits();
+    }
+
+    fn is_same(&self, other: &AccessBits) -> bool {
+        self == other
     }
 }

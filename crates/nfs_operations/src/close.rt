@@ -3,6 +3,7 @@
 ghost use Rattle.nfs_operations.specs.Close as forms;
 ghost use Rattle.xdr.specs.Reading.{Answers};
 
+use crate::Names;
 use nfs_forms::{Answer, Stateid};
 use std::alloc::Global;
 use xdr::{Wire, WireError, write_two};
@@ -20,6 +21,18 @@ pub struct Close {
 
 /// With NFS4_OK, a stateid that no operation takes any more.
 pub type Outcome = Answer<Stateid>;
+
+impl crate::Arguments for Close {
+    ghost named = { forms.operation.names };
+
+    fn names(&self) -> Names<'_> {
+        Names::Owned(self.stateid, self.seqid)
+    }
+
+    fn is_same(&self, other: &Close) -> bool {
+        self == other
+    }
+}
 
 impl Wire for Close {
     ghost form = { forms.arguments };

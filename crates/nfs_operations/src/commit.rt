@@ -3,6 +3,7 @@
 ghost use Rattle.nfs_operations.specs.Commit as forms;
 ghost use Rattle.xdr.specs.Reading.{Answers};
 
+use crate::Names;
 use nfs_forms::{Answer, Verifier};
 use std::alloc::Global;
 use xdr::{Wire, WireError, write_two};
@@ -21,6 +22,18 @@ pub struct Commit {
 
 /// With NFS4_OK, the verifier that WRITE gives.
 pub type Outcome = Answer<Verifier>;
+
+impl crate::Arguments for Commit {
+    ghost named = { forms.operation.names };
+
+    fn names(&self) -> Names<'_> {
+        Names::Nothing
+    }
+
+    fn is_same(&self, other: &Commit) -> bool {
+        self == other
+    }
+}
 
 impl Wire for Commit {
     ghost form = { forms.arguments };

@@ -3,6 +3,7 @@
 ghost use Rattle.nfs_operations.specs.Delegreturn as forms;
 ghost use Rattle.xdr.specs.Reading.{Answers};
 
+use crate::Names;
 use nfs_forms::{Answer, Stateid};
 use std::alloc::Global;
 use xdr::{Wire, WireError};
@@ -18,6 +19,18 @@ pub struct Delegreturn {
 
 /// A status without further data.
 pub type Outcome = Answer<()>;
+
+impl crate::Arguments for Delegreturn {
+    ghost named = { forms.operation.names };
+
+    fn names(&self) -> Names<'_> {
+        Names::State(self.stateid)
+    }
+
+    fn is_same(&self, other: &Delegreturn) -> bool {
+        self == other
+    }
+}
 
 impl Wire for Delegreturn {
     ghost form = { forms.arguments };

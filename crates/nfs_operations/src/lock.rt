@@ -3,6 +3,7 @@
 ghost use Rattle.std.specs.Prelude.{◌≡◌, ◌≢◌, MatchBool};
 ghost use Rattle.nfs_operations.specs.Lock as forms;
 
+use crate::Names;
 use nfs_forms::{Answer, LockDenied, LockType, Locker, Stateid};
 use std::alloc::Global;
 use xdr::{Wire, WireError, write_five};
@@ -38,6 +39,21 @@ impl Lock {
 
 /// With NFS4_OK, the stateid of the owner's lock state from now on; with NFS4ERR_DENIED, a lock that is in the way.
 pub type Outcome = Answer<Stateid, LockDenied>;
+
+impl crate::Arguments for Lock {
+    ghost named = { forms.operation.names };
+
+    fn names(&self) -> Names<'_> {
+        match &self.locker {
+            Locker::New(locker) => Names::Owned(locker.open_stateid, locker.open_seqid),
+            Locker::Known(locker) => Names::Owned(locker.lock_stateid, locker.lock_seqid),
+        }
+    }
+
+    fn is_same(&self, other: &Lock) -> bool {
+        self.is_same(other)
+    }
+}
 
 impl Wire for Lock {
     ghost form = { forms.arguments };

@@ -2,6 +2,7 @@
 
 ghost use Rattle.nfs_operations.specs.Lockt as forms;
 
+use crate::Names;
 use nfs_forms::{Answer, LockDenied, LockOwner, LockType};
 use std::alloc::Global;
 use xdr::{Wire, WireError, write_four};
@@ -23,6 +24,18 @@ pub struct Lockt {
 
 /// With NFS4ERR_DENIED, a lock that would be in the way.
 pub type Outcome = Answer<(), LockDenied>;
+
+impl crate::Arguments for Lockt {
+    ghost named = { forms.operation.names };
+
+    fn names(&self) -> Names<'_> {
+        Names::Client(self.owner.client)
+    }
+
+    fn is_same(&self, other: &Lockt) -> bool {
+        self == other
+    }
+}
 
 impl Wire for Lockt {
     ghost form = { forms.arguments };

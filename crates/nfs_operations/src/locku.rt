@@ -3,6 +3,7 @@
 ghost use Rattle.nfs_operations.specs.Locku as forms;
 ghost use Rattle.xdr.specs.Reading.{Answers};
 
+use crate::Names;
 use nfs_forms::{Answer, LockType, Stateid};
 use std::alloc::Global;
 use xdr::{Wire, WireError, write_five};
@@ -27,6 +28,18 @@ pub struct Locku {
 
 /// With NFS4_OK, the lock state's stateid from now on.
 pub type Outcome = Answer<Stateid>;
+
+impl crate::Arguments for Locku {
+    ghost named = { forms.operation.names };
+
+    fn names(&self) -> Names<'_> {
+        Names::Owned(self.stateid, self.seqid)
+    }
+
+    fn is_same(&self, other: &Locku) -> bool {
+        self == other
+    }
+}
 
 impl Wire for Locku {
     ghost form = { forms.arguments };

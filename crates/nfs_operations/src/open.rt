@@ -2,7 +2,9 @@
 
 ghost use Rattle.std.specs.Prelude.{◌≡◌, ◌≢◌, MatchBool};
 ghost use Rattle.nfs_operations.specs.Open as forms;
+ghost use Rattle.nfs_operations.specs.Open.{SetsNothing};
 
+use crate::{Data, Names};
 use nfs_forms::{Answer, Bitmap, ChangeInfo, Claim, OpenDelegation, OpenHow, OpenOwner, Stateid};
 use std::alloc::Global;
 use xdr::{Measure, Wire, WireError, write_five, write_four, write_two};
@@ -52,6 +54,18 @@ pub struct OpenOk {
     /// The attributes that were set at the file's creation.
     pub attrset: Bitmap,
     pub delegation: OpenDelegation,
+}
+
+impl crate::Arguments for Open {
+    ghost named = { forms.operation.names };
+
+    fn names(&self) -> Names<'_> {
+        Names::Opener(&self.owner, self.seqid)
+    }
+
+    fn is_same(&self, other: &Open) -> bool {
+        self.is_same(other)
+    }
 }
 
 impl Wire for Open {
@@ -131,5 +145,28 @@ impl Measure for OpenOk {
             + self.rflags.written_len()
             + self.attrset.written_len()
             + self.delegation.written_len()
+    }
+}
+
+impl Data for OpenOk {
+    ghost most = { 96 };
+
+    ghost IsShort = { SetsNothing };
+
+    #[tactic(auto, unfolding(crate::specs::Open::open_ok, nfs_forms::specs::ChangeInfo::change_info, xdr::specs::Writing::written_number))]
+    fn fits(&self) {
+        self.stateid.fits();
+        self.change.before.fits();
+        self.change.after.fits();
+        self.rflags.fits();
+        self.delegation.fits();
+    }
+
+    fn is_same(&self, other: &OpenOk) -> bool {
+        self.stateid == other.stateid
+            && self.change == other.change
+            && self.rflags == other.rflags
+            && self.attrset == other.attrset
+            && self.delegation == other.delegation
     }
 }

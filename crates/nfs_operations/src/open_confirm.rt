@@ -3,6 +3,7 @@
 ghost use Rattle.nfs_operations.specs.OpenConfirm as forms;
 ghost use Rattle.xdr.specs.Reading.{Answers};
 
+use crate::Names;
 use nfs_forms::{Answer, Stateid};
 use std::alloc::Global;
 use xdr::{Wire, WireError, write_two};
@@ -20,6 +21,18 @@ pub struct OpenConfirm {
 
 /// With NFS4_OK, the open's stateid from now on.
 pub type Outcome = Answer<Stateid>;
+
+impl crate::Arguments for OpenConfirm {
+    ghost named = { forms.operation.names };
+
+    fn names(&self) -> Names<'_> {
+        Names::Owned(self.stateid, self.seqid)
+    }
+
+    fn is_same(&self, other: &OpenConfirm) -> bool {
+        self == other
+    }
+}
 
 impl Wire for OpenConfirm {
     ghost form = { forms.arguments };

@@ -3,6 +3,7 @@
 ghost use Rattle.nfs_operations.specs.OpenDowngrade as forms;
 ghost use Rattle.xdr.specs.Reading.{Answers};
 
+use crate::Names;
 use nfs_forms::{Answer, Stateid};
 use std::alloc::Global;
 use xdr::{Wire, WireError, write_four};
@@ -24,6 +25,18 @@ pub struct OpenDowngrade {
 
 /// With NFS4_OK, the open's stateid from now on.
 pub type Outcome = Answer<Stateid>;
+
+impl crate::Arguments for OpenDowngrade {
+    ghost named = { forms.operation.names };
+
+    fn names(&self) -> Names<'_> {
+        Names::Owned(self.stateid, self.seqid)
+    }
+
+    fn is_same(&self, other: &OpenDowngrade) -> bool {
+        self == other
+    }
+}
 
 impl Wire for OpenDowngrade {
     ghost form = { forms.arguments };

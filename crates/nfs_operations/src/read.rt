@@ -2,7 +2,9 @@
 
 ghost use Rattle.nfs_operations.specs.Read as forms;
 ghost use Rattle.xdr.specs.Reading.{Answers};
+ghost use Rattle.nfs_operations.specs.Read.{AreFewBytes};
 
+use crate::{Data, Names};
 use nfs_forms::{Answer, Stateid};
 use std::alloc::Global;
 use xdr::{ByteParts, Measure, Wire, WireError, write_three, write_two};
@@ -30,6 +32,18 @@ pub struct ReadOk {
     /// Whether the file ends with the last of the bytes, or before the first one.
     pub eof: bool,
     pub bytes: ByteParts,
+}
+
+impl crate::Arguments for Read {
+    ghost named = { forms.operation.names };
+
+    fn names(&self) -> Names<'_> {
+        Names::State(self.stateid)
+    }
+
+    fn is_same(&self, other: &Read) -> bool {
+        self == other
+    }
 }
 
 impl Wire for Read {
@@ -76,5 +90,18 @@ impl Measure for ReadOk {
     #[tactic(auto, unfolding(crate::specs::Read::read_ok, xdr::specs::Writing::written_number))]
     fn written_len(&self) -> usize {
         4 + self.bytes.written_len()
+    }
+}
+
+impl Data for ReadOk {
+    ghost most = { 65_548 };
+
+    ghost IsShort = { AreFewBytes };
+
+    #[tactic(auto, unfolding(crate::specs::Read::read_ok, xdr::specs::Writing::written_opaque, xdr::specs::Writing::written_number))]
+    fn fits(&self) {}
+
+    fn is_same(&self, other: &ReadOk) -> bool {
+        self == other
     }
 }

@@ -3,7 +3,9 @@
 ghost use Rattle.std.specs.Prelude.{◌≡◌, ◌≢◌, IfOk, MatchBool};
 ghost use Rattle.nfs_operations.specs.Readdir as forms;
 ghost use Rattle.xdr.specs.Form.{chain};
+ghost use Rattle.nfs_operations.specs.Readdir.{AreFewEntries};
 
+use crate::{Data, Names};
 use nfs_forms::{Answer, Bitmap, Fattr, Verifier};
 use std::alloc::{AllocError, Global};
 use std::marker::Model;
@@ -121,6 +123,18 @@ impl ReaddirOk {
     }
 }
 
+impl crate::Arguments for Readdir {
+    ghost named = { forms.operation.names };
+
+    fn names(&self) -> Names<'_> {
+        Names::Nothing
+    }
+
+    fn is_same(&self, other: &Readdir) -> bool {
+        self == other
+    }
+}
+
 impl Wire for Readdir {
     ghost form = { forms.arguments };
 
@@ -228,5 +242,19 @@ impl Measure for ReaddirOk {
     #[tactic(auto, unfolding(crate::specs::Readdir::readdir_ok, xdr::specs::Writing::written_number))]
     fn written_len(&self) -> usize {
         self.verifier.written_len() + self.entries.written_len() + 4
+    }
+}
+
+impl Data for ReaddirOk {
+    ghost most = { 65_536 };
+
+    ghost IsShort = { AreFewEntries };
+
+    fn fits(&self) {}
+
+    fn is_same(&self, other: &ReaddirOk) -> bool {
+        self.verifier == other.verifier
+            && self.entries.is_same(&other.entries)
+            && self.eof == other.eof
     }
 }

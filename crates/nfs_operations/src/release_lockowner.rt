@@ -2,6 +2,7 @@
 
 ghost use Rattle.nfs_operations.specs.ReleaseLockowner as forms;
 
+use crate::Names;
 use nfs_forms::{Answer, LockOwner};
 use std::alloc::Global;
 use xdr::{Wire, WireError};
@@ -16,6 +17,18 @@ pub struct ReleaseLockowner {
 }
 
 pub type Outcome = Answer<()>;
+
+impl crate::Arguments for ReleaseLockowner {
+    ghost named = { forms.operation.names };
+
+    fn names(&self) -> Names<'_> {
+        Names::Client(self.owner.client)
+    }
+
+    fn is_same(&self, other: &ReleaseLockowner) -> bool {
+        self == other
+    }
+}
 
 impl Wire for ReleaseLockowner {
     ghost form = { forms.arguments };

@@ -2,6 +2,7 @@
 
 ghost use Rattle.nfs_operations.specs.Renew as forms;
 
+use crate::Names;
 use nfs_forms::{Answer, ClientId};
 use std::alloc::Global;
 use xdr::{Wire, WireError};
@@ -17,6 +18,18 @@ pub struct Renew {
 
 /// A status without further data.
 pub type Outcome = Answer<()>;
+
+impl crate::Arguments for Renew {
+    ghost named = { forms.operation.names };
+
+    fn names(&self) -> Names<'_> {
+        Names::Client(self.client)
+    }
+
+    fn is_same(&self, other: &Renew) -> bool {
+        self == other
+    }
+}
 
 impl Wire for Renew {
     ghost form = { forms.arguments };

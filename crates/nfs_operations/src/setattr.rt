@@ -4,7 +4,9 @@ ghost use Rattle.std.specs.Prelude.{◌≡◌, []};
 ghost use Rattle.nfs_operations.specs.Setattr as forms;
 ghost use Rattle.nfs_operations.specs.Setattr.{refused};
 ghost use Rattle.nfs_forms.specs.Bitmap.{bitmap};
+ghost use Rattle.nfs_operations.specs.Setattr.{SetsFew};
 
+use crate::{Data, Names};
 use nfs_forms::{Bitmap, Fattr, Refusal, Stateid, Status};
 use std::alloc::{AllocError, Global};
 use std::marker::Model;
@@ -119,6 +121,18 @@ impl Clone for AttributesSet {
     }
 }
 
+impl crate::Arguments for Setattr {
+    ghost named = { forms.operation.names };
+
+    fn names(&self) -> Names<'_> {
+        Names::State(self.stateid)
+    }
+
+    fn is_same(&self, other: &Setattr) -> bool {
+        self == other
+    }
+}
+
 impl Wire for Setattr {
     ghost form = { forms.arguments };
 
@@ -182,5 +196,32 @@ impl Measure for SetattrResult {
     #[tactic(auto, unfolding(crate::specs::Setattr::result, nfs_forms::specs::Status::status, xdr::specs::Writing::written_number))]
     fn written_len(&self) -> usize {
         4 + self.attributes.written_len()
+    }
+}
+
+impl crate::Outcome for SetattrResult {
+    ghost refusal = { refused };
+
+    ghost state = { λ r. r.status };
+
+    fn refused(refusal: Refusal) -> SetattrResult {
+        SetattrResult::refused(refusal)
+    }
+
+    fn status(&self) -> Status {
+        self.status
+    }
+}
+
+impl Data for SetattrResult {
+    ghost most = { 16 };
+
+    ghost IsShort = { SetsFew };
+
+    #[tactic(auto, using(crate::proofs::Refusals::set_len, crate::proofs::Refusals::status_fits), unfolding(crate::specs::Setattr::result, nfs_forms::specs::Status::status))]
+    fn fits(&self) {}
+
+    fn is_same(&self, other: &SetattrResult) -> bool {
+        self == other
     }
 }

@@ -2,6 +2,7 @@
 
 ghost use Rattle.nfs_operations.specs.Setclientid as forms;
 
+use crate::Names;
 use crate::setclientid_confirm::SetclientidConfirm;
 use nfs_forms::{Address, Answer, Callback, Verifier};
 use std::alloc::Global;
@@ -26,6 +27,18 @@ pub struct Setclientid {
 /// With NFS4_OK, the values that the client has to confirm; with NFS4ERR_CLID_INUSE, where the client that has the id
 /// is called back.
 pub type Outcome = Answer<SetclientidConfirm, (), Address>;
+
+impl crate::Arguments for Setclientid {
+    ghost named = { forms.operation.names };
+
+    fn names(&self) -> Names<'_> {
+        Names::Nothing
+    }
+
+    fn is_same(&self, other: &Setclientid) -> bool {
+        self == other
+    }
+}
 
 impl Wire for Setclientid {
     ghost form = { forms.arguments };

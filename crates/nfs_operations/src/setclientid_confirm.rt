@@ -2,7 +2,9 @@
 
 ghost use Rattle.nfs_operations.specs.SetclientidConfirm as forms;
 ghost use Rattle.xdr.specs.Reading.{Answers};
+ghost use Rattle.nfs_operations.specs.Short.{Any};
 
+use crate::{Data, Names};
 use nfs_forms::{Answer, ClientId};
 use std::alloc::Global;
 use xdr::{Measure, Wire, WireError, write_two};
@@ -20,6 +22,18 @@ pub struct SetclientidConfirm {
 
 /// A status without further data.
 pub type Outcome = Answer<()>;
+
+impl crate::Arguments for SetclientidConfirm {
+    ghost named = { forms.operation.names };
+
+    fn names(&self) -> Names<'_> {
+        Names::Nothing
+    }
+
+    fn is_same(&self, other: &SetclientidConfirm) -> bool {
+        self == other
+    }
+}
 
 impl Wire for SetclientidConfirm {
     ghost form = { forms.arguments };
@@ -43,5 +57,21 @@ impl Measure for SetclientidConfirm {
     #[tactic(auto, unfolding(crate::specs::SetclientidConfirm::arguments))]
     fn written_len(&self) -> usize {
         self.client.written_len() + self.confirm.written_len()
+    }
+}
+
+impl Data for SetclientidConfirm {
+    ghost most = { 16 };
+
+    ghost IsShort = { Any };
+
+    #[tactic(auto, unfolding(crate::specs::SetclientidConfirm::arguments))]
+    fn fits(&self) {
+        self.client.fits();
+        self.confirm.fits();
+    }
+
+    fn is_same(&self, other: &SetclientidConfirm) -> bool {
+        self == other
     }
 }

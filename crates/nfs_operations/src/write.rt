@@ -2,7 +2,9 @@
 
 ghost use Rattle.nfs_operations.specs.Write as forms;
 ghost use Rattle.xdr.specs.Reading.{Answers};
+ghost use Rattle.nfs_operations.specs.Short.{Any};
 
+use crate::{Data, Names};
 use nfs_forms::{Answer, StableHow, Stateid, Verifier};
 use std::alloc::Global;
 use xdr::{Measure, SharedBytes, Wire, WireError, write_four, write_three};
@@ -35,6 +37,18 @@ pub struct WriteOk {
     /// The verifier of the server's run. Another verifier tells the client that the server restarted, and may have lost
     /// what isn't in stable storage.
     pub verifier: Verifier,
+}
+
+impl crate::Arguments for Write {
+    ghost named = { forms.operation.names };
+
+    fn names(&self) -> Names<'_> {
+        Names::State(self.stateid)
+    }
+
+    fn is_same(&self, other: &Write) -> bool {
+        self == other
+    }
 }
 
 impl Wire for Write {
@@ -89,5 +103,22 @@ impl Measure for WriteOk {
     #[tactic(auto, unfolding(crate::specs::Write::write_ok))]
     fn written_len(&self) -> usize {
         self.count.written_len() + self.committed.written_len() + self.verifier.written_len()
+    }
+}
+
+impl Data for WriteOk {
+    ghost most = { 16 };
+
+    ghost IsShort = { Any };
+
+    #[tactic(auto, unfolding(crate::specs::Write::write_ok))]
+    fn fits(&self) {
+        self.count.fits();
+        self.committed.fits();
+        self.verifier.fits();
+    }
+
+    fn is_same(&self, other: &WriteOk) -> bool {
+        self == other
     }
 }

@@ -28,7 +28,8 @@ use Rattle.nfs_state.specs.State.{State, History}
 use Rattle.nfs_tree.specs.Children.{children_after, children_of, cookie_of, is_cookie, name_of}
 use Rattle.nfs_tree.specs.Tree.{is_directory}
 use Rattle.nfs_tree.specs.declared.node.Node.{Node}
-use Rattle.nfs_xdr.specs.Short.{AreFewAttributes, AreFewEntries}
+use Rattle.nfs_operations.specs.Getattr.{AreFewAttributes}
+use Rattle.nfs_operations.specs.Readdir.{AreFewEntries}
 use Rattle.xdr.specs.Layout.{padding_of}
 use Rattle.xdr.specs.Writing.{written_flag, written_link, written_number, written_opaque, written_u64, zeros}
 

@@ -36,7 +36,7 @@ use Rattle.nfs_xdr.specs.declared.op.Op.TheVariants as ops
 use Rattle.nfs_xdr.specs.declared.op_result.OpResult.TheVariants as results
 use Rattle.nfs_xdr.specs.Op.{opnum_of}
 use Rattle.nfs_xdr.specs.OpResult.{refusal_of}
-use Rattle.nfs_xdr.specs.Short.{HasShortName}
+use Rattle.nfs_operations.specs.Short.{HasShortName}
 
 -- a test that doesn't refuse with NFS4ERR_RESOURCE, and what comes after it
 pub refused_if_other : {A : Type 0} (test : Bool) (refusal : Refusal) (a : A) → refusal ≢ refusals.Resource → IsOther (refused_if test refusal a)

@@ -39,8 +39,7 @@ use Rattle.nfs_xdr.specs.declared.op_result.OpResult.{OpResult}
 use Rattle.nfs_xdr.specs.Names.{seqid_of}
 use Rattle.nfs_xdr.specs.Op.{opnum_of}
 use Rattle.nfs_xdr.specs.OpResult as results
-use Rattle.nfs_xdr.specs.OpResult.{refusal_of}
-use Rattle.nfs_xdr.specs.Short.{IsShort}
+use Rattle.nfs_xdr.specs.OpResult.{IsShort, refusal_of}
 
 -- where a test tells of known owners what another tells of the stored ones, both find the same owner
 find_known : (p : KnownOwner → Bool) (q : Owner → Bool) (stored : List Owner) → AllByRecursion (λ o. p (known_owner o) ≡ q o) stored → find p (map known_owner stored) ≡ option_map known_owner (find q stored)

@@ -43,8 +43,9 @@ use Rattle.nfs_operations.specs.declared.open_downgrade.OpenDowngrade.{OpenDowng
 use Rattle.nfs_forms.specs.declared.status.Refusal.{Refusal}
 use Rattle.nfs_share.specs.declared.share.Share.{Share}
 use Rattle.nfs_share.specs.Share.{share_of_numbers}
-use Rattle.nfs_xdr.specs.Names as names
-use Rattle.nfs_xdr.specs.Names.{Names, Nothing, Client, Opener, Owned, names_of}
+use Rattle.nfs_operations.specs.Names as names
+use Rattle.nfs_operations.specs.Names.{Names, Nothing, Client, Opener, Owned}
+use Rattle.nfs_xdr.specs.Names.{names_of}
 use Rattle.nfs_xdr.specs.declared.op.Op.{Op}
 use Rattle.nfs_xdr.specs.declared.op.Op.TheVariants as ops
 

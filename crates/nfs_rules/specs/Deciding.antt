@@ -12,7 +12,7 @@ use Rattle.nfs_state.specs.State.{State, History}
 use Rattle.nfs_state.specs.Entries.{IsSendable}
 use Rattle.nfs_forms.specs.declared.status.Refusal.{Refusal}
 use Rattle.nfs_forms.specs.declared.status.Refusal.TheVariants as refusals
-use Rattle.nfs_xdr.specs.Names.{Names, Owned}
+use Rattle.nfs_operations.specs.Names.{Names, Owned}
 use Rattle.nfs_xdr.specs.declared.op.Op.{Op}
 use Rattle.nfs_xdr.specs.declared.op.Op.TheVariants as ops
 use Rattle.nfs_xdr.specs.declared.op_result.OpResult.{OpResult}

@@ -20,7 +20,8 @@ use Rattle.nfs_rules.specs.operations.SetclientidConfirm as confirm
 use Rattle.nfs_rules.specs.operations.Write as write
 use Rattle.nfs_rules.specs.Sequences.{IsSequenced, Own, requester_of_open, requester_of_stateid}
 use Rattle.nfs_state.specs.State.{State, History}
-use Rattle.nfs_xdr.specs.Names.{Names, Opener, Owned, names_of}
+use Rattle.nfs_operations.specs.Names.{Names, Opener, Owned}
+use Rattle.nfs_xdr.specs.Names.{names_of}
 use Rattle.nfs_xdr.specs.declared.op.Op.{Op}
 use Rattle.nfs_xdr.specs.declared.op.Op.TheVariants as ops
 pub mod Close

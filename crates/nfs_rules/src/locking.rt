@@ -2,7 +2,7 @@
 
 ghost use Rattle.std.specs.Prelude.{◌≡◌, IfOk};
 ghost use Rattle.nfs_locks.specs.ReportSeen.{report_seen};
-ghost use Rattle.nfs_xdr.specs.Short.{HasShortName};
+ghost use Rattle.nfs_operations.specs.Short.{HasShortName};
 ghost use Rattle.nfs_rules.specs.Locking.{denied_by, lock_of_bytes, mode_of, type_of, unlock_of_bytes};
 
 use nfs_forms::{LockDenied, LockType};

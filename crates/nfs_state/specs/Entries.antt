@@ -12,8 +12,7 @@ use Rattle.nfs_tree.specs.Tree.{node_count}
 use Rattle.nfs_tree.specs.declared.profile.Profile.{Profile}
 use Rattle.nfs_xdr.specs.Op.{opnum_of}
 use Rattle.nfs_xdr.specs.OpResult as results
-use Rattle.nfs_xdr.specs.OpResult.{refusal_of}
-use Rattle.nfs_xdr.specs.Short.{IsShort}
+use Rattle.nfs_xdr.specs.OpResult.{IsShort, refusal_of}
 use Rattle.nfs_xdr.specs.declared.op.Op.{Op}
 use Rattle.nfs_xdr.specs.declared.op_result.OpResult.{OpResult}
 

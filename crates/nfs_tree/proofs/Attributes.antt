@@ -16,7 +16,7 @@ use Rattle.nfs_tree.specs.declared.profile.Profile.{Profile}
 use Rattle.nfs_tree.specs.declared.profile.Profile.TheVariants as profiles
 use Rattle.nfs_tree.specs.declared.subject.Subject.{Subject}
 use Rattle.nfs_tree.specs.Attributes.{attributes_of, common, first_attributes, has, mask_of, mask_of_first, readable, second_attributes, value_requested, value_of, values_in, values_of, words_of, written_supported}
-use Rattle.nfs_xdr.specs.Short.{AreFewAttributes}
+use Rattle.nfs_operations.specs.Getattr.{AreFewAttributes}
 
 supported_len : (p : Profile) → length (written_supported p) ≤ 16
 unfolding written_number

@@ -192,3 +192,16 @@ at_place nodes n node false root h = sym (ap (λ b. if b then None else slice_ge
 pub named_short : (nodes : List Node) (n : ℕ) (node : Node) → IsTree nodes → Some node ≡ node_at nodes n → length node.name ≤ NAME_LIMIT
 named_short nodes n node tree at =
     short_name node.name (each_named [] nodes (n - 1) node tree.each_fits (at_place nodes n node (n == 0) refl (sym at)))
+
+-- the parent of a directory is a node
+parent_within : (k : ℕ) (nodes : List Node) (i : ℕ) (node : Node) → ParentsWithin k nodes → slice_get nodes i ≡ Some node → node.parent ≤ k
+parent_within k [] i node within is = absurd cc
+parent_within k (first ∷ nodes) zero node within is =
+    let same : first ≡ node = cc in
+    subst (λ (n : Node). n.parent ≤ k) same within.0
+parent_within k (first ∷ nodes) (suc i) node within is = parent_within k nodes i node within.1 is
+
+pub node_parent : (nodes : List Node) (n : ℕ) (node : Node) → IsTree nodes → node_at nodes n ≡ Some node → node.parent < length nodes + 1
+node_parent nodes n node tree is =
+    let within = parent_within (length nodes) nodes (n - 1) node (parents_of [] nodes tt tree.each_fits) (at_place nodes n node (n == 0) refl is) in
+    omega arith

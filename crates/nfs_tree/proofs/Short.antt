@@ -1,23 +1,25 @@
 -- The answers of the operations on the tree are those of the operation, and short.
-use Rattle.std.proofs.Common.{◌≡◌, ℕ, Option, Some, None, Result, Ok, Err, List, refl, subst}
+use Rattle.std.proofs.Common.{◌≡◌, ℕ, Option, Some, None, Result, Ok, Err, List, refl, subst, arith}
 use Rattle.std.specs.Prelude.{Bool, true, false, if◌then◌else◌}
 use Rattle.nfs_forms.specs.declared.answer.Answer.TheVariants.{Done, Refused}
 use Rattle.nfs_forms.specs.declared.status.Refusal.{Refusal}
 use Rattle.nfs_forms.specs.declared.status.Refusal.TheVariants as refusals
 use Rattle.nfs_tree.specs.Effect.{Effect, stays}
 use Rattle.nfs_tree.specs.Exports.{Exported, verifier_of}
-use Rattle.nfs_tree.specs.Tree.{is_directory, node_of, resolution}
+use Rattle.nfs_tree.specs.Tree.{is_directory, node_of, parent_of, resolution}
 use Rattle.nfs_tree.specs.declared.filehandles.Filehandles.{Filehandles}
 use Rattle.nfs_tree.specs.declared.node.Node.{Node}
 use Rattle.nfs_tree.specs.operations.{effect_of}
 use Rattle.nfs_tree.specs.operations.Commit.{commit_of}
 use Rattle.nfs_tree.specs.operations.Lookup.{lookup_at, lookup_found}
+use Rattle.nfs_tree.specs.operations.Lookupp.{lookupp_at, lookupp_found}
 use Rattle.nfs_tree.specs.operations.Putfh.{putfh_at}
 use Rattle.nfs_tree.specs.operations.Restorefh.{restorefh_of}
 use Rattle.nfs_tree.specs.operations.Savefh.{savefh_of}
+use Rattle.nfs_tree.specs.operations.Secinfo.{flavors_at, flavors_found}
 use Rattle.nfs_xdr.specs.Op.{opnum_of}
 use Rattle.nfs_xdr.specs.OpResult as of_results
-use Rattle.nfs_xdr.specs.Short.{IsShort}
+use Rattle.nfs_xdr.specs.OpResult.{IsShort}
 use Rattle.nfs_xdr.specs.declared.op_result.OpResult.TheVariants as results
 use Rattle.nfs_xdr.specs.declared.op.Op.{Op}
 use Rattle.nfs_xdr.specs.declared.op.Op.TheVariants as ops
@@ -55,6 +57,22 @@ savefh_answers : (old : Filehandles) (current : Option ℕ) → Answers opnums.S
 savefh_answers old None = (tt, refl)
 savefh_answers old (Some node) = (tt, refl)
 
+lookupp_found_answers : (old : Filehandles) (found : Result ℕ Refusal) → Answers opnums.Lookupp (lookupp_found old found)
+lookupp_found_answers old (Err refusal) = (tt, refl)
+lookupp_found_answers old (Ok parent) = (tt, refl)
+
+lookupp_answers : (nodes : List Node) (old : Filehandles) (current : Option ℕ) → Answers opnums.Lookupp (lookupp_at nodes old current)
+lookupp_answers nodes old None = (tt, refl)
+lookupp_answers nodes old (Some node) = lookupp_found_answers old (parent_of nodes node)
+
+flavors_found_answers : (old : Filehandles) (found : Result ℕ Refusal) → Answers opnums.Secinfo (stays old (flavors_found found))
+flavors_found_answers old (Err refusal) = (tt, refl)
+flavors_found_answers old (Ok node) = (omega arith, refl)
+
+secinfo_answers : (nodes : List Node) (old : Filehandles) (current : Option ℕ) (name : List ℕ) → Answers opnums.Secinfo (stays old (flavors_at nodes current name))
+secinfo_answers nodes old None name = (tt, refl)
+secinfo_answers nodes old (Some node) name = flavors_found_answers old (resolution nodes node name)
+
 some_same : (made e : Effect) → Some made ≡ Some e → made ≡ e
 some_same made e is = cc
 
@@ -70,4 +88,12 @@ effect_answers export old (ops.Putfh handle) e is = of_some _ _ e (putfh_answers
 effect_answers export old ops.Putrootfh e is = of_some _ _ e (tt, refl) is
 effect_answers export old ops.Restorefh e is = of_some _ _ e (restorefh_answers old old.saved) is
 effect_answers export old ops.Savefh e is = of_some _ _ e (savefh_answers old old.current) is
+effect_answers export old (ops.Create args) e is = of_some _ _ e (tt, refl) is
+effect_answers export old (ops.Link name) e is = of_some _ _ e (tt, refl) is
+effect_answers export old ops.Lookupp e is = of_some _ _ e (lookupp_answers export.nodes old old.current) is
+effect_answers export old ops.Putpubfh e is = of_some _ _ e (tt, refl) is
+effect_answers export old ops.Readlink e is = of_some _ _ e (tt, refl) is
+effect_answers export old (ops.Remove name) e is = of_some _ _ e (tt, refl) is
+effect_answers export old (ops.Rename args) e is = of_some _ _ e (tt, refl) is
+effect_answers export old (ops.Secinfo name) e is = of_some _ _ e (secinfo_answers export.nodes old old.current name) is
 effect_answers export old op e is = absurd cc

@@ -12,5 +12,6 @@ pub mod DocumentNodes
 pub mod PolicyForm
 pub mod NodeForm
 pub mod Effect
+pub mod ReadOnly
 pub mod operations
 pub mod Filehandles

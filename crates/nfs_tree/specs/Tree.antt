@@ -81,6 +81,15 @@ resolution nodes node name =
     else if nat_lt NAME_LIMIT (length name) then Err refusals.NameTooLong
     else found_or refusals.NoEnt (child nodes node name)
 
+-- The directory that holds the node with this number: NFS4ERR_NOTDIR if the node isn't a directory, NFS4ERR_NOENT for
+-- the root (RFC 7530, section 16.14).
+abbrev pub holder_of : Option Node → Result ℕ Refusal
+holder_of None = Err refusals.NoEnt
+holder_of (Some node) = if is_directory_kind node.kind then Ok node.parent else Err refusals.NotDir
+
+abbrev pub parent_of : List Node → ℕ → Result ℕ Refusal
+parent_of nodes node = holder_of (node_at nodes node)
+
 -- how many directories there are besides the root, and how many files
 abbrev pub directories : List Node → ℕ
 directories nodes = length (filter (λ node. is_directory_kind node.kind) nodes)

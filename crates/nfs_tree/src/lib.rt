@@ -15,6 +15,7 @@ mod operations;
 mod path;
 mod policy;
 mod profile;
+mod read_only;
 mod settable;
 mod subject;
 mod tree;

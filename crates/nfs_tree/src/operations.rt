@@ -10,12 +10,20 @@ ghost use Rattle.nfs_xdr.specs.Opnum.{answer_limit};
 
 mod access;
 mod commit;
+mod create;
 mod getfh;
+mod link;
 mod lookup;
+mod lookupp;
 mod putfh;
+mod putpubfh;
 mod putrootfh;
+mod readlink;
+mod remove;
+mod rename;
 mod restorefh;
 mod savefh;
+mod secinfo;
 
 use crate::{Export, Filehandles};
 pub use access::{
@@ -51,12 +59,20 @@ impl Filehandles {
         match op {
             Op::Access(bits) => self.access(export, *bits),
             Op::Commit(_) => self.commit(export),
+            Op::Create(_) => self.create(),
             Op::Getfh => self.getfh(export.tree),
+            Op::Link(_) => self.link(),
             Op::Lookup(name) => self.lookup(export.tree, name.as_slice()),
+            Op::Lookupp => self.lookupp(export.tree),
             Op::Putfh(handle) => self.putfh(export.tree, handle.as_slice()),
+            Op::Putpubfh => self.putpubfh(export.tree),
             Op::Putrootfh => self.putrootfh(export.tree),
+            Op::Readlink => self.readlink(),
+            Op::Remove(_) => self.remove(),
+            Op::Rename(_) => self.rename(),
             Op::Restorefh => self.restorefh(export.tree),
             Op::Savefh => self.savefh(export.tree),
+            Op::Secinfo(name) => self.secinfo(export.tree, name.as_slice()),
             _ => unreachable!(),
         }
     }

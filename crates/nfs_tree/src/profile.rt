@@ -19,17 +19,11 @@ impl Profile {
     pub fn refusal(self, opnum: Opnum) -> Option<Refusal>
         ensures { result ≡ refusal self opnum }
     {
-        match (self, opnum) {
-            (Profile::Plain, Opnum::Commit | Opnum::Readdir | Opnum::Setattr) => {
-                Some(Refusal::NotSupp)
-            }
-            (Profile::Plain, Opnum::Unsupported(_)) => Some(Refusal::NotSupp),
-            (Profile::Clients, Opnum::Unsupported(op)) => match op.change() {
-                Some(_) => Some(Refusal::Rofs),
-                None => Some(Refusal::NotSupp),
-            },
-            _ => None,
-        }
+        let is_there = match self {
+            Profile::Plain => opnum.is_plain(),
+            Profile::Clients => !matches!(opnum, Opnum::Unsupported(_)),
+        };
+        (!is_there).then_some(Refusal::NotSupp)
     }
 
     /// Whether every answer of the operation except NFS4ERR_RESOURCE is an entry of the journal: it works on the state,

@@ -3,7 +3,7 @@
 ghost use Rattle.std.specs.Prelude.{◌≡◌, ◌++◌, IfOk, OnOk, codes};
 ghost use Rattle.nfs_tree.specs.Attributes.{attributes_of, mode_of, of_file, value_requested, value_of, values_in, values_of, written_supported, written_time};
 ghost use Rattle.nfs_tree.specs.Tree.{handle_of};
-ghost use Rattle.nfs_xdr.specs.Short.{AreFewAttributes};
+ghost use Rattle.nfs_operations.specs.Getattr.{AreFewAttributes};
 ghost use Rattle.xdr.specs.Writing.{written_opaque, written_u32, written_u64};
 
 use crate::attribute::{Attribute, Words};

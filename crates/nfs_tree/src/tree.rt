@@ -2,7 +2,7 @@
 
 ghost use Rattle.std.specs.Prelude.{◌≡◌, ◌<◌, ◌≤◌, ◌+◌, ℕ, true, Some, IfOk, IfSome, OnSome, option_map, position};
 ghost use Rattle.std.specs.Option.{option_copied};
-ghost use Rattle.nfs_tree.specs.Tree.{IsTree, child, handle_of, is_child, is_directory, node_at, node_count, node_of, resolution, text_of};
+ghost use Rattle.nfs_tree.specs.Tree.{IsTree, child, handle_of, is_child, is_directory, node_at, node_count, node_of, parent_of, resolution, text_of};
 
 use crate::{NAME_LIMIT, Node, NodeKind, Policy};
 use byteorder::{BigEndian, ByteOrder};
@@ -135,6 +135,20 @@ impl Tree {
             return Err(Refusal::NameTooLong);
         }
         self.lookup(node, name).ok_or(Refusal::NoEnt)
+    }
+
+    /// The directory that holds a node. Fails if the node isn't a directory, or if it is the root.
+    #[tactic(auto, using(crate::proofs::Nodes::node_parent))]
+    pub fn parent(&self, node: u32) -> Result<u32, Refusal>
+        ensures parent { result ≡ parent_of self.now.nodes node }
+        ensures within { IfOk result (λ n. n < node_count self.now.nodes) }
+    {
+        let _nodes = &self.nodes;
+        match self.node(node) {
+            None => Err(Refusal::NoEnt),
+            Some(found) if found.kind.is_directory() => Ok(found.parent),
+            Some(_) => Err(Refusal::NotDir),
+        }
     }
 
     /// The filehandle of a node.

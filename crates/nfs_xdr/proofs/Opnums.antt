@@ -18,7 +18,7 @@ at_place number = slice_index_or OPNUMS (min (number - 3) 37) op.Access
 -- each operation is at the position that belongs to its number
 placed : (o : Opnum) → at_place (number_of o) ≡ o
 placed op.Illegal = refl
-placed (op.Unsupported without.Create) = refl
+placed (op.Unsupported without.Delegpurge) = refl
 placed (op.Unsupported o) = refl
 placed o = refl
 

@@ -18,13 +18,13 @@ pub use compound::{
     write_results,
 };
 pub use limits::limit_of_compounds;
-pub use names::Names;
 pub use nfs_forms::{
     Address, Answer, Bitmap, Callback, ChangeInfo, Claim, ClientId, CreateHow, DelegationType,
     FILE_HANDLE_LIMIT, Fattr, FileHandle, KnownLocker, LockDenied, LockOwner, LockType, Locker,
     NewLocker, OWNER_NAME_LIMIT, OpenDelegation, OpenHow, OpenOwner, Principal, Refusal, STATUSES,
     StableHow, Stateid, Status, Values, Verifier, limits_of_forms,
 };
+pub use nfs_operations::{Class, Failure, Names};
 pub use op::Op;
 pub use op_result::OpResult;
-pub use opnum::{Class, DirectoryChange, OPNUMS, Opnum, Unsupported};
+pub use opnum::{OPNUMS, Opnum, Unsupported};

@@ -14,8 +14,8 @@ use xdr::{Wire, WireError, write_two};
 
 macro_rules! opnum_of_op {
     (
-        [$($With:ident = $n:literal $c:ident,)*]
-        [$($Without:ident = $m:literal $d:ident,)*]
+        [$($With:ident = $n:literal $c:ident $p:literal,)*]
+        [$($Without:ident = $m:literal $d:ident $q:literal,)*]
         $op:expr
     ) => {
         match $op {
@@ -27,8 +27,8 @@ macro_rules! opnum_of_op {
 
 macro_rules! read_arguments_of {
     (
-        [$($With:ident = $n:literal $c:ident,)*]
-        [$($Without:ident = $m:literal $d:ident,)*]
+        [$($With:ident = $n:literal $c:ident $p:literal,)*]
+        [$($Without:ident = $m:literal $d:ident $q:literal,)*]
         $opnum:expr, $alloc:expr, $bytes:expr
     ) => {
         match $opnum {
@@ -41,8 +41,8 @@ macro_rules! read_arguments_of {
 
 macro_rules! write_op_of {
     (
-        [$($With:ident = $n:literal $c:ident,)*]
-        [$($Without:ident = $m:literal $d:ident,)*]
+        [$($With:ident = $n:literal $c:ident $p:literal,)*]
+        [$($Without:ident = $m:literal $d:ident $q:literal,)*]
         $op:expr, $out:expr
     ) => {
         match $op {
@@ -58,23 +58,31 @@ pub enum Op {
     Access(of::access::Arguments),
     Close(of::close::Arguments),
     Commit(of::commit::Arguments),
+    Create(of::create::Arguments),
     Delegreturn(of::delegreturn::Arguments),
     Getattr(of::getattr::Arguments),
     Getfh,
+    Link(of::link::Arguments),
     Lock(of::lock::Arguments),
     Lockt(of::lockt::Arguments),
     Locku(of::locku::Arguments),
     Lookup(of::lookup::Arguments),
+    Lookupp,
     Open(of::open::Arguments),
     OpenConfirm(of::open_confirm::Arguments),
     OpenDowngrade(of::open_downgrade::Arguments),
     Putfh(of::putfh::Arguments),
+    Putpubfh,
     Putrootfh,
     Read(of::read::Arguments),
     Readdir(of::readdir::Arguments),
+    Readlink,
+    Remove(of::remove::Arguments),
+    Rename(of::rename::Arguments),
     Renew(of::renew::Arguments),
     Restorefh,
     Savefh,
+    Secinfo(of::secinfo::Arguments),
     Setattr(of::setattr::Arguments),
     Setclientid(of::setclientid::Arguments),
     SetclientidConfirm(of::setclientid_confirm::Arguments),

@@ -4,24 +4,24 @@ ghost use Rattle.std.specs.Prelude.{◌≡◌, ◌≤◌, length};
 ghost use Rattle.nfs_xdr.specs.OpResult as results;
 ghost use Rattle.nfs_xdr.specs.declared.opnum.Opnum.TheVariants as opnums;
 ghost use Rattle.nfs_xdr.specs.Opnum.{answer_limit};
-ghost use Rattle.nfs_xdr.specs.OpResult.{change_case, opnum_of, refusal_of, refused_without_rule, result_case, status_of};
+ghost use Rattle.nfs_xdr.specs.OpResult.{opnum_of, refusal_of, result_case, status_of};
 ghost use Rattle.nfs_xdr.specs.declared.op_result.OpResult.TheVariants as made;
 ghost use Rattle.xdr.specs.Reading.{Gives};
 ghost use Rattle.xdr.specs.Switch.{case_at};
 ghost use Rattle.xdr.specs.Writing.{Writes};
 
 use crate::opnum::each_operation;
-use crate::{Answer, DirectoryChange, Opnum, Refusal, Status, Unsupported};
+use crate::{Answer, Opnum, Refusal, Status, Unsupported};
 use nfs_operations as of;
-use nfs_operations::setattr::SetattrResult;
+use nfs_operations::Outcome;
 use std::alloc::{AllocError, Global};
-use xdr::{Measure, Wire, WireError, read_constant, read_u32, write_two};
+use xdr::{Measure, Wire, WireError, read_constant, write_two};
 
 // Matches a result, and evaluates an expression over the answer inside it.
 macro_rules! of_answer {
     (
-        [$($X:ident = $n:literal $c:ident,)*]
-        [$($Y:ident = $m:literal $d:ident,)*]
+        [$($X:ident = $n:literal $c:ident $p:literal,)*]
+        [$($Y:ident = $m:literal $d:ident $q:literal,)*]
         $result:expr, $answer:ident => $value:expr; $($rest:tt)*
     ) => {
         match $result {
@@ -35,12 +35,15 @@ macro_rules! of_answer {
 pub(crate) use of_answer;
 
 macro_rules! opnum_of_result {
-    ([$($X:ident = $n:literal $c:ident,)*] [$($Y:ident = $m:literal $d:ident,)*] $result:expr) => {
+    (
+        [$($X:ident = $n:literal $c:ident $p:literal,)*]
+        [$($Y:ident = $m:literal $d:ident $q:literal,)*]
+        $result:expr
+    ) => {
         match $result {
             $(OpResult::$X(_) => Opnum::$X,)*
             $(OpResult::$Y(_) => Opnum::$Y,)*
             OpResult::Unsupported(op) => Opnum::Unsupported(*op),
-            OpResult::ReadOnly(change) => Opnum::Unsupported(change.operation()),
             OpResult::Illegal(_) => Opnum::Illegal,
         }
     };
@@ -48,8 +51,8 @@ macro_rules! opnum_of_result {
 
 macro_rules! read_answer_of {
     (
-        [$($X:ident = $n:literal $c:ident,)*]
-        [$($Y:ident = $m:literal $d:ident,)*]
+        [$($X:ident = $n:literal $c:ident $p:literal,)*]
+        [$($Y:ident = $m:literal $d:ident $q:literal,)*]
         $opnum:expr, $alloc:expr, $bytes:expr
     ) => {
         match $opnum {
@@ -63,40 +66,29 @@ macro_rules! read_answer_of {
 
 macro_rules! write_result_of {
     (
-        [$($X:ident = $n:literal $c:ident,)*]
-        [$($Y:ident = $m:literal $d:ident,)*]
+        [$($X:ident = $n:literal $c:ident $p:literal,)*]
+        [$($Y:ident = $m:literal $d:ident $q:literal,)*]
         $result:expr, $out:expr
     ) => {
         match $result {
             $(OpResult::$X(answer) => write_two($out, &Opnum::$X, answer),)*
             $(OpResult::$Y(answer) => write_two($out, &Opnum::$Y, answer),)*
             OpResult::Unsupported(op) => write_unsupported($out, *op),
-            OpResult::ReadOnly(change) => write_read_only($out, *change),
             OpResult::Illegal(answer) => write_two($out, &Opnum::Illegal, answer),
         }
     };
 }
 
-// The result of one operation with a rule, refused.
-macro_rules! refused {
-    (Setattr $refusal:expr) => {
-        OpResult::Setattr(SetattrResult::refused($refusal))
-    };
-    ($X:ident $refusal:expr) => {
-        OpResult::$X(Answer::Refused($refusal))
-    };
-}
-
 macro_rules! refusal_of_opnum {
     (
-        [$($X:ident = $n:literal $c:ident,)*]
-        [$($Y:ident = $m:literal $d:ident,)*]
+        [$($X:ident = $n:literal $c:ident $p:literal,)*]
+        [$($Y:ident = $m:literal $d:ident $q:literal,)*]
         $opnum:expr, $refusal:expr
     ) => {
         match $opnum {
-            $(Opnum::$X => refused!($X $refusal),)*
-            $(Opnum::$Y => refused!($Y $refusal),)*
-            Opnum::Unsupported(op) => op.refused($refusal),
+            $(Opnum::$X => OpResult::$X(Outcome::refused($refusal)),)*
+            $(Opnum::$Y => OpResult::$Y(Outcome::refused($refusal)),)*
+            Opnum::Unsupported(op) => OpResult::Unsupported(op),
             Opnum::Illegal => OpResult::Illegal(Answer::Refused($refusal)),
         }
     };
@@ -104,15 +96,14 @@ macro_rules! refusal_of_opnum {
 
 macro_rules! copy_of_result {
     (
-        [$($X:ident = $n:literal $c:ident,)*]
-        [$($Y:ident = $m:literal $d:ident,)*]
+        [$($X:ident = $n:literal $c:ident $p:literal,)*]
+        [$($Y:ident = $m:literal $d:ident $q:literal,)*]
         $result:expr
     ) => {
         match $result {
             $(OpResult::$X(answer) => Ok(OpResult::$X(answer.clone()?)),)*
             $(OpResult::$Y(answer) => Ok(OpResult::$Y(answer.clone()?)),)*
             OpResult::Unsupported(op) => Ok(OpResult::Unsupported(*op)),
-            OpResult::ReadOnly(change) => Ok(OpResult::ReadOnly(*change)),
             OpResult::Illegal(answer) => Ok(OpResult::Illegal(answer.clone()?)),
         }
     };
@@ -124,23 +115,31 @@ pub enum OpResult {
     Access(of::access::Outcome),
     Close(of::close::Outcome),
     Commit(of::commit::Outcome),
+    Create(of::create::Outcome),
     Delegreturn(of::delegreturn::Outcome),
     Getattr(of::getattr::Outcome),
     Getfh(of::getfh::Outcome),
+    Link(of::link::Outcome),
     Lock(of::lock::Outcome),
     Lockt(of::lockt::Outcome),
     Locku(of::locku::Outcome),
     Lookup(of::lookup::Outcome),
+    Lookupp(of::lookupp::Outcome),
     Open(of::open::Outcome),
     OpenConfirm(of::open_confirm::Outcome),
     OpenDowngrade(of::open_downgrade::Outcome),
     Putfh(of::putfh::Outcome),
+    Putpubfh(of::putpubfh::Outcome),
     Putrootfh(of::putrootfh::Outcome),
     Read(of::read::Outcome),
     Readdir(of::readdir::Outcome),
+    Readlink(of::readlink::Outcome),
+    Remove(of::remove::Outcome),
+    Rename(of::rename::Outcome),
     Renew(of::renew::Outcome),
     Restorefh(of::restorefh::Outcome),
     Savefh(of::savefh::Outcome),
+    Secinfo(of::secinfo::Outcome),
     Setattr(of::setattr::Outcome),
     Setclientid(of::setclientid::Outcome),
     SetclientidConfirm(of::setclientid_confirm::Outcome),
@@ -148,8 +147,6 @@ pub enum OpResult {
     ReleaseLockowner(of::release_lockowner::Outcome),
     /// NFS4ERR_NOTSUPP, the result of an operation that this server doesn't implement.
     Unsupported(Unsupported),
-    /// NFS4ERR_ROFS, the other result of such an operation that would change a directory.
-    ReadOnly(DirectoryChange),
     /// The result for an operation that doesn't exist.
     Illegal(Answer<()>),
 }
@@ -179,7 +176,6 @@ impl OpResult {
         each_operation!(
             of_answer self, answer => answer.status();
             OpResult::Unsupported(_) => Status::Refused(Refusal::NotSupp),
-            OpResult::ReadOnly(_) => Status::Refused(Refusal::Rofs),
             OpResult::Illegal(answer) => answer.status(),
         )
     }
@@ -198,8 +194,8 @@ impl OpResult {
 
 impl Opnum {
     /// The result of the operation if it is refused with this status. An operation without a rule is refused with
-    /// NFS4ERR_ROFS where it would change a directory and that is the status, and otherwise with NFS4ERR_NOTSUPP.
-    #[tactic(auto, using(crate::proofs::Refusals::refused_fits, crate::proofs::Refusals::refused_len, crate::proofs::Refusals::refusal_fits), unfolding(nfs_operations::specs::Setattr::result, crate::specs::OpResult::op_result, crate::specs::Opnum::opnum, nfs_forms::specs::Answer::answer, nfs_forms::specs::Status::status, xdr::specs::Writing::written_number))]
+    /// NFS4ERR_NOTSUPP alone.
+    #[tactic(auto, using(crate::proofs::Refusals::unsupported_fits, crate::proofs::Refusals::unsupported_len, nfs_operations::proofs::Refusals::refusal_fits), unfolding(nfs_operations::specs::Failure::failure, nfs_operations::specs::Setattr::result, crate::specs::OpResult::op_result, crate::specs::Opnum::opnum, nfs_forms::specs::Answer::answer, nfs_forms::specs::Status::status, xdr::specs::Writing::written_number))]
     pub fn refusal(self, refusal: Refusal) -> OpResult
         ensures value { result ≡ refusal_of self refusal }
         ensures form { results.op_result.Fits result }
@@ -213,50 +209,11 @@ impl Opnum {
 // The number of NFS4ERR_NOTSUPP.
 const NOT_SUPPORTED: u32 = 10004;
 
-// The number of NFS4ERR_ROFS.
-const READ_ONLY: u32 = 30;
-
-impl Unsupported {
-    // The result of the operation if it is refused with this status.
-    fn refused(self, refusal: Refusal) -> OpResult
-        ensures { result ≡ refused_without_rule self refusal }
-    {
-        if refusal != Refusal::Rofs {
-            return OpResult::Unsupported(self);
-        }
-        match self.change() {
-            Some(change) => OpResult::ReadOnly(change),
-            None => OpResult::Unsupported(self),
-        }
-    }
-}
-
 fn read_unsupported(op: Unsupported, bytes: &[u8]) -> Result<(OpResult, &[u8]), WireError>
     ensures { Gives (λ x. (x.0, x.1.now)) result
         (case_at (result_case (opnums.Unsupported op)) bytes.now) }
 {
-    match op.change() {
-        Some(change) => read_refused_change(change, bytes),
-        None => {
-            read_constant(bytes, NOT_SUPPORTED).map(|(_, rest)| (OpResult::Unsupported(op), rest))
-        }
-    }
-}
-
-#[tactic(auto, unfolding(xdr::specs::Reading::value_at))]
-fn read_refused_change(
-    change: DirectoryChange,
-    bytes: &[u8],
-) -> Result<(OpResult, &[u8]), WireError>
-    ensures { Gives (λ x. (x.0, x.1.now)) result
-        (case_at (change_case change) bytes.now) }
-{
-    let (number, rest) = read_u32(bytes)?;
-    match number {
-        READ_ONLY => Ok((OpResult::ReadOnly(change), rest)),
-        NOT_SUPPORTED => Ok((OpResult::Unsupported(change.operation()), rest)),
-        _ => Err(WireError::Short),
-    }
+    read_constant(bytes, NOT_SUPPORTED).map(|(_, rest)| (OpResult::Unsupported(op), rest))
 }
 
 impl Wire for OpResult {
@@ -283,21 +240,12 @@ fn write_unsupported(out: &mut Vec<u8>, op: Unsupported) -> Result<(), WireError
     write_two(out, &Opnum::Unsupported(op), &NOT_SUPPORTED)
 }
 
-// Writes NFS4ERR_ROFS.
-fn write_read_only(out: &mut Vec<u8>, change: DirectoryChange) -> Result<(), WireError>
-    ensures { Writes out.old out.new result
-        (results.op_result.encoding (made.ReadOnly change))
-        (results.op_result.Fits (made.ReadOnly change)) }
-{
-    write_two(out, &Opnum::Unsupported(change.operation()), &READ_ONLY)
-}
-
 impl Measure for OpResult {
-    #[tactic(auto, using(crate::proofs::Refusals::unsupported_len, crate::proofs::Refusals::read_only_len), unfolding(crate::specs::OpResult::op_result, crate::specs::Opnum::opnum, xdr::specs::Writing::written_number))]
+    #[tactic(auto, using(crate::proofs::Refusals::unsupported_len), unfolding(crate::specs::OpResult::op_result, crate::specs::Opnum::opnum, xdr::specs::Writing::written_number))]
     fn written_len(&self) -> usize {
         each_operation!(
             of_answer self, answer => 4 + answer.written_len();
-            OpResult::Unsupported(_) | OpResult::ReadOnly(_) => 8,
+            OpResult::Unsupported(_) => 8,
             OpResult::Illegal(answer) => 4 + answer.written_len(),
         )
     }

@@ -2,45 +2,55 @@
 
 ghost use Rattle.std.specs.Prelude.{◌≡◌};
 ghost use Rattle.nfs_xdr.specs.Opnum as opnums;
-ghost use Rattle.nfs_xdr.specs.Opnum.{answer_limit, change_of, class_of, number_of, number_of_unsupported, operation_of, opnum_of, room_of};
+ghost use Rattle.nfs_xdr.specs.Opnum.{answer_limit, class_of, is_plain, number_of, opnum_of, room_of};
+ghost use Rattle.nfs_xdr.specs.Table.{number_of_unsupported};
 ghost use Rattle.xdr.specs.Reading.{Answers};
 
+use nfs_operations::Class;
 use std::alloc::Global;
 use xdr::{Wire, WireError, read_u32, write_u32};
 
-// The implemented operations, one row each: the name, the number, and what it works on. Those with arguments come
-// first.
+// The implemented operations, one row each: the name, the number, what it works on, and whether the profile "plain" has
+// it, too. Those with arguments come first.
 macro_rules! each_operation {
     ($then:ident $($given:tt)*) => {
         $then!(
             [
-                Access = 3 OnTree,
-                Close = 4 OnState,
-                Commit = 5 OnTree,
-                Delegreturn = 8 OnState,
-                Getattr = 9 OnState,
-                Lock = 12 OnState,
-                Lockt = 13 OnState,
-                Locku = 14 OnState,
-                Lookup = 15 OnTree,
-                Open = 18 OnState,
-                OpenConfirm = 20 OnState,
-                OpenDowngrade = 21 OnState,
-                Putfh = 22 OnTree,
-                Read = 25 OnState,
-                Readdir = 26 OnState,
-                Renew = 30 OnLeases,
-                Setattr = 34 OnState,
-                Setclientid = 35 OnState,
-                SetclientidConfirm = 36 OnState,
-                Write = 38 OnState,
-                ReleaseLockowner = 39 OnState,
+                Access = 3 OnTree true,
+                Close = 4 OnState true,
+                Commit = 5 OnTree false,
+                Create = 6 OnTree false,
+                Delegreturn = 8 OnState true,
+                Getattr = 9 OnState true,
+                Link = 11 OnTree false,
+                Lock = 12 OnState true,
+                Lockt = 13 OnState true,
+                Locku = 14 OnState true,
+                Lookup = 15 OnTree true,
+                Open = 18 OnState true,
+                OpenConfirm = 20 OnState true,
+                OpenDowngrade = 21 OnState true,
+                Putfh = 22 OnTree true,
+                Read = 25 OnState true,
+                Readdir = 26 OnState false,
+                Remove = 28 OnTree false,
+                Rename = 29 OnTree false,
+                Renew = 30 OnLeases true,
+                Secinfo = 33 OnTree false,
+                Setattr = 34 OnState false,
+                Setclientid = 35 OnState true,
+                SetclientidConfirm = 36 OnState true,
+                Write = 38 OnState true,
+                ReleaseLockowner = 39 OnState true,
             ]
             [
-                Getfh = 10 OnTree,
-                Putrootfh = 24 OnTree,
-                Restorefh = 31 OnTree,
-                Savefh = 32 OnTree,
+                Getfh = 10 OnTree true,
+                Lookupp = 16 OnTree false,
+                Putpubfh = 23 OnTree false,
+                Putrootfh = 24 OnTree true,
+                Readlink = 27 OnTree false,
+                Restorefh = 31 OnTree true,
+                Savefh = 32 OnTree true,
             ]
             $($given)*
         )
@@ -52,17 +62,9 @@ pub(crate) use each_operation;
 /// The operations of NFSv4.0 that this server doesn't implement, with their numbers.
 #[derive(Clone, Copy, PartialEq, Eq)]
 pub enum Unsupported {
-    Create = 6,
     Delegpurge = 7,
-    Link = 11,
-    Lookupp = 16,
     Nverify = 17,
     Openattr = 19,
-    Putpubfh = 23,
-    Readlink = 27,
-    Remove = 28,
-    Rename = 29,
-    Secinfo = 33,
     Verify = 37,
 }
 
@@ -72,42 +74,6 @@ impl Unsupported {
     {
         self as u32
     }
-
-    /// Which change of a directory the operation would be, if it is one.
-    pub fn change(self) -> Option<DirectoryChange>
-        ensures { result ≡ change_of self }
-    {
-        match self {
-            Unsupported::Create => Some(DirectoryChange::Create),
-            Unsupported::Link => Some(DirectoryChange::Link),
-            Unsupported::Remove => Some(DirectoryChange::Remove),
-            Unsupported::Rename => Some(DirectoryChange::Rename),
-            _ => None,
-        }
-    }
-}
-
-/// The operations that this server doesn't implement and that would change a directory.
-#[derive(Clone, Copy, PartialEq, Eq)]
-pub enum DirectoryChange {
-    Create,
-    Link,
-    Remove,
-    Rename,
-}
-
-impl DirectoryChange {
-    /// The operation that would change the directory.
-    pub fn operation(self) -> Unsupported
-        ensures { result ≡ operation_of self }
-    {
-        match self {
-            DirectoryChange::Create => Unsupported::Create,
-            DirectoryChange::Link => Unsupported::Link,
-            DirectoryChange::Remove => Unsupported::Remove,
-            DirectoryChange::Rename => Unsupported::Rename,
-        }
-    }
 }
 
 /// The operations of NFSv4.0 (nfs_opnum4).
@@ -116,23 +82,31 @@ pub enum Opnum {
     Access,
     Close,
     Commit,
+    Create,
     Delegreturn,
     Getattr,
     Getfh,
+    Link,
     Lock,
     Lockt,
     Locku,
     Lookup,
+    Lookupp,
     Open,
     OpenConfirm,
     OpenDowngrade,
     Putfh,
+    Putpubfh,
     Putrootfh,
     Read,
     Readdir,
+    Readlink,
+    Remove,
+    Rename,
     Renew,
     Restorefh,
     Savefh,
+    Secinfo,
     Setattr,
     Setclientid,
     SetclientidConfirm,
@@ -144,21 +118,8 @@ pub enum Opnum {
     Illegal,
 }
 
-/// What an operation works on.
-#[derive(Clone, Copy, PartialEq, Eq)]
-pub enum Class {
-    /// Only the tree of files and the filehandles.
-    OnTree,
-    /// The state: every answer except NFS4ERR_RESOURCE is an entry of the journal.
-    OnState,
-    /// Only the leases of the clients: it has no entry in the journal.
-    OnLeases,
-    /// Nothing: this server doesn't implement it, and doesn't run it.
-    OnNothing,
-}
-
 macro_rules! number_of_opnum {
-    ([$($X:ident = $n:literal $c:ident,)*] [$($Y:ident = $m:literal $d:ident,)*] $opnum:expr) => {
+    ([$($X:ident = $n:literal $c:ident $p:literal,)*] [$($Y:ident = $m:literal $d:ident $q:literal,)*] $opnum:expr) => {
         match $opnum {
             $(Opnum::$X => $n,)*
             $(Opnum::$Y => $m,)*
@@ -168,8 +129,19 @@ macro_rules! number_of_opnum {
     };
 }
 
+macro_rules! is_plain_opnum {
+    ([$($X:ident = $n:literal $c:ident $p:literal,)*] [$($Y:ident = $m:literal $d:ident $q:literal,)*] $opnum:expr) => {
+        match $opnum {
+            $(Opnum::$X => $p,)*
+            $(Opnum::$Y => $q,)*
+            Opnum::Unsupported(_) => false,
+            Opnum::Illegal => true,
+        }
+    };
+}
+
 macro_rules! class_of_opnum {
-    ([$($X:ident = $n:literal $c:ident,)*] [$($Y:ident = $m:literal $d:ident,)*] $opnum:expr) => {
+    ([$($X:ident = $n:literal $c:ident $p:literal,)*] [$($Y:ident = $m:literal $d:ident $q:literal,)*] $opnum:expr) => {
         match $opnum {
             $(Opnum::$X => Class::$c,)*
             $(Opnum::$Y => Class::$d,)*
@@ -186,34 +158,34 @@ pub const OPNUMS: [Opnum; 38] = [
     Opnum::Access,
     Opnum::Close,
     Opnum::Commit,
-    Opnum::Unsupported(Unsupported::Create),
+    Opnum::Create,
     Opnum::Unsupported(Unsupported::Delegpurge),
     Opnum::Delegreturn,
     Opnum::Getattr,
     Opnum::Getfh,
-    Opnum::Unsupported(Unsupported::Link),
+    Opnum::Link,
     Opnum::Lock,
     Opnum::Lockt,
     Opnum::Locku,
     Opnum::Lookup,
-    Opnum::Unsupported(Unsupported::Lookupp),
+    Opnum::Lookupp,
     Opnum::Unsupported(Unsupported::Nverify),
     Opnum::Open,
     Opnum::Unsupported(Unsupported::Openattr),
     Opnum::OpenConfirm,
     Opnum::OpenDowngrade,
     Opnum::Putfh,
-    Opnum::Unsupported(Unsupported::Putpubfh),
+    Opnum::Putpubfh,
     Opnum::Putrootfh,
     Opnum::Read,
     Opnum::Readdir,
-    Opnum::Unsupported(Unsupported::Readlink),
-    Opnum::Unsupported(Unsupported::Remove),
-    Opnum::Unsupported(Unsupported::Rename),
+    Opnum::Readlink,
+    Opnum::Remove,
+    Opnum::Rename,
     Opnum::Renew,
     Opnum::Restorefh,
     Opnum::Savefh,
-    Opnum::Unsupported(Unsupported::Secinfo),
+    Opnum::Secinfo,
     Opnum::Setattr,
     Opnum::Setclientid,
     Opnum::SetclientidConfirm,
@@ -245,6 +217,14 @@ impl Opnum {
         ensures { result ≡ class_of self }
     {
         each_operation!(class_of_opnum self)
+    }
+
+    /// Whether the profile "plain" has the operation, too. An operation that doesn't exist is refused by its number,
+    /// under each profile.
+    pub fn is_plain(self) -> bool
+        ensures { result ≡ is_plain self }
+    {
+        each_operation!(is_plain_opnum self)
     }
 
     // No result of the operation is longer than this.

@@ -6,7 +6,7 @@ ghost use Rattle.nfs_owners.specs.Registration.{Arrival, Update, registration, r
 ghost use Rattle.nfs_owners.specs.ClientRoom.{FitsRecords, HasNumbersFor};
 ghost use Rattle.nfs_owners.specs.Registry.{IsClientOf};
 ghost use Rattle.nfs_owners.specs.Addresses.{is_within_limit};
-ghost use Rattle.nfs_xdr.specs.Short.{IsShort};
+ghost use Rattle.nfs_xdr.specs.OpResult.{IsShort};
 ghost use Rattle.nfs_xdr.specs.declared.op_result.OpResult.TheVariants as OpResult;
 
 use super::{ClientChange, Clients};

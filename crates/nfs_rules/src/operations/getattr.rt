@@ -5,7 +5,7 @@ ghost use Rattle.nfs_rules.specs.operations.Getattr.{attributes, rule, subject_o
 ghost use Rattle.nfs_rules.specs.Deciding.{Decides};
 ghost use Rattle.nfs_state.specs.Entries.{IsFilehandle};
 ghost use Rattle.nfs_state.specs.Room.{state_of};
-ghost use Rattle.nfs_xdr.specs.Short.{IsShort};
+ghost use Rattle.nfs_xdr.specs.OpResult.{IsShort};
 
 use crate::decision::Decision;
 use nfs_state::{Change, Effect, Request, Shortage, Store};

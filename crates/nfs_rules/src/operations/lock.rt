@@ -16,7 +16,8 @@ ghost use Rattle.nfs_state.specs.Kept.{Agrees};
 ghost use Rattle.nfs_state.specs.Room.{state_of};
 ghost use Rattle.nfs_state.specs.State.{History};
 ghost use Rattle.nfs_state.specs.declared.request.Request.{Request};
-ghost use Rattle.nfs_xdr.specs.Names.{locker_names, names_of};
+ghost use Rattle.nfs_operations.specs.Names.{locker_names};
+ghost use Rattle.nfs_xdr.specs.Names.{names_of};
 
 use crate::demand::Demand;
 use crate::locking::{denied_by, lock_of_bytes, mode_of};

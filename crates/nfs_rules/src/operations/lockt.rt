@@ -5,7 +5,7 @@ ghost use Rattle.nfs_rules.specs.Deciding.{Decides};
 ghost use Rattle.nfs_rules.specs.declared.decision.Decision.{Decision};
 ghost use Rattle.nfs_rules.specs.operations.Lockt.{IsRuled, IsTest, lockt_file, only};
 ghost use Rattle.nfs_state.specs.Room.{state_of};
-ghost use Rattle.nfs_xdr.specs.Short.{IsShort};
+ghost use Rattle.nfs_xdr.specs.OpResult.{IsShort};
 
 use crate::decision::Decision;
 use crate::locking::{denied_by, mode_of};

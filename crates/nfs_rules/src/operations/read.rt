@@ -4,7 +4,7 @@ ghost use Rattle.std.specs.Prelude.{◌≡◌, IfOk};
 ghost use Rattle.nfs_rules.specs.Deciding.{Decides};
 ghost use Rattle.nfs_rules.specs.operations.Read.{answer_of, rule};
 ghost use Rattle.nfs_state.specs.Room.{state_of};
-ghost use Rattle.nfs_xdr.specs.Short.{IsShort};
+ghost use Rattle.nfs_xdr.specs.OpResult.{IsShort};
 
 use crate::decision::Decision;
 use crate::transfer::{Transfer, file_for};

@@ -7,7 +7,7 @@ ghost use Rattle.nfs_rules.specs.Listings.{AreLongest};
 ghost use Rattle.nfs_rules.specs.operations.Readdir as specs;
 ghost use Rattle.nfs_state.specs.Entries.{IsFilehandle};
 ghost use Rattle.nfs_state.specs.Room.{state_of};
-ghost use Rattle.nfs_xdr.specs.Short.{IsShort};
+ghost use Rattle.nfs_xdr.specs.OpResult.{IsShort};
 
 use super::getattr::subject_of;
 use crate::decision::Decision;

@@ -113,7 +113,7 @@ def create_file(**values: Any) -> Openhow:
     return Openhow(wire.OPEN4_CREATE, wire.UNCHECKED4, attributes(**values))
 
 
-def other(name: str, arguments: Any = wire.Nothing()) -> Request:
+def other(name: str, arguments: Any) -> Request:
     """An operation that this server has no rule for."""
     return Request(OTHER_OPERATIONS[name], arguments)
 
@@ -135,7 +135,7 @@ def commit(offset: int = 0, count: int = 0) -> Request:
 
 def create(kind: int, name: Name, value: Any = None, attributes: Fattr = ((), b"")) -> Request:
     """The value is the text of a symbolic link, or the two numbers of a device."""
-    return other("CREATE", wire.Create(kind, value, bytes_of(name), attributes))
+    return Request(Opnum.CREATE, wire.Create(kind, value, bytes_of(name), attributes))
 
 
 def delegpurge(clientid: Clientid) -> Request:
@@ -160,7 +160,7 @@ def illegal() -> Request:
 
 
 def link(name: Name) -> Request:
-    return other("LINK", wire.Remove(bytes_of(name)))
+    return Request(Opnum.LINK, wire.Link(bytes_of(name)))
 
 
 def lock(locktype: int, offset: int, length: int, locker: KnownLocker | NewLocker, reclaim: bool = False) -> Request:
@@ -180,7 +180,7 @@ def lookup(name: Name) -> Request:
 
 
 def lookupp() -> Request:
-    return other("LOOKUPP")
+    return Request(Opnum.LOOKUPP, wire.Nothing())
 
 
 def nverify(attributes: Fattr) -> Request:
@@ -218,7 +218,7 @@ def putfh(filehandle: bytes) -> Request:
 
 
 def putpubfh() -> Request:
-    return other("PUTPUBFH")
+    return Request(Opnum.PUTPUBFH, wire.Nothing())
 
 
 def putrootfh() -> Request:
@@ -240,15 +240,15 @@ def readdir(
 
 
 def readlink() -> Request:
-    return other("READLINK")
+    return Request(Opnum.READLINK, wire.Nothing())
 
 
 def remove(name: Name) -> Request:
-    return other("REMOVE", wire.Remove(bytes_of(name)))
+    return Request(Opnum.REMOVE, wire.Remove(bytes_of(name)))
 
 
 def rename(old: Name, new: Name) -> Request:
-    return other("RENAME", wire.Rename(bytes_of(old), bytes_of(new)))
+    return Request(Opnum.RENAME, wire.Rename(bytes_of(old), bytes_of(new)))
 
 
 def renew(clientid: Clientid) -> Request:
@@ -264,7 +264,7 @@ def savefh() -> Request:
 
 
 def secinfo(name: Name) -> Request:
-    return other("SECINFO", wire.Remove(bytes_of(name)))
+    return Request(Opnum.SECINFO, wire.Secinfo(bytes_of(name)))
 
 
 def setattr(stateid: Stateid, attributes: Fattr) -> Request:

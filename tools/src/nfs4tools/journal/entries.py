@@ -8,7 +8,7 @@ from collections.abc import Callable, Sequence
 from typing import Annotated, Any, NamedTuple
 
 from nfs4tools import wire
-from nfs4tools.model.server import CHANGING_DIRECTORIES, STATEFUL_BY_PROFILE
+from nfs4tools.model.server import STATEFUL_BY_PROFILE
 from nfs4tools.model.tree import CLIENTS, Tree
 from nfs4tools.wire import (
     Bool,
@@ -37,9 +37,9 @@ MOMENT_LIMIT = 2**40 - 2
 # A number of 32 bits.
 WORD = struct.Struct(">I")
 
-# The statuses that an answer may have; and those of an operation without a rule that changes directories.
+# The statuses that an answer may have; and the operations that are never OK.
 STATUSES = wire.GIVEN_STATUSES
-WITHOUT_RULE = dict.fromkeys(CHANGING_DIRECTORIES, {Status.NOTSUPP, Status.ROFS})
+NEVER_OK = {Opnum.CREATE, Opnum.LINK, Opnum.READLINK, Opnum.REMOVE, Opnum.RENAME}
 
 # Operations by their numbers.
 OPNUMS = {int(opnum): opnum for opnum in Opnum}
@@ -224,9 +224,11 @@ def delegation_given(entry: Entry) -> tuple[int, Stateid] | None:
 
 
 RESTS: dict[tuple[int, int], Callable[[Any], Any]] = {
-    **{(number, Status.OK): read for number, read in wire.RESULTS.items() if number in wire.ARGUMENTS},
+    **{(number, Status.OK): read for number, read in wire.RESULTS.items() if number not in NEVER_OK},
     **wire.OTHER_RESULTS,
     (Opnum.OPEN, Status.OK): read_open_answer,
+    # AUTH_NONE and AUTH_SYS, each as often as it is there.
+    (Opnum.SECINFO, Status.OK): lambda r: [r.one_of(2) for _ in range(r.u32())],
     # How many bytes were written, how safe they are by stable_how4, and the verifier.
     (Opnum.WRITE, Status.OK): lambda r: (r.u32(), r.one_of(3), r.u32(), r.u32()),
     **{(Opnum.SETATTR, status): lambda r: r.bitmap() for status in STATUSES},
@@ -257,8 +259,10 @@ def expect_answer(number: int, status: int) -> None:
     if status not in STATUSES:
         raise NotJournal("no status")
     has_rule = number in wire.ARGUMENTS or number == Opnum.ILLEGAL
-    if not has_rule and status not in WITHOUT_RULE.get(number, {Status.NOTSUPP}):
+    if not has_rule and status != Status.NOTSUPP:
         raise NotJournal("an operation without a rule has another answer than NOTSUPP")
+    if number in NEVER_OK and status == Status.OK:
+        raise NotJournal("an operation that is never OK")
 
 
 # The answer to an OPEN that brings no attributes and no delegation: the stateid, whether the change is atomic, the

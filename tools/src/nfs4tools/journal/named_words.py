@@ -54,6 +54,9 @@ RENAMED: dict[type, dict[str, str]] = {
     wire.Readdir: {"verifier": "cookieverf", "mask": "attr_request"},
     wire.DirectoryEntry: {"attributes": "attrs"},
     wire.Lookup: {"name": "objname"},
+    wire.Link: {"name": "newname"},
+    wire.Remove: {"name": "target"},
+    wire.Rename: {"old": "oldname", "new": "newname"},
     wire.Putfh: {"filehandle": "object"},
     wire.SetclientidConfirm: {"confirm": "setclientid_confirm"},
     wire.Change: {"is_atomic": "atomic"},
@@ -65,14 +68,20 @@ RESULTS: dict[int, tuple[str, ...]] = {
     Opnum.ACCESS: ("supported", "access"),
     Opnum.CLOSE: ("open_stateid",),
     Opnum.COMMIT: ("writeverf",),
+    Opnum.CREATE: ("cinfo", "attrset"),
     Opnum.GETATTR: ("obj_attributes",),
     Opnum.GETFH: ("object",),
+    Opnum.LINK: ("cinfo",),
     Opnum.LOCK: ("lock_stateid",),
     Opnum.LOCKU: ("lock_stateid",),
     Opnum.OPEN_CONFIRM: ("open_stateid",),
     Opnum.OPEN_DOWNGRADE: ("open_stateid",),
     Opnum.READ: ("eof", "data"),
     Opnum.READDIR: ("cookieverf", "entries", "eof"),
+    Opnum.READLINK: ("link",),
+    Opnum.REMOVE: ("cinfo",),
+    Opnum.RENAME: ("source_cinfo", "target_cinfo"),
+    Opnum.SECINFO: ("flavors",),
     Opnum.SETATTR: ("attrsset",),
     Opnum.SETCLIENTID: ("clientid", "setclientid_confirm"),
     Opnum.WRITE: ("count", "committed", "writeverf"),
@@ -220,11 +229,20 @@ def attributes_word(fattr: tuple[Sequence[int], bytes]) -> str:
     return f"[{','.join(words + names + [hex_word(rest)] * bool(rest))}]"
 
 
+# The flavors of RPC (RFC 5531, 8.2; RFC 2203), and what SECINFO has of each.
+FLAVORS = {
+    wire.AUTH_NONE: "AUTH_NONE",
+    wire.AUTH_SYS: "AUTH_SYS",
+    wire.AUTH_SHORT: "AUTH_SHORT",
+    wire.RPCSEC_GSS: "RPCSEC_GSS",
+}
+OF_FLAVOR = "flavor", "oid", "qop", "service"
 # By the names of the fields. All other fields are numbers, which are decimal, or names.
 SHARE = "READ WRITE BOTH"
 SHOWN_AS: dict[str, Callable[[Any], str]] = {
     **dict.fromkeys(("reclaim", "atomic", "recall", "eof"), named(BOOL)),
-    **dict.fromkeys(("verifier", "cookieverf", "createverf", "writeverf", "object"), hex_word),
+    **dict.fromkeys(("source_cinfo.atomic", "target_cinfo.atomic"), named(BOOL)),
+    **dict.fromkeys(("verifier", "cookieverf", "createverf", "writeverf", "object", "oid"), hex_word),
     **dict.fromkeys(("attr_request", "attrset", "attrsset"), mask_word),
     **dict.fromkeys(("obj_attributes", "createattrs", "attrs"), attributes_word),
     **dict.fromkeys(("offset", "length"), long_word),
@@ -242,6 +260,9 @@ SHOWN_AS: dict[str, Callable[[Any], str]] = {
     "claim": numbered(0, "CLAIM_NULL CLAIM_PREVIOUS CLAIM_DELEGATE_CUR CLAIM_DELEGATE_PREV"),
     "limitby": numbered(1, "NFS_LIMIT_SIZE NFS_LIMIT_BLOCKS"),
     "cb_program": lambda value: hex_word(wire.u32(value)),
+    "objtype": TYPES,
+    "devdata": lambda value: ":".join(map(str, value)),
+    "flavor": lambda value: FLAVORS.get(value, str(value)),
     "rflags": flag_words({2: "CONFIRM", 4: "LOCKTYPE_POSIX"}),
     **dict.fromkeys(
         ("access", "supported"),
@@ -290,6 +311,14 @@ def fields_of_claim(claim: Claim) -> Fields:
     yield ("file_delegate_prev" if claim.kind == CLAIM_DELEGATE_PREV else "file"), claim.name
 
 
+def fields_of_create(create: wire.Create) -> Fields:
+    yield "objtype", create.kind
+    if create.value is not None:
+        yield ("linkdata" if create.kind == wire.NF4LNK else "devdata"), create.value
+    yield "objname", create.name
+    yield "createattrs", create.attributes
+
+
 def fields_of_delegation(delegation: Delegation | None) -> Fields:
     """The stateid has `delegation.` before its name, as there is the open's besides."""
     yield "delegation_type", wire.OPEN_DELEGATE_NONE if delegation is None else delegation.kind
@@ -314,6 +343,9 @@ def fields_of_limit(kind: int, size: int) -> Fields:
 
 def fields_of(record: Any) -> Fields:
     """The fields of a record, and of the records in it. A clientid is one field."""
+    if isinstance(record, wire.Create):
+        yield from fields_of_create(record)
+        return
     renamed = RENAMED.get(type(record), {})
     values = record._asdict()
     if "epoch" in values:
@@ -332,6 +364,10 @@ def flat(name: str, value: Any) -> Fields:
         return fields_of_delegation(value)
     if name == "entries":
         return (field for entry in value for field in fields_of(entry))
+    if name == "flavors":
+        return (field for flavor in value for field in zip(OF_FLAVOR, flavor))
+    if name in ("source_cinfo", "target_cinfo"):
+        return ((f"{name}.{field}", each) for field, each in fields_of(value))
     if isinstance(value, (wire.NewLocker, wire.KnownLocker, Callback, wire.Change)):
         return fields_of(value)
     return iter([(name, value)])

@@ -17,6 +17,7 @@ from nfs4tools import wire
 from nfs4tools.model.files import Files
 from nfs4tools.model.operations import (
     access,
+    changing_directories,
     close,
     commit,
     delegreturn,
@@ -30,8 +31,10 @@ from nfs4tools.model.operations import (
     open_downgrade,
     read,
     readdir,
+    readlink,
     release_lockowner,
     renew,
+    secinfo,
     setattr,
     setclientid,
     setclientid_confirm,
@@ -83,33 +86,51 @@ OPERATIONS = {
     Opnum.ACCESS: Operation(access.rule, Subject.HANDLES),
     Opnum.CLOSE: Operation(close.rule, Subject.REQUEST, Lease.BY_STATEID),
     Opnum.COMMIT: Operation(commit.rule, Subject.HANDLES),
+    Opnum.CREATE: Operation(changing_directories.in_one, Subject.HANDLES),
     Opnum.DELEGRETURN: Operation(delegreturn.rule, Subject.NODE, Lease.BY_STATEID),
     Opnum.GETATTR: Operation(getattr.rule, Subject.NODE),
     Opnum.GETFH: Operation(filehandles.getfh, Subject.HANDLES),
+    Opnum.LINK: Operation(changing_directories.from_saved, Subject.HANDLES),
     Opnum.LOCK: Operation(lock.rule, Subject.REQUEST, Lease.BY_STATEID),
     Opnum.LOCKT: Operation(lockt.rule, Subject.NODE, Lease.BY_CLIENTID),
     Opnum.LOCKU: Operation(locku.rule, Subject.REQUEST, Lease.BY_STATEID),
     Opnum.LOOKUP: Operation(filehandles.lookup, Subject.HANDLES),
+    Opnum.LOOKUPP: Operation(filehandles.lookupp, Subject.HANDLES),
     Opnum.OPEN: Operation(open.rule, Subject.REQUEST, Lease.BY_CLIENTID),
     Opnum.OPEN_CONFIRM: Operation(open_confirm.rule, Subject.REQUEST, Lease.BY_STATEID),
     Opnum.OPEN_DOWNGRADE: Operation(open_downgrade.rule, Subject.REQUEST, Lease.BY_STATEID),
     Opnum.PUTFH: Operation(filehandles.putfh, Subject.HANDLES),
+    Opnum.PUTPUBFH: Operation(filehandles.putpubfh, Subject.HANDLES),
     Opnum.PUTROOTFH: Operation(filehandles.putrootfh, Subject.HANDLES),
     Opnum.READ: Operation(read.rule, Subject.NODE, Lease.BY_STATEID),
     Opnum.READDIR: Operation(readdir.rule, Subject.NODE),
+    Opnum.READLINK: Operation(readlink.rule, Subject.HANDLES),
+    Opnum.REMOVE: Operation(changing_directories.in_one, Subject.HANDLES),
+    Opnum.RENAME: Operation(changing_directories.from_saved, Subject.HANDLES),
     Opnum.RENEW: Operation(renew.rule, Subject.HANDLES, Lease.BY_CLIENTID),
     Opnum.RESTOREFH: Operation(filehandles.restorefh, Subject.HANDLES),
     Opnum.SAVEFH: Operation(filehandles.savefh, Subject.HANDLES),
+    Opnum.SECINFO: Operation(secinfo.rule, Subject.HANDLES),
     Opnum.SETATTR: Operation(setattr.rule, Subject.NODE, Lease.BY_STATEID),
     Opnum.SETCLIENTID: Operation(setclientid.rule, Subject.PRINCIPAL),
     Opnum.SETCLIENTID_CONFIRM: Operation(setclientid_confirm.rule, Subject.PRINCIPAL),
     Opnum.WRITE: Operation(write.rule, Subject.NODE, Lease.BY_STATEID),
     Opnum.RELEASE_LOCKOWNER: Operation(release_lockowner.rule, Subject.PRINCIPAL, Lease.BY_CLIENTID),
 }
-# Those that have a rule under the profile "clients" alone; and those whose arguments aren't read under either, but
-# which are known then to change a directory.
-OF_CLIENTS = {Opnum.COMMIT, Opnum.READDIR, Opnum.SETATTR}
-CHANGING_DIRECTORIES = {wire.OTHER_OPERATIONS[name] for name in ("CREATE", "LINK", "REMOVE", "RENAME")}
+# Those that have a rule under the profile "clients" alone.
+OF_CLIENTS = {
+    Opnum.COMMIT,
+    Opnum.CREATE,
+    Opnum.LINK,
+    Opnum.LOOKUPP,
+    Opnum.PUTPUBFH,
+    Opnum.READDIR,
+    Opnum.READLINK,
+    Opnum.REMOVE,
+    Opnum.RENAME,
+    Opnum.SECINFO,
+    Opnum.SETATTR,
+}
 # Those that ask the state, and so make an entry of the journal, under each profile.
 STATEFUL = {opnum for opnum, operation in OPERATIONS.items() if operation.subject != Subject.HANDLES}
 STATEFUL_BY_PROFILE = {PLAIN: STATEFUL - OF_CLIENTS, CLIENTS: STATEFUL}
@@ -120,6 +141,13 @@ LONG = {Opnum.READ, Opnum.READDIR}
 def refused(number: int, status: Status) -> Result:
     """An answer other than OK; of SETATTR it says that no attribute was set."""
     return Result(status, wire.bitmap([]) if number == Opnum.SETATTR else b"")
+
+
+def without_rule(number: int) -> tuple[int, Result]:
+    """What an operation without a rule is answered, and under which number."""
+    if not 3 <= number <= 39:
+        return Opnum.ILLEGAL, Result(Status.OP_ILLEGAL)
+    return number, refused(number, Status.NOTSUPP)
 
 
 class Server(Files, Sequencing, Sweeping):
@@ -180,7 +208,7 @@ class Server(Files, Sequencing, Sweeping):
         except wire.Unreadable:
             return Opnum.ILLEGAL, Result(Status.BADXDR)
         if number not in OPERATIONS or number in OF_CLIENTS and not self.is_for_clients():
-            return self.without_rule(number)
+            return without_rule(number)
         opnum = Opnum(number)
         try:
             arguments = wire.ARGUMENTS[opnum](call.operations)
@@ -195,13 +223,6 @@ class Server(Files, Sequencing, Sweeping):
         if opnum == Opnum.OPEN and result.status == Status.OK and handles.current is not None:
             handles.current = self.tree.child(handles.current, arguments.claim.name)
         return opnum, result
-
-    def without_rule(self, number: int) -> tuple[int, Result]:
-        if not 3 <= number <= 39:
-            return Opnum.ILLEGAL, Result(Status.OP_ILLEGAL)
-        if number in CHANGING_DIRECTORIES and self.is_for_clients():
-            return number, Result(Status.ROFS)
-        return number, refused(number, Status.NOTSUPP)
 
     def apply(
         self, opnum: Opnum, arguments: Any, filehandle: int | None, principal: Principal, is_refused: bool = False

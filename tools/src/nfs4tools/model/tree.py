@@ -20,8 +20,12 @@ path = "d/c"
 """
 
 
+# The number of no node, which is the root's parent.
+NOBODY = -1
+
+
 class Node(NamedTuple):
-    """The root's parent is nobody's number."""
+    """A directory or a file, with the number of the directory that it is in."""
 
     parent: int
     name: bytes
@@ -29,7 +33,7 @@ class Node(NamedTuple):
     text: bytes
 
 
-ROOT = Node(-1, b"", False, b"")
+ROOT = Node(NOBODY, b"", False, b"")
 
 # Which delegations may be given, whether a client's callback path is tried first, what a CLOSE does where bytes are
 # locked, free them or refuse, and whether there is also what the programs of real clients ask for: words of the

@@ -100,6 +100,7 @@ STATUS = number_kind(STATUS_NAMES)
 REPLY_STATE, DENIAL = number_kind({0: "accepted", 1: "denied"}), number_kind({0: "RPC_MISMATCH", 1: "AUTH_ERROR"})
 ACCEPT_STATE = number_kind(dict(enumerate(MESSAGE_WORDS[4:10])))
 AUTH_STATE = number_kind({1: "AUTH_BADCRED", 2: "AUTH_REJECTEDCRED"})
+FLAVOR = number_kind({getattr(wire, name): name for name in MESSAGE_WORDS[13:17]})
 LONG = Kind("number", Reader.u64, str, False)
 TEXT = Kind("text", Reader.opaque, show_bytes, False)
 MASK = Kind("mask", read_mask, show_mask, False)
@@ -159,6 +160,8 @@ ATTRIBUTES = {
 # What follows the status of a result; of a listing what an entry begins with, and what follows the last one.
 OF_ENTRY, OF_LISTING = [("cookie", COOKIE), ("name", TEXT)], [("end of the directory", NUMBER)]
 OF_STATE = [("seqid", NUMBER), ("stateid", STATEID)]
+# Of a flavor: what RPCSEC_GSS has besides.
+OF_GSS: Layout = [("mechanism", TEXT), ("quality of protection", NUMBER), ("service", NUMBER)]
 OF_DENIAL = [("offset", LONG), ("length", LONG), ("type", NUMBER), ("the owner's clientid", CLIENTID), ("owner", TEXT)]
 OF_OPEN = OF_STATE + [
     ("atomic", ATOMIC),
@@ -229,6 +232,12 @@ def take_listing(reader: Reader, found: list[Value]) -> None:
     take(reader, found, OF_LISTING)
 
 
+def take_flavors(reader: Reader, found: list[Value]) -> None:
+    for _ in range(take(reader, found, [("number of flavors", NUMBER)])):
+        if take(reader, found, [("flavor", FLAVOR)]) == wire.RPCSEC_GSS:
+            take(reader, found, OF_GSS)
+
+
 def take_result(reader: Reader, found: list[Result]) -> None:
     """Adds a result."""
     result = Result(reader.u32(), [])
@@ -238,6 +247,8 @@ def take_result(reader: Reader, found: list[Result]) -> None:
         take_attributes(reader, result.values)
     elif (result.number, status) == (Opnum.READDIR, Status.OK):
         take_listing(reader, result.values)
+    elif (result.number, status) == (Opnum.SECINFO, Status.OK):
+        take_flavors(reader, result.values)
     elif result.number == Opnum.SETATTR:
         take(reader, result.values, [("attributes set", MASK)])
     else:

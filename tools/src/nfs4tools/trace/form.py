@@ -5,8 +5,9 @@ from collections.abc import Callable
 from typing import Any
 
 from nfs4tools import wire
+from nfs4tools.journal.named_words import FLAVORS
 from nfs4tools.journal.words import name_words
-from nfs4tools.trace.words import FLAVORS, read_arguments, read_result, status_word
+from nfs4tools.trace.words import read_arguments, read_result, status_word
 from nfs4tools.wire import Reader, Unreadable
 
 # The version of the form, and that of RPC.

@@ -1,10 +1,10 @@
 """Operations and results of calls and replies as words, also of operations that no journal has: those of callbacks, and
 those that have no rule here. The names are those of RFC 7531, as `tools/show_journal` has them."""
-from collections.abc import Callable, Iterable, Iterator, Mapping, Sequence
+from collections.abc import Callable, Iterable, Mapping
 from typing import Any
 
 from nfs4tools import wire
-from nfs4tools.journal.named_words import BOOL, TYPES, field_word, fields_of, fields_of_result, hex_word
+from nfs4tools.journal.named_words import BOOL, field_word, fields_of, fields_of_result, hex_word
 from nfs4tools.journal.words import STATUS_NAMES
 from nfs4tools.wire import CALLBACK_OPERATIONS, OTHER_OPERATIONS, OperationResult, Opnum, Reader, Status, Unreadable
 
@@ -19,23 +19,12 @@ READS: dict[bool, Mapping[int, Callable[[Reader], Any]]] = {
     False: wire.ALL_ARGUMENTS,
     True: wire.CALLBACK_ARGUMENTS,
 }
-# The flavors of RPC (RFC 5531, 8.2; RFC 2203).
-FLAVORS = {
-    wire.AUTH_NONE: "AUTH_NONE",
-    wire.AUTH_SYS: "AUTH_SYS",
-    wire.AUTH_SHORT: "AUTH_SHORT",
-    wire.RPCSEC_GSS: "RPCSEC_GSS",
-}
 # So many words are kept of an operation, and so many letters of them all; and so many words of a bitmap are shown.
 MOST_WORDS, MOST_LETTERS, MOST_OF_MASK = 256, 8192, 16
 CUT = ".."
 
 # The fields of arguments, in their order, of the operations whose records have other names.
 ARGUMENT_FIELDS: dict[str, tuple[str, ...]] = {
-    "LINK": ("newname",),
-    "REMOVE": ("target",),
-    "SECINFO": ("name",),
-    "RENAME": ("oldname", "newname"),
     "VERIFY": ("obj_attributes",),
     "NVERIFY": ("obj_attributes",),
     "OPENATTR": ("createdir",),
@@ -45,31 +34,17 @@ ARGUMENT_FIELDS: dict[str, tuple[str, ...]] = {
 # How fields are shown that no journal has.
 SHOWN_AS: dict[str, Callable[[Any], str]] = {
     "fh": hex_word,
-    "oid": hex_word,
     "createdir": lambda value: BOOL[value],
     "truncate": lambda value: BOOL[value],
-    "objtype": TYPES,
-    "flavor": lambda value: FLAVORS.get(value, str(value)),
-    "devdata": lambda value: ":".join(map(str, value)),
 }
 
 
 def argument_words(number: int, arguments: Any, is_callback: bool) -> list[str]:
     """The words of arguments that were read."""
     name = NAMES[is_callback][number]
-    if isinstance(arguments, wire.Create):
-        return words_of(fields_of_create(arguments))
     if name in ARGUMENT_FIELDS:
         return words_of(zip(ARGUMENT_FIELDS[name], arguments))
     return words_of(fields_of(arguments))
-
-
-def fields_of_create(create: wire.Create) -> Iterator[tuple[str, Any]]:
-    yield "objtype", create.kind
-    if create.value is not None:
-        yield ("linkdata" if create.kind == wire.NF4LNK else "devdata"), create.value
-    yield "objname", create.name
-    yield "createattrs", create.attributes
 
 
 def result_words(result: OperationResult, is_callback: bool) -> list[str]:
@@ -78,32 +53,7 @@ def result_words(result: OperationResult, is_callback: bool) -> list[str]:
         return []
     if is_callback:
         return words_of([("obj_attributes", result.value)])
-    others = OTHER_RESULTS.get(result.number)
-    if others is not None:
-        return words_of(others(result.value))
     return words_of(fields_of_result(result.number, result.status, result.value))
-
-
-def fields_of_renamed(value: Sequence[Any]) -> Iterator[tuple[str, Any]]:
-    for name, change in zip(("source_cinfo", "target_cinfo"), value):
-        for field, each in fields_of(change):
-            yield f"{name}.{field}", BOOL[each] if field == "atomic" else each
-
-
-def fields_of_flavors(value: Sequence[tuple[Any, ...]]) -> Iterator[tuple[str, Any]]:
-    for flavor in value:
-        yield from zip(("flavor", "oid", "qop", "service"), flavor)
-
-
-# Of the operations that have no rule here: the fields of the result.
-OTHER_RESULTS: dict[int, Callable[[Any], Fields]] = {
-    OTHER_OPERATIONS["CREATE"]: lambda value: [*fields_of(value[0]), ("attrset", value[1])],
-    OTHER_OPERATIONS["LINK"]: fields_of,
-    OTHER_OPERATIONS["REMOVE"]: fields_of,
-    OTHER_OPERATIONS["RENAME"]: fields_of_renamed,
-    OTHER_OPERATIONS["READLINK"]: lambda value: [("link", value)],
-    OTHER_OPERATIONS["SECINFO"]: fields_of_flavors,
-}
 
 
 def words_of(fields: Fields) -> list[str]:

@@ -124,12 +124,26 @@ class Commit(NamedTuple):
     count: Word  # type: ignore[assignment]
 
 
+class Create(NamedTuple):
+    """What is created: its type, the text of a symbolic link or the two numbers of a device, its name and
+    attributes."""
+
+    kind: int
+    value: Any
+    name: bytes
+    attributes: Fattr
+
+
 class Delegreturn(NamedTuple):
     stateid: Stateid
 
 
 class Getattr(NamedTuple):
     mask: Mask
+
+
+class Link(NamedTuple):
+    name: Text
 
 
 class Lock(NamedTuple):
@@ -202,9 +216,22 @@ class ReleaseLockowner(NamedTuple):
     owner: LockOwner
 
 
+class Remove(NamedTuple):
+    name: Text
+
+
+class Rename(NamedTuple):
+    old: Text
+    new: Text
+
+
 class Renew(NamedTuple):
     epoch: Word
     client: Word
+
+
+class Secinfo(NamedTuple):
+    name: Text
 
 
 class Setattr(NamedTuple):
@@ -231,40 +258,6 @@ class Write(NamedTuple):
     data: Data
 
 
-# The arguments of operations that have no rule in the model, which doesn't read them.
-
-
-class Create(NamedTuple):
-    """What is created: its type, the text of a symbolic link or the two numbers of a device, its name and
-    attributes."""
-
-    kind: int
-    value: Any
-    name: bytes
-    attributes: Fattr
-
-
-class Remove(NamedTuple):
-    """LINK and SECINFO have the same, and DELEGPURGE the same as RENEW."""
-
-    name: Text
-
-
-class Rename(NamedTuple):
-    old: Text
-    new: Text
-
-
-class Verify(NamedTuple):
-    """NVERIFY has the same."""
-
-    attributes: Fattr
-
-
-class Openattr(NamedTuple):
-    create: Bool
-
-
 def read_create(reader: Reader) -> Create:
     kind = reader.one_of(9, first=1)
     value: Any = None
@@ -284,8 +277,21 @@ def create_bytes(create: Create) -> bytes:
     return u32(create.kind) + value + opaque(create.name) + FATTR.write(create.attributes)
 
 
+# The arguments of operations that have no rule in the model, which doesn't read them. DELEGPURGE has the same as RENEW.
+
+
+class Verify(NamedTuple):
+    """NVERIFY has the same."""
+
+    attributes: Fattr
+
+
+class Openattr(NamedTuple):
+    create: Bool
+
+
 # The operations that have a rule in the model, by their numbers.
-FORMS: dict[int, Form] = {
+FORMS: dict[int, Form] = {Opnum.CREATE: Form(read_create, create_bytes)} | {
     number: form_of(record)
     for number, record in {
         Opnum.ACCESS: Access,
@@ -294,20 +300,27 @@ FORMS: dict[int, Form] = {
         Opnum.DELEGRETURN: Delegreturn,
         Opnum.GETATTR: Getattr,
         Opnum.GETFH: Nothing,
+        Opnum.LINK: Link,
         Opnum.LOCK: Lock,
         Opnum.LOCKT: Lockt,
         Opnum.LOCKU: Locku,
         Opnum.LOOKUP: Lookup,
+        Opnum.LOOKUPP: Nothing,
         Opnum.OPEN: Open,
         Opnum.OPEN_CONFIRM: OpenConfirm,
         Opnum.OPEN_DOWNGRADE: OpenDowngrade,
         Opnum.PUTFH: Putfh,
+        Opnum.PUTPUBFH: Nothing,
         Opnum.PUTROOTFH: Nothing,
         Opnum.READ: Read,
         Opnum.READDIR: Readdir,
+        Opnum.READLINK: Nothing,
+        Opnum.REMOVE: Remove,
+        Opnum.RENAME: Rename,
         Opnum.RENEW: Renew,
         Opnum.RESTOREFH: Nothing,
         Opnum.SAVEFH: Nothing,
+        Opnum.SECINFO: Secinfo,
         Opnum.SETATTR: Setattr,
         Opnum.SETCLIENTID: Setclientid,
         Opnum.SETCLIENTID_CONFIRM: SetclientidConfirm,
@@ -317,21 +330,9 @@ FORMS: dict[int, Form] = {
 }
 ARGUMENTS = {number: form.read for number, form in FORMS.items()}
 # All others.
-OTHER_FORMS: dict[int, Form] = {OTHER_OPERATIONS["CREATE"]: Form(read_create, create_bytes)} | {
+OTHER_FORMS: dict[int, Form] = {
     OTHER_OPERATIONS[name]: form_of(record)
-    for name, record in {
-        "DELEGPURGE": Renew,
-        "LINK": Remove,
-        "LOOKUPP": Nothing,
-        "NVERIFY": Verify,
-        "OPENATTR": Openattr,
-        "PUTPUBFH": Nothing,
-        "READLINK": Nothing,
-        "REMOVE": Remove,
-        "RENAME": Rename,
-        "SECINFO": Remove,
-        "VERIFY": Verify,
-    }.items()
+    for name, record in {"DELEGPURGE": Renew, "NVERIFY": Verify, "OPENATTR": Openattr, "VERIFY": Verify}.items()
 }
 OTHER_ARGUMENTS = {number: form.read for number, form in OTHER_FORMS.items()}
 ALL_ARGUMENTS = {**ARGUMENTS, **OTHER_ARGUMENTS}

@@ -17,7 +17,7 @@ from nfs4tools.wire.data_types import (
 )
 from nfs4tools.wire.enums import OPEN_DELEGATE_NONE, OPEN_DELEGATE_WRITE
 from nfs4tools.wire.forms import Bool, Data, Long, Text, Verifier, Word, form_of, one_of
-from nfs4tools.wire.opnums import OTHER_OPERATIONS, Opnum
+from nfs4tools.wire.opnums import Opnum
 from nfs4tools.wire.rpc import RPCSEC_GSS
 from nfs4tools.wire.statuses import Status
 from nfs4tools.wire.xdr import Reader
@@ -151,8 +151,10 @@ RESULTS: dict[int, Callable[[Reader], Any]] = {
     Opnum.ACCESS: form_of(Accessed).read,
     Opnum.CLOSE: STATEID.read,
     Opnum.COMMIT: lambda r: r.fixed(8),
+    Opnum.CREATE: lambda r: (CHANGE.read(r), r.bitmap()),
     Opnum.GETATTR: FATTR.read,
     Opnum.GETFH: lambda r: r.opaque(FILEHANDLE_LIMIT),
+    Opnum.LINK: CHANGE.read,
     Opnum.LOCK: STATEID.read,
     Opnum.LOCKU: STATEID.read,
     Opnum.OPEN: read_opened,
@@ -160,15 +162,13 @@ RESULTS: dict[int, Callable[[Reader], Any]] = {
     Opnum.OPEN_DOWNGRADE: STATEID.read,
     Opnum.READ: form_of(ReadResult).read,
     Opnum.READDIR: read_directory,
+    Opnum.READLINK: lambda r: r.opaque(),
+    Opnum.REMOVE: CHANGE.read,
+    Opnum.RENAME: lambda r: (CHANGE.read(r), CHANGE.read(r)),
+    Opnum.SECINFO: read_flavors,
     Opnum.SETATTR: lambda r: r.bitmap(),
     Opnum.SETCLIENTID: form_of(GivenClientid).read,
     Opnum.WRITE: form_of(WriteResult).read,
-    OTHER_OPERATIONS["CREATE"]: lambda r: (CHANGE.read(r), r.bitmap()),
-    OTHER_OPERATIONS["LINK"]: CHANGE.read,
-    OTHER_OPERATIONS["READLINK"]: lambda r: r.opaque(),
-    OTHER_OPERATIONS["REMOVE"]: CHANGE.read,
-    OTHER_OPERATIONS["RENAME"]: lambda r: (CHANGE.read(r), CHANGE.read(r)),
-    OTHER_OPERATIONS["SECINFO"]: read_flavors,
 }
 # By the number and the status, if that isn't OK.
 OTHER_RESULTS: dict[tuple[int, int], Callable[[Reader], Any]] = {

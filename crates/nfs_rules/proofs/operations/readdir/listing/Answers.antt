@@ -11,7 +11,7 @@ use Rattle.nfs_rules.proofs.operations.readdir.listing.Goals.{else-is_empty-via-
 use Rattle.nfs_state.specs.Room.{state_of}
 use Rattle.nfs_tree.specs.Children.{children_after}
 use Rattle.nfs_tree.specs.declared.node.Node.{Node}
-use Rattle.nfs_xdr.specs.Short.{AreFewEntries}
+use Rattle.nfs_operations.specs.Readdir.{AreFewEntries}
 
 pub returns-then-limit-lt-EMPTY_LEN-clause-answer : goal.returns-then-limit-lt-EMPTY_LEN-clause-answer
 returns-then-limit-lt-EMPTY_LEN-clause-answer c =
