@@ -11,11 +11,18 @@ from nfs4tools.wire import NewLocker, Opnum, Status, read_directory
 # What each entry counts; what each child in a listing does, beside its name and attributes; and what each part of a
 # page in the answer to a READ does.
 ENTRY, LISTED, PART = 320, 160, 32
+# From so many bytes on a WRITE may keep its whole record, which is at most twice as long.
+SHARED = 2048
 
 
 def read_len(offset: int, length: int) -> int:
     """A READ of so many bytes: a part of each page that has some of them."""
     return PART * len(pages_of(offset, offset + length)) if length else 0
+
+
+def bytes_len(length: int) -> int:
+    """The bytes of a WRITE."""
+    return length if length < SHARED else 2 * length
 
 
 def write_len(offset: int, length: int) -> int:
@@ -24,7 +31,7 @@ def write_len(offset: int, length: int) -> int:
         return 0
     end = offset + length
     made = [page for page in pages_of(offset, end) if page * PAGE < offset or end < (page + 1) * PAGE]
-    return length + PAGE * len(made)
+    return bytes_len(length) + PAGE * len(made)
 
 
 def given_len(arguments: Any, answer: Any) -> int:
@@ -34,7 +41,7 @@ def given_len(arguments: Any, answer: Any) -> int:
 
 def written_len(arguments: Any, answer: Any) -> int:
     length = len(arguments.data)
-    return write_len(arguments.offset, length) if answer.status == Status.OK else length
+    return write_len(arguments.offset, length) if answer.status == Status.OK else bytes_len(length)
 
 
 def mask_len(mask: Sequence[int]) -> int:

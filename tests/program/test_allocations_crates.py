@@ -16,6 +16,7 @@ TESTS = (
     ("table_tests", "delegations"),
     ("table_tests", "sweeps"),
     ("server_tests", "streams"),
+    ("form_tests", "messages::writes_are_read_from_messages"),
     ("callback_tests", "memory"),
 )
 # So many parts of the allocations of a test are tried, each by itself.

@@ -14,7 +14,7 @@ from typing import Any, NamedTuple
 
 import pytest
 
-from helpers.entry_memory import ENTRY, LISTED, PART, counted, entry_len, entry_of, read_len, write_len
+from helpers.entry_memory import ENTRY, LISTED, PART, SHARED, counted, entry_len, entry_of, read_len, write_len
 from helpers.expecting_client import Client, Wrong, done, expect
 from helpers.reply_oracle import Judge
 from helpers.server_helpers import lawful_journal, peer_of
@@ -94,8 +94,8 @@ class Counted:
 
     def fill(self, left):
         """Writes whole pages until few bytes are left, and then names owners whom nobody knows until so many are."""
-        while (rest := self.bound - self.count - left) >= 2 * ENTRY + PAGE:
-            self.write(min(FILE_LIMIT, (rest - 2 * ENTRY) // PAGE * PAGE))
+        while (rest := self.bound - self.count - left) >= 2 * ENTRY + 2 * PAGE:
+            self.write(min(FILE_LIMIT, (rest - 2 * ENTRY) // (2 * PAGE) * PAGE))
         while (rest := self.bound - self.count - left) > 0:
             is_last = rest <= ENTRY + OWNER_LIMIT
             own = rest - ENTRY if is_last else min(OWNER_LIMIT, rest - 2 * ENTRY)
@@ -158,16 +158,26 @@ KINDS = {
         lambda client, length: write_words(bytes(length)),
         Status.OK,
         FILE,
-        ((0, 0, 1), (97, PAGE + 97, 98), (PAGE, PAGE, PAGE + 1), (PAGE + 97, 2 * PAGE + 97, PAGE + 98)),
+        (
+            (0, 0, 1),
+            (97, PAGE + 97, 98),
+            (SHARED - 1, PAGE + SHARED - 1, SHARED),
+            (SHARED, PAGE + 2 * SHARED, SHARED + 1),
+            (PAGE, 2 * PAGE, PAGE + 1),
+            (PAGE + 97, 3 * PAGE + 2 * 97, PAGE + 98),
+        ),
     ),
     "WRITE from byte 1 on": Kind(
         lambda client, length: write_words(bytes(length), 1),
         Status.OK,
         FILE,
-        ((PAGE - 1, 2 * PAGE - 1, PAGE), (PAGE, 3 * PAGE, PAGE + 1), (2 * PAGE - 1, 3 * PAGE - 1, 2 * PAGE)),
+        ((PAGE - 1, 3 * PAGE - 2, PAGE), (PAGE, 4 * PAGE, PAGE + 1), (2 * PAGE - 1, 5 * PAGE - 2, 2 * PAGE)),
     ),
     "a WRITE that is refused": Kind(
-        lambda client, own: write_words(bytes(own), FILE_LIMIT), Status.FBIG, FILE, growing(1)
+        lambda client, length: write_words(bytes(length), FILE_LIMIT),
+        Status.FBIG,
+        FILE,
+        (*growing(1), (SHARED, 2 * SHARED, SHARED + 1)),
     ),
     "READ": Kind(
         lambda client, length: read_words(length),

@@ -12,6 +12,8 @@ mod file_bytes;
 #[cfg(test)]
 mod for_clients;
 #[cfg(test)]
+mod messages;
+#[cfg(test)]
 mod stateids;
 #[cfg(test)]
 mod unsent;

@@ -1,13 +1,14 @@
 //! WRITE's arguments and result.
 
 ghost use Rattle.nfs_operations.specs.Write as forms;
-ghost use Rattle.xdr.specs.Reading.{Answers};
+ghost use Rattle.xdr.specs.Reading.{Answers, Gives};
+ghost use Rattle.xdr.specs.Unread.{left_of};
 ghost use Rattle.nfs_operations.specs.Short.{Any};
 
 use crate::{Data, Names};
 use nfs_forms::{Answer, StableHow, Stateid, Verifier};
 use std::alloc::Global;
-use xdr::{Measure, SharedBytes, Wire, WireError, write_four, write_three};
+use xdr::{Measure, SharedBytes, Unread, Wire, WireError, write_four, write_three};
 
 /// The bytes that are put into a file, where, and by which right (RFC 7530, section 16.36).
 pub type Arguments = Write;
@@ -37,6 +38,26 @@ pub struct WriteOk {
     /// The verifier of the server's run. Another verifier tells the client that the server restarted, and may have lost
     /// what isn't in stable storage.
     pub verifier: Verifier,
+}
+
+impl Write {
+    /// Reads the arguments as `read` does. If the bytes are many, they share the message's memory.
+    #[tactic(auto, unfolding(crate::specs::Write::arguments))]
+    pub fn read_shared(alloc: Global, unread: Unread<'_>) -> Result<(Write, Unread<'_>), WireError>
+        ensures { Gives (λ x. (x.0, left_of x.1)) result (forms.arguments.at (left_of unread.entry)) }
+    {
+        let (stateid, rest) = unread.read(alloc)?;
+        let (offset, rest) = rest.read(alloc)?;
+        let (stable, rest) = rest.read(alloc)?;
+        let (bytes, rest) = rest.read_shared(alloc)?;
+        let arguments = Write {
+            stateid,
+            offset,
+            stable,
+            bytes,
+        };
+        Ok((arguments, rest))
+    }
 }
 
 impl crate::Arguments for Write {

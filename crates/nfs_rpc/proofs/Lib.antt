@@ -10,3 +10,4 @@ pub mod CallbackReplies
 pub mod Addresses
 pub mod Callbacks
 pub mod WrittenRecords
+pub mod Arguments

@@ -1,6 +1,6 @@
 //! Reads an RPC call from a record, and decides which calls are refused before any operation runs.
 
-ghost use Rattle.std.specs.Prelude.{◌≡◌, ◌+◌, ◌≤◌, IfOk, length};
+ghost use Rattle.std.specs.Prelude.{◌≡◌, ◌+◌, ◌≤◌, IfOk, drop, length};
 ghost use Rattle.nfs_rpc.specs.RpcCall.{IsCall, IsCallWithinLimits, OneCall, OrSystemError, start};
 ghost use Rattle.nfs_rpc.specs.ReadingCalls.{call_of, compound_or_garbage, header_at};
 ghost use Rattle.nfs_xdr.specs.Compound.{compound_at};
@@ -10,7 +10,7 @@ use crate::Reply;
 use crate::credential::{read_credential, read_opaque_auth};
 use nfs_xdr::{Compound, Principal, one_request_is_encoded, read_compound};
 use std::alloc::Global;
-use xdr::{WireError, read_constant, read_u32};
+use xdr::{Message, WireError, read_constant, read_u32};
 
 /// The message type of a call (RFC 5531, section 9).
 pub const MESSAGE_CALL: u32 = 0;
@@ -63,19 +63,24 @@ struct Header {
 /// that can't be read. There is no reply to a record that isn't a call, that ends before its verifier does, or whose
 /// credential or verifier has more than 400 bytes; only the RPC version is checked before that. If memory runs out for
 /// a COMPOUND whose arguments are there, the reply is SYSTEM_ERR.
-pub fn read_call(alloc: Global, message: &[u8]) -> RpcCall
-    ensures call { IsCall message.now result }
-    ensures limits { IsCallWithinLimits (length message.now) result }
+///
+/// The operations of a COMPOUND may share the message's memory. Its bytes stay as they are.
+pub fn read_call(alloc: Global, message: &mut Message) -> RpcCall
+    ensures call { IsCall message.old result }
+    ensures limits { IsCallWithinLimits (length message.old) result }
+    ensures same { message.new ≡ message.old }
 {
     one_request_is_encoded();
     call_from(alloc, message)
 }
 
-fn call_from(alloc: Global, message: &[u8]) -> RpcCall
-    ensures call { OrSystemError (λ call. call ≡ call_of message.now) result }
-    ensures limits { IsCallWithinLimits (length message.now) result }
+fn call_from(alloc: Global, message: &mut Message) -> RpcCall
+    ensures call { OrSystemError (λ call. call ≡ call_of message.old) result }
+    ensures limits { IsCallWithinLimits (length message.old) result }
+    ensures same { message.new ≡ message.old }
 {
-    let Ok((start, rest)) = read_start(message) else {
+    let bytes = message.as_slice();
+    let Ok((start, rest)) = read_start(bytes) else {
         return RpcCall::Silent;
     };
     if start.rpc_version != RPC_VERSION {
@@ -95,18 +100,28 @@ fn call_from(alloc: Global, message: &[u8]) -> RpcCall
     }
     match header.procedure {
         PROC_NULL => RpcCall::Null(start.xid),
-        PROC_COMPOUND => compound_call(alloc, start.xid, principal, arguments),
+        PROC_COMPOUND => {
+            let place = bytes.len().saturating_sub(arguments.len());
+            compound_call(alloc, start.xid, principal, message, place)
+        }
         _ => RpcCall::Answer(start.xid, Reply::ProcUnavail),
     }
 }
 
-// The call of COMPOUND with these arguments, which follow a header of at least 40 bytes.
-fn compound_call(alloc: Global, xid: u32, principal: Principal, bytes: &[u8]) -> RpcCall
-    ensures call { OrSystemError
-        (λ call. call ≡ compound_or_garbage xid principal (compound_at bytes.now)) result }
-    ensures limits { IsCallWithinLimits (40 + length bytes.now) result }
+// The call of COMPOUND whose arguments begin at this place of the message, behind a header of at least 40 bytes.
+fn compound_call(
+    alloc: Global,
+    xid: u32,
+    principal: Principal,
+    message: &mut Message,
+    place: usize,
+) -> RpcCall
+    ensures call { OrSystemError (λ call. call
+        ≡ compound_or_garbage xid principal (compound_at (drop place message.old))) result }
+    ensures limits { IsCallWithinLimits (40 + length (drop place message.old)) result }
+    ensures same { message.new ≡ message.old }
 {
-    match read_compound(alloc, bytes) {
+    match read_compound(alloc, message, place) {
         Ok(compound) => RpcCall::Compound(xid, principal, compound),
         Err(WireError::Memory) => RpcCall::Answer(xid, Reply::SystemError),
         Err(_) => RpcCall::Answer(xid, Reply::GarbageArgs),

@@ -10,3 +10,4 @@ pub mod Views
 pub mod LentLeases
 pub mod CourseLaws
 pub mod JournalGains
+pub mod StateOps

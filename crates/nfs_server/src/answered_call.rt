@@ -18,7 +18,7 @@ use nfs_xdr::{ArgOp, OpResult};
 use std::alloc::AllocError;
 use std::collections::VecDeque;
 use std::marker::Model;
-use xdr::write_u32;
+use xdr::{Message, write_u32};
 
 /// The greatest length of a reply, with its header.
 pub(crate) const REPLY_LIMIT: usize = RECORD_LIMIT + HEADER_LEN;
@@ -30,7 +30,7 @@ const DENIED_LEN: usize = 16;
 #[derive(Drop)]
 pub(crate) struct AnsweredCall {
     // The record and the operations that were not run, which are let go with the call.
-    message: Vec<u8>,
+    message: Message,
     rest: Option<VecDeque<ArgOp>>,
     // The xid and the reply, if there is one.
     reply: Option<(u32, Reply)>,
@@ -132,7 +132,7 @@ fn put(answered: &mut VecDeque<AnsweredCall>, call: AnsweredCall) -> usize
 }
 
 impl AnsweredCall {
-    fn without_reply(message: Vec<u8>) -> AnsweredCall
+    fn without_reply(message: Message) -> AnsweredCall
         ensures { result ≡ [] }
     {
         AnsweredCall {
@@ -144,7 +144,7 @@ impl AnsweredCall {
     }
 
     // With a reply that needs no service.
-    fn with_short_reply(message: Vec<u8>, xid: u32, reply: Reply) -> AnsweredCall
+    fn with_short_reply(message: Message, xid: u32, reply: Reply) -> AnsweredCall
         requires short { length (written_reply xid reply) ≤ SHORT_REPLY_LEN }
         requires fits { IsWritable xid reply }
         ensures { result ≡ written_record (written_reply xid reply) }
@@ -159,7 +159,7 @@ impl AnsweredCall {
     }
 
     // With the reply to a COMPOUND.
-    fn with_results(message: Vec<u8>, xid: u32, answered: AnsweredCompound) -> AnsweredCall
+    fn with_results(message: Message, xid: u32, answered: AnsweredCompound) -> AnsweredCall
         requires len { answered.len ≡ length (written_reply xid (Reply.Compound answered.reply)) }
         requires short { answered.len ≤ RECORD_LIMIT }
         requires fits { IsWritable xid (Reply.Compound answered.reply) }

@@ -12,12 +12,13 @@ use nfs_rpc::{RpcCall, read_call};
 use nfs_xdr::OpResult;
 use std::alloc::{AllocError, Global};
 use std::marker::Model;
+use xdr::Message;
 
 /// A call that waits for its answer, with the record that it was read from, and for a COMPOUND an empty list with room
 /// for its results.
 #[derive(Drop)]
 pub(crate) struct PendingCall {
-    message: Vec<u8>,
+    message: Message,
     call: RpcCall,
     results: Vec<OpResult>,
 }
@@ -27,9 +28,9 @@ impl Model for PendingCall {
 
     ghost Value = { PendingView };
 
-    ghost view = { λ p. record { message = p.message.items; call = p.call } };
+    ghost view = { λ p. record { message = p.message; call = p.call } };
 
-    ghost invariant = { λ p. IsRead (record { message = p.message.items; call = p.call })
+    ghost invariant = { λ p. IsRead (record { message = p.message; call = p.call })
         × HasResultRoom p.call p.results };
 }
 
@@ -43,7 +44,8 @@ impl PendingCall {
         requires { length message.items ≤ RECORD_LIMIT }
         ensures { IfOk result (λ pending. pending.message ≡ message.items) }
     {
-        let call = read_call(alloc, message.as_slice());
+        let mut message = Message::new(message);
+        let call = read_call(alloc, &mut message);
         let results = list_for(alloc, &call, lists)?;
         Ok(PendingCall {
             message,
@@ -64,7 +66,7 @@ impl PendingCall {
     }
 
     /// The record, the call, and the list.
-    pub(crate) fn into_parts(self) -> (Vec<u8>, RpcCall, Vec<OpResult>)
+    pub(crate) fn into_parts(self) -> (Message, RpcCall, Vec<OpResult>)
         ensures call { IsCall self.message result.1 }
         ensures limits { IsCallWithinLimits RECORD_LIMIT result.1 }
         ensures room { HasResultRoom result.1 result.2 }

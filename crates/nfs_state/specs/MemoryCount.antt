@@ -26,6 +26,7 @@ use Rattle.nfs_xdr.specs.declared.op.Op.{Op}
 use Rattle.nfs_xdr.specs.declared.op.Op.TheVariants as ops
 use Rattle.nfs_xdr.specs.declared.op_result.OpResult.{OpResult}
 use Rattle.nfs_xdr.specs.declared.op_result.OpResult.TheVariants as results
+use Rattle.xdr.specs.declared.message.TheConstants.{SHARED_LEN}
 
 -- the name of the file that is to be opened
 abbrev pub claim_len : Claim → ℕ
@@ -58,6 +59,10 @@ abbrev pub how_len : OpenHow → ℕ
 how_len hows.Nocreate = 0
 how_len (hows.Create how) = create_len how
 
+-- The bytes of a WRITE. From so many on they may keep the memory of their whole record, which is at most twice as long.
+abbrev pub bytes_len : ℕ → ℕ
+bytes_len len = if nat_lt len SHARED_LEN then len else len * 2
+
 -- the names, owners, ids, addresses, masks and attributes of an operation, and what it writes
 abbrev pub op_len : Op → ℕ
 op_len (ops.Getattr mask) = mask_len mask
@@ -68,7 +73,7 @@ op_len (ops.Setattr args) = attributes_len args.attributes
 op_len (ops.Open args) = length args.owner.name + claim_len args.claim + how_len args.how
 op_len (ops.Setclientid args) =
     length args.id + length args.callback.address.netid + length args.callback.address.addr
-op_len (ops.Write args) = length args.bytes
+op_len (ops.Write args) = bytes_len (length args.bytes)
 op_len (ops.ReleaseLockowner args) = length args.owner.name
 op_len op = 0
 

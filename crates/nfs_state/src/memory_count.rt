@@ -2,7 +2,7 @@
 
 ghost use Rattle.std.specs.Prelude.{◌≡◌, ◌+◌, ◌-◌, ◌/◌, ◌^◌, ◌<◌, ◌≤◌, ◌⊎◌, IsFalse, IsTrue, min};
 ghost use Rattle.std.specs.List.{sum_by};
-ghost use Rattle.nfs_state.specs.MemoryCount.{IsNoCall, attributes_len, claim_len, create_len, cut_len, end_len, entry_len, how_len, kept_len, listed_len, listing_len, locker_len, given_len, made_len, mask_len, op_len, outcome_len, read_len, size_of, write_len};
+ghost use Rattle.nfs_state.specs.MemoryCount.{IsNoCall, attributes_len, bytes_len, claim_len, create_len, cut_len, end_len, entry_len, how_len, kept_len, listed_len, listing_len, locker_len, given_len, made_len, mask_len, op_len, outcome_len, read_len, size_of, write_len};
 ghost use Rattle.nfs_state.specs.Pages.{pages_of};
 
 use crate::Entry;
@@ -11,6 +11,7 @@ use nfs_forms::{Answer, Bitmap, Claim, CreateHow, Fattr, Locker, OpenHow, Status
 use nfs_operations::readdir::DirectoryEntry;
 use nfs_tree::Settable;
 use nfs_xdr::{Op, OpResult};
+use xdr::SHARED_LEN;
 
 /// How many bytes an entry counts beside those that its operation and its answer have of their own.
 pub const ENTRY_LEN: u64 = 320;
@@ -127,9 +128,20 @@ fn op_len(op: &Op) -> u64
         }
         Op::Readdir(args) => mask_len(&args.mask),
         Op::Setattr(args) => attributes_len(&args.attributes),
-        Op::Write(args) => args.bytes.as_slice().len() as u64,
+        Op::Write(args) => bytes_len(args.bytes.as_slice().len() as u64),
         Op::ReleaseLockowner(args) => args.owner.name.as_slice().len() as u64,
         _ => 0,
+    }
+}
+
+// The bytes of a WRITE, which may keep the memory of their whole record.
+fn bytes_len(len: u64) -> u64
+    ensures { result ≡ min (bytes_len len) (2 ^ 64 - 1) }
+{
+    if len < SHARED_LEN as u64 {
+        len
+    } else {
+        len.saturating_mul(2)
     }
 }
 

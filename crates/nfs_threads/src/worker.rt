@@ -14,6 +14,9 @@ use std::sync::Wait;
 use std::sync::atomic::{AtomicBool, Ordering};
 use std::thread::Promise;
 
+// For so many connections more the list of a worker has room, as long as there is memory.
+const SPARE_CONNECTIONS: usize = 1_024;
+
 /// What all workers have in common: where they take memory, the handle with which they wait, the state that they share,
 /// and the tree that they serve.
 #[derive(Drop)]
@@ -126,7 +129,8 @@ fn make_room<N: Naming, L: Links, R: Wait>(
     unreachable!()
 }
 
-// Makes room for a connection: its place in the list, and the buffers, unless the one before has left them.
+// Makes room for a connection: its place in the list, and the buffers, unless the one before has left them. If there is
+// memory, the list has room for many more, because a run in which memory ran out goes on to take connections.
 fn reserve(
     alloc: Global,
     connections: &mut Vec<ConnectionEnd>,
@@ -136,7 +140,9 @@ fn reserve(
     ensures room { OnOk result (vec_len connections.new < vec_capacity connections.new) }
     ensures buffers { OnOk result (IsSome buffers.new) }
 {
-    connections.reserve(1)?;
+    if connections.reserve(SPARE_CONNECTIONS).is_err() {
+        connections.reserve(1)?;
+    }
     if buffers.is_none() {
         *buffers = Some(Buffers::new(alloc)?);
     }

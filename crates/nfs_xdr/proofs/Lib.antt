@@ -3,3 +3,4 @@ pub mod CompoundLists
 pub mod Compounds
 pub mod Refusals
 pub mod Opnums
+pub mod UnreadOps

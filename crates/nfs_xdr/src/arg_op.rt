@@ -5,10 +5,11 @@ ghost use Rattle.nfs_xdr.specs.ArgOp as arg_ops;
 ghost use Rattle.nfs_xdr.specs.ArgOp.{IsEncodedAt, arg_op_at, arg_op_of, or_bad_arguments};
 ghost use Rattle.nfs_xdr.specs.Op.{op_case};
 ghost use Rattle.xdr.specs.Switch.{case_at};
+ghost use Rattle.xdr.specs.Unread.{left_of};
 
 use crate::{Op, Opnum, Unsupported};
 use std::alloc::{AllocError, Global};
-use xdr::{WireError, read_u32};
+use xdr::{Unread, WireError, read_u32};
 
 /// An entry in the list of a COMPOUND: an operation to run, or an entry that ends the list because it can't be run.
 #[derive(Clone, Drop)]
@@ -36,39 +37,47 @@ impl ArgOp {
 
 /// The entry at the front of the list, and the bytes after it. Fails only if memory runs out: an entry that can't be
 /// read ends the list instead.
-pub fn read_op(alloc: Global, bytes: &[u8]) -> Result<(ArgOp, &[u8]), AllocError>
-    ensures encoded { IfOk result (λ x. IsEncodedAt bytes.now x.0 x.1.now) }
-    ensures reads { IfOk result (λ x. (x.0, x.1.now) ≡ arg_op_at bytes.now) }
+pub fn read_op(alloc: Global, unread: Unread<'_>) -> Result<(ArgOp, Unread<'_>), AllocError>
+    ensures encoded { IfOk result (λ x. IsEncodedAt (left_of unread.entry) x.0 (left_of x.1)) }
+    ensures reads { IfOk result (λ x. (x.0, left_of x.1) ≡ arg_op_at (left_of unread.entry)) }
 {
-    op_from(alloc, bytes)
+    op_from(alloc, unread)
 }
 
-fn op_from(alloc: Global, bytes: &[u8]) -> Result<(ArgOp, &[u8]), AllocError>
-    ensures { IfOk result (λ x. (x.0, x.1.now) ≡ arg_op_at bytes.now) }
+fn op_from(alloc: Global, unread: Unread<'_>) -> Result<(ArgOp, Unread<'_>), AllocError>
+    ensures { IfOk result (λ x. (x.0, left_of x.1) ≡ arg_op_at (left_of unread.entry)) }
 {
-    match read_u32(bytes) {
-        Ok((number, rest)) => read_numbered(alloc, number, rest),
-        Err(_) => Ok((ArgOp::BadArgs(Opnum::Illegal), bytes)),
+    match read_u32(unread.as_slice()) {
+        Ok((number, rest)) => read_numbered(alloc, number, unread.after(rest)),
+        Err(_) => Ok((ArgOp::BadArgs(Opnum::Illegal), unread)),
     }
 }
 
-fn read_numbered(alloc: Global, number: u32, bytes: &[u8]) -> Result<(ArgOp, &[u8]), AllocError>
-    ensures { IfOk result (λ x. (x.0, x.1.now) ≡ arg_op_of number bytes.now) }
+fn read_numbered(
+    alloc: Global,
+    number: u32,
+    unread: Unread<'_>,
+) -> Result<(ArgOp, Unread<'_>), AllocError>
+    ensures { IfOk result (λ x. (x.0, left_of x.1) ≡ arg_op_of number (left_of unread.entry)) }
 {
     match Opnum::from_number(number) {
-        None | Some(Opnum::Illegal) => Ok((ArgOp::Illegal(number), bytes)),
-        Some(Opnum::Unsupported(op)) => Ok((ArgOp::Unsupported(op), bytes)),
-        Some(opnum) => read_ruled(alloc, opnum, bytes),
+        None | Some(Opnum::Illegal) => Ok((ArgOp::Illegal(number), unread)),
+        Some(Opnum::Unsupported(op)) => Ok((ArgOp::Unsupported(op), unread)),
+        Some(opnum) => read_ruled(alloc, opnum, unread),
     }
 }
 
-fn read_ruled(alloc: Global, opnum: Opnum, bytes: &[u8]) -> Result<(ArgOp, &[u8]), AllocError>
-    ensures { IfOk result (λ x. (x.0, x.1.now)
-        ≡ or_bad_arguments opnum bytes.now (case_at (op_case opnum) bytes.now)) }
+fn read_ruled(
+    alloc: Global,
+    opnum: Opnum,
+    unread: Unread<'_>,
+) -> Result<(ArgOp, Unread<'_>), AllocError>
+    ensures { IfOk result (λ x. (x.0, left_of x.1)
+        ≡ or_bad_arguments opnum (left_of unread.entry) (case_at (op_case opnum) (left_of unread.entry))) }
 {
-    match Op::read_arguments(alloc, opnum, bytes) {
+    match Op::read_shared(alloc, opnum, unread) {
         Ok((op, rest)) => Ok((ArgOp::Run(op), rest)),
         Err(WireError::Memory) => Err(AllocError),
-        Err(_) => Ok((ArgOp::BadArgs(opnum), bytes)),
+        Err(_) => Ok((ArgOp::BadArgs(opnum), unread)),
     }
 }

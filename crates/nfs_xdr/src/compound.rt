@@ -1,15 +1,18 @@
 //! Reads the arguments of COMPOUND, and writes its results.
 
-ghost use Rattle.std.specs.Prelude.{◌≡◌, ◌⊎◌, IfOk, OnErr, IsErrOf, IsOk};
+ghost use Rattle.std.specs.Prelude.{◌≡◌, ◌⊎◌, IfOk, OnErr, IsErrOf, IsOk, drop};
 ghost use Rattle.nfs_xdr.specs.declared.compound.Compound.{Compound};
 ghost use Rattle.nfs_xdr.specs.Compound.{IsCompound, OneCompoundIsEncoded, OneOperationIsEncoded, compound_at, compound_result, head, operations_at, request_at};
 ghost use Rattle.xdr.specs.Reading.{Answers, Gives};
+ghost use Rattle.xdr.specs.Unread.{left_of};
 ghost use Rattle.xdr.specs.Writing.{Writes};
 
 use crate::arg_op::read_op;
 use crate::{ArgOp, OpResult, Status};
 use std::alloc::{AllocError, Global};
-use xdr::{Bytes, NO_LIMIT, Sequence, WireError, read_opaque, read_u32, write_three};
+use xdr::{
+    Bytes, Message, NO_LIMIT, Sequence, Unread, WireError, read_opaque, read_u32, write_three,
+};
 
 /// The greatest number of operations in a COMPOUND.
 pub const OPERATION_LIMIT: u32 = 64;
@@ -33,29 +36,36 @@ pub enum CompoundRequest {
     Operations(Sequence<ArgOp>),
 }
 
-/// Reads the arguments of a COMPOUND; bytes after them are ignored. Short where the tag, the minor version or
-/// the count can't be read; a tag has no limit, so TooLong never comes.
-pub fn read_compound(alloc: Global, bytes: &[u8]) -> Result<Compound, WireError>
+/// Reads the arguments of a COMPOUND, which begin at this place of a message; bytes after them are ignored. Short where
+/// the tag, the minor version or the count can't be read; a tag has no limit, so TooLong never comes.
+pub fn read_compound(
+    alloc: Global,
+    message: &mut Message,
+    place: usize,
+) -> Result<Compound, WireError>
     // What is read matches the layout. On an error no COMPOUND matches it, or memory ran out.
-    ensures encoded { IfOk result (λ compound. IsCompound compound bytes.now) }
+    ensures encoded { IfOk result (λ compound. IsCompound compound (drop place message.old)) }
     ensures none { OnErr result
         ((result ≡ Err WireError.Memory)
-        ⊎ ((compound : Compound) → IsCompound compound bytes.now → ⊥)) }
-    ensures reads { Gives (λ compound. compound) result (compound_at bytes.now) }
+        ⊎ ((compound : Compound) → IsCompound compound (drop place message.old) → ⊥)) }
+    ensures reads { Gives (λ compound. compound) result (compound_at (drop place message.old)) }
     // Memory is reported only if the tag, the minor version and the count are there.
-    ensures memory { IsErrOf result WireError.Memory → IsOk (head.at bytes.now) }
+    ensures memory { IsErrOf result WireError.Memory → IsOk (head.at (drop place message.old)) }
+    ensures same { message.new ≡ message.old }
 {
-    compound_from(alloc, bytes)
+    compound_from(alloc, message, place)
 }
 
 #[tactic(auto, unfolding(crate::specs::Compound::compound_at))]
-fn compound_from(alloc: Global, bytes: &[u8]) -> Result<Compound, WireError>
-    ensures reads { Gives (λ compound. compound) result (compound_at bytes.now) }
-    ensures memory { IsErrOf result WireError.Memory → IsOk (head.at bytes.now) }
+fn compound_from(alloc: Global, message: &mut Message, place: usize) -> Result<Compound, WireError>
+    ensures reads { Gives (λ compound. compound) result (compound_at (drop place message.old)) }
+    ensures memory { IsErrOf result WireError.Memory → IsOk (head.at (drop place message.old)) }
+    ensures same { message.new ≡ message.old }
 {
-    let ((tag, (minor, count)), rest) = read_head(bytes)?;
+    let ((tag, (minor, count)), rest) = read_head(message.unread(place).as_slice())?;
     let tag = Bytes::copy_of(alloc, tag)?;
-    let request = read_request(alloc, minor, count, rest)?;
+    let place = message.as_slice().len().saturating_sub(rest.len());
+    let request = read_request(alloc, minor, count, message, place)?;
     Ok(Compound { tag, request })
 }
 
@@ -73,9 +83,12 @@ fn read_request(
     alloc: Global,
     minor: u32,
     count: u32,
-    bytes: &[u8],
+    message: &mut Message,
+    place: usize,
 ) -> Result<CompoundRequest, AllocError>
-    ensures { IfOk result (λ request. request ≡ request_at minor count bytes.now) }
+    ensures request { IfOk result
+        (λ request. request ≡ request_at minor count (drop place message.old)) }
+    ensures same { message.new ≡ message.old }
 {
     if minor != 0 {
         return Ok(CompoundRequest::MinorVersion(minor));
@@ -83,17 +96,23 @@ fn read_request(
     if count > OPERATION_LIMIT {
         return Ok(CompoundRequest::TooMany(count));
     }
-    Ok(CompoundRequest::Operations(read_operations(alloc, count, bytes)?))
+    message.share()?;
+    let unread = message.unread(place);
+    Ok(CompoundRequest::Operations(read_operations(alloc, count, unread)?))
 }
 
 // The operations at the front, as many as the count says, or up to the first one that ends the list.
-fn read_operations(alloc: Global, count: u32, bytes: &[u8]) -> Result<Sequence<ArgOp>, AllocError>
-    ensures { IfOk result (λ ops. ops ≡ operations_at count bytes.now) }
+fn read_operations(
+    alloc: Global,
+    count: u32,
+    unread: Unread<'_>,
+) -> Result<Sequence<ArgOp>, AllocError>
+    ensures { IfOk result (λ ops. ops ≡ operations_at count (left_of unread.entry)) }
 {
     // Each operation takes at least four bytes, so a false count doesn't take much memory.
-    let most = (count as usize).min(bytes.len() / 4);
+    let most = (count as usize).min(unread.as_slice().len() / 4);
     let mut ops = Vec::with_capacity(alloc, most)?;
-    let mut rest = bytes;
+    let mut rest = unread;
     for _ in 0..count {
         let (op, beyond) = read_op(alloc, rest)?;
         let is_last = op.ends_list();

@@ -3,3 +3,4 @@ pub mod WritingLists
 pub mod ReadingChains
 pub mod MeasuringChains
 pub mod PartLists
+pub mod UnreadBytes

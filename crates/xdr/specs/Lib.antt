@@ -8,3 +8,5 @@ pub mod Form
 pub mod Switch
 pub mod Union
 pub mod WireError
+pub mod Message
+pub mod Unread

@@ -6,3 +6,4 @@ pub mod Chains
 pub mod Subsets
 pub mod Enumerations
 pub mod Switches
+pub mod Endings

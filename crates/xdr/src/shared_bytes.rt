@@ -1,17 +1,17 @@
 //! Opaque data that several values share, so that large READs and WRITEs aren't copied.
 
-ghost use Rattle.std.specs.Prelude.{◌≡◌, ◌+◌, ◌≤◌, IfOk, drop, length, take};
+ghost use Rattle.std.specs.Prelude.{◌≡◌, ◌+◌, ◌≤◌, IfErr, IfOk, drop, length, take};
 
 use std::alloc::{AllocError, Global};
 use std::marker::Model;
-use std::sync::ArcSlice;
+use std::sync::Arc;
 
 /// Owned bytes (opaque<>) that their clones and parts share, so that none of these takes memory, however many the bytes
 /// are. They can be written if there are at most `NO_LIMIT` of them. Contracts see the list of them.
 #[derive(Drop)]
 pub struct SharedBytes {
     // The bytes that are shared.
-    all: ArcSlice<u8>,
+    all: Arc<Vec<u8>>,
     // Where in the shared bytes this value's begin, and how many these are.
     start: usize,
     len: usize,
@@ -24,9 +24,9 @@ impl Model for SharedBytes {
 
     ghost Value = { List ℕ };
 
-    ghost view = { λ b. take b.len (drop b.start b.all.items.value.items) };
+    ghost view = { λ b. take b.len (drop b.start b.all.value.items) };
 
-    ghost invariant = { λ b. b.start + b.len ≤ length b.all.items.value.items };
+    ghost invariant = { λ b. b.start + b.len ≤ length b.all.value.items };
 }
 
 impl SharedBytes {
@@ -34,12 +34,19 @@ impl SharedBytes {
     pub fn new(items: Vec<u8>) -> Result<SharedBytes, AllocError>
         ensures { IfOk result (λ b. b ≡ items.items) }
     {
-        let len = items.len();
-        Ok(SharedBytes {
-            all: ArcSlice::from_vec(items)?,
-            start: 0,
-            len,
-        })
+        SharedBytes::of_vec(items).map_err(|_| AllocError)
+    }
+
+    /// A value that owns these bytes, which stay where they are. They come back if memory ran out.
+    pub fn of_vec(items: Vec<u8>) -> Result<SharedBytes, Vec<u8>>
+        ensures ok { IfOk result (λ b. b ≡ items.items) }
+        ensures err { IfErr result (λ back. back.items ≡ items.items) }
+    {
+        let (alloc, len) = (*items.allocator(), items.len());
+        match Arc::new(alloc, items) {
+            Ok(all) => Ok(SharedBytes { all, start: 0, len }),
+            Err(failed) => Err(failed.value),
+        }
     }
 
     /// A copy of these bytes, in memory of its own.

@@ -14,10 +14,10 @@ part_again n s m a xs within =
 pub returns : goal.returns
 returns c =
     let b = c.self.inside in
-    let all = b.all.items.value.items in
+    let all = b.all.value.items in
     let within : c.args.start + c.args.len ≤ b.len =
     omega (arith, c.requires, ap length c.self.view_is, length-take b.len (drop b.start all)) in
-    let same : c.in_ok-clone.field-0.items.value.items ≡ all = search rules in
+    let same : c.in_ok-clone.field-0.value.items ≡ all = search rules in
     ap (λ (xs : List ℕ). take c.args.len (drop (b.start + c.args.start) xs)) same
     ∙ sym (part_again c.args.len c.args.start b.len b.start all within)
     ∙ ap (λ (xs : List ℕ). take c.args.len (drop c.args.start xs)) c.self.view_is
