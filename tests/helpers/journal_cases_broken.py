@@ -41,7 +41,7 @@ from nfs4tools.journal.journal import EARLIER, HEAD, HEAD_OF_CLIENTS, head_bytes
 from nfs4tools.model.tree import CALLBACKS, CLOSE_LOCKS, DELEGATIONS, Node, PROFILES, Policy, Tree
 from nfs4tools.wire import (
     Claim,
-    GIVEN_STATUSES,
+    KNOWN_STATUSES,
     LockOwner,
     NewLocker,
     OpenOwner,
@@ -406,13 +406,13 @@ def whole_files() -> Iterator[Named]:
     answers += [Answer(Opnum.WRITE, Status.OK, u32(LAST, committed, LAST, LAST)) for committed in range(3)]
     answers += [Answer(26, Status.NOTSUPP, b""), Answer(Opnum.SETATTR, Status.NOTSUPP, u32(0))]
     # What the profile "clients" alone gives can be read under either; no name and no listing is too long.
-    answers += [Answer(Opnum.SETATTR, status, u32(2, 0, 7)) for status in sorted(GIVEN_STATUSES)]
+    answers += [Answer(Opnum.SETATTR, status, u32(2, 0, 7)) for status in sorted(KNOWN_STATUSES)]
     answers += [Answer(Opnum.COMMIT, Status.OK, b"verifier"), Answer(Opnum.COMMIT, Status.NOFILEHANDLE, b"")]
     entry = u32(1) + u64(LAST) + opaque(b"n" * 300) + u32(0) + opaque(b"values")
     answers += [Answer(Opnum.READDIR, Status.OK, b"verifier" + count * entry + u32(0, 1)) for count in (0, 1, 200)]
     # Operations on the tree alone have any status, and SECINFO any number of flavors.
     on_tree = (*sorted(NEVER_OK), Opnum.LOOKUPP, Opnum.PUTPUBFH, Opnum.SECINFO)
-    answers += [Answer(it, status, b"") for it in on_tree for status in sorted(GIVEN_STATUSES - {Status.OK})]
+    answers += [Answer(it, status, b"") for it in on_tree for status in sorted(KNOWN_STATUSES - {Status.OK})]
     answers += [Answer(Opnum.LOOKUPP, Status.OK, b""), Answer(Opnum.PUTPUBFH, Status.OK, b"")]
     answers += [Answer(Opnum.SECINFO, Status.OK, u32(len(it), *it)) for it in ((), (1, 0), (0,) * 999)]
     answers += [

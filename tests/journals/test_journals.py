@@ -23,7 +23,7 @@ from nfs4tools.model.tree import Node, Refused, Tree, tree_of
 from nfs4tools.program import can_run_once, ending_of
 from nfs4tools.rows import words as rows
 from nfs4tools.send.servers import is_refused
-from nfs4tools.wire import GIVEN_STATUSES, Opnum, Status, u32
+from nfs4tools.wire import KNOWN_STATUSES, Opnum, Status, u32
 
 # Of a journal whose answers have at most so many words, each is changed; of any other, so many.
 SHORT, DRAWN = 30, 3
@@ -39,7 +39,7 @@ OF_SETATTR = {
     Status.ATTRNOTSUPP,
     Status.BADXDR,
 }
-NEVER = {(Opnum.SETATTR, status) for status in GIVEN_STATUSES - OF_SETATTR}
+NEVER = {(Opnum.SETATTR, status) for status in KNOWN_STATUSES - OF_SETATTR}
 
 
 def expect_audit(program, name, data):

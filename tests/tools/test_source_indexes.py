@@ -17,7 +17,7 @@ PRINTED = {
     "dev/rows_index --check": r"",
     "floors": r"functions of .*: [1-9](?s:.*)\ncalls from .*: [1-9](?s:.*)\nshared lines of the kind .*: [1-9](?s:.*)"
     r"\nshared lines of SAVEFH: [1-9](?s:.*)\nshared lines of READDIR: [1-9](?s:.*)\ndefinitions and .*: [1-9]",
-    "floors --lists": r"\Adefinitions and functions .*: [1-9](?s:.*)\n    nfs_xdr/src/opnum\.rt:\d+  OPNUMS  \d+ op",
+    "floors --lists": r"\Adefinitions and functions .*: [1-9](?s:.*)\n    nfs_xdr/src/opnum\.rt:\d+  Opnum  \d+ op",
     "check_clauses": r"[1-9]\d* entries with [1-9]\d* clauses",
 }
 

@@ -35,7 +35,10 @@ LISTS = "nfs_xdr/src/op.rt", "nfs_xdr/src/op_result.rt", "nfs_xdr/src/opnum.rt"
 # The operations whose shared lines are counted.
 COUNTED = "SAVEFH", "LOOKUPP", "GETATTR", "CLOSE", "READ", "LOCK", "OPEN", "WRITE", "SETATTR", "READDIR"
 # The types and modules whose members operations are; and the operations by the names of the sources.
-MEMBER_OF = r"\b(?:Op|OpResult|Opnum|Unsupported|Transfer|ops?|opnums|results|of|transfers|operations|without)(?:::|\.)"
+MEMBER_OF = (
+    r"\b(?:Op|OpResult|Opnum|Bare|Unsupported|Transfer"
+    r"|ops?|opnums|bares|results|of|transfers|operations|without)(?:::|\.)"
+)
 NAMES = {"".join(map(str.capitalize, name.split("_"))) for name in OPERATION_NAMES.values() if name != "ILLEGAL"}
 # What names so many operations is a list of operations.
 FEWEST = 5
@@ -150,8 +153,8 @@ def count_operation(sources: list[Source], name: str) -> Count:
     types = types_of(form, sources) - {big}
     # A member of the lists of operations; the module of its own file; and what its file in nfs_operations has.
     word = (
-        rf"\b(?:Op|OpResult|Opnum|Transfer|ops?|opnums|results|of|transfers|operations)(?:::|\.){big}\b"
-        rf"|\bmod (?:{big}|{small})\b|\b{small}(?:::(?!<)|\.rule\b)|\b(?:of|operations)::{small}\b"
+        rf"\b(?:Op|OpResult|Opnum|Bare|Transfer|ops?|opnums|bares|results|of|transfers|operations)(?:::|\.){big}\b"
+        rf"|\bmod (?:{big}|{small})\b|\b(?:{small}::(?!<)|(?:{big}|{small})\.rule\b)|\b(?:of|operations)::{small}\b"
         rf"|\b(?:{'|'.join([f'(?:Same|Bounded) for {big}', *types])})\b"
     )
     plain, listing = re.compile(word), re.compile(rf"{word}|^\s+{big}(?:,|\(| = )")

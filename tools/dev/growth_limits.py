@@ -39,20 +39,18 @@ from dev.growth_counts import Count, count_lists, counts, sources_counted
 
 # A test that orders marks by `serve --orders` marks paths and waits for marks, which took 14 of the lines.
 BOUNDS = {"functions": 55, "calls": 30, "lines": 77}
-# Of an operation the shared lines; and how many lists of operations there may be. Seven operations have as many lines as
-# they have today. The limits are to come down: SAVEFH to 12, LOOKUPP to 14, GETATTR and CLOSE to 16, READ to 22, and
-# WRITE and READDIR to 28.
+# Of an operation the shared lines; and how many lists of operations there may be.
 LIMITS = {
-    "SAVEFH": 15,
-    "LOOKUPP": 15,
-    "GETATTR": 18,
-    "CLOSE": 18,
-    "READ": 27,
+    "SAVEFH": 12,
+    "LOOKUPP": 14,
+    "GETATTR": 16,
+    "CLOSE": 16,
+    "READ": 22,
     "LOCK": 22,
     "OPEN": 28,
-    "WRITE": 29,
+    "WRITE": 28,
     "SETATTR": 28,
-    "READDIR": 39,
+    "READDIR": 28,
     "lists": 16,
 }
 # By which part of a bound a count may be above it.

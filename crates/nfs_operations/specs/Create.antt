@@ -1,13 +1,14 @@
--- CREATE (RFC 7530, section 16.4): its arguments are the type of a new file, its name and its attributes, and its
--- result a status other than NFS4_OK, because no operation changes the tree.
+-- CREATE (RFC 7530, section 16.4): its arguments are the type of a new file, its name and its attributes. Its result is
+-- a status other than NFS4_OK, because no operation changes the tree.
 use Rattle.std.specs.Prelude.{false}
 use Rattle.std.proofs.Common.{refl}
 use Rattle.nfs_operations.specs.CreateType.{create_type}
 use Rattle.nfs_operations.specs.declared.create.Create.{Create}
 use Rattle.nfs_forms.specs.Fattr.{fattr}
 use Rattle.xdr.specs.Form.{Form, ◌and◌, of, bytes}
+use Rattle.nfs_operations.specs.Kept.{no_bytes}
 use Rattle.nfs_operations.specs.Names.{Nothing}
-use Rattle.nfs_operations.specs.Failure.{failure, status_of}
+use Rattle.nfs_operations.specs.Failure.{brings_nothing, failure, status_of}
 use Rattle.nfs_operations.specs.Operation.{Operation, usual_limit}
 use Rattle.nfs_operations.specs.Short.{Any}
 use Rattle.nfs_operations.specs.declared.class.Class.TheVariants.{OnTree}
@@ -36,5 +37,7 @@ operation = record {
   refused = Refused;
   status = status_of;
   names = λ args. Nothing;
+  brings = brings_nothing;
+  kept = no_bytes;
   IsShort = Any;
 }

@@ -6,6 +6,7 @@ use Rattle.nfs_forms.specs.Answer.{PlainAnswer, plain_answer, status_of}
 use Rattle.nfs_forms.specs.Stateid.{stateid}
 use Rattle.xdr.specs.Form.{Form, of, nothing}
 use Rattle.nfs_forms.specs.declared.answer.Answer.TheVariants.{Refused}
+use Rattle.nfs_operations.specs.Kept.{brought_by, no_bytes, no_data}
 use Rattle.nfs_operations.specs.Names.{State}
 use Rattle.nfs_operations.specs.Operation.{Operation, usual_limit}
 use Rattle.nfs_operations.specs.Short.{Any}
@@ -30,5 +31,7 @@ operation = record {
   refused = Refused;
   status = status_of;
   names = λ args. State args.stateid;
+  brings = brought_by no_data;
+  kept = no_bytes;
   IsShort = Any;
 }

@@ -1,6 +1,5 @@
--- The result of an operation that can't succeed on a tree that no operation changes: a status other than NFS4_OK, which
--- comes without data.
-use Rattle.std.specs.Prelude.{◌≡◌, Option, Some, None}
+-- The result of an operation that never succeeds on this server's tree: a status other than NFS4_OK, without data.
+use Rattle.std.specs.Prelude.{◌≡◌, ℕ, Option, Some, None}
 use Rattle.nfs_forms.specs.Status.{status}
 use Rattle.nfs_forms.specs.declared.status.Status.{Status}
 use Rattle.nfs_forms.specs.declared.status.Status.TheVariants as statuses
@@ -19,6 +18,10 @@ failure_of statuses.Ok = None
 failure_of statuses.Denied = Some Denied
 failure_of statuses.ClidInUse = Some ClidInUse
 failure_of (statuses.Refused refusal) = Some (Refused refusal)
+
+-- no failure brings data
+abbrev pub brings_nothing : Failure → Option ℕ
+brings_nothing failure = None
 
 pub status_back : (s : Status) (f : Failure) → failure_of s ≡ Some f → status_of f ≡ s
 status_back statuses.Ok f h = cc

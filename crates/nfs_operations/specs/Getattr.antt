@@ -6,6 +6,7 @@ use Rattle.nfs_forms.specs.Bitmap.{bitmap}
 use Rattle.nfs_forms.specs.Fattr.{fattr}
 use Rattle.xdr.specs.Form.{Form}
 use Rattle.nfs_forms.specs.declared.answer.Answer.TheVariants.{Refused}
+use Rattle.nfs_operations.specs.Kept.{brought_by, mask_len, no_data}
 use Rattle.nfs_operations.specs.Names.{Nothing}
 use Rattle.nfs_operations.specs.Operation.{Operation, usual_limit}
 use Rattle.nfs_operations.specs.Short.{Any, IsShortAnswer}
@@ -36,5 +37,7 @@ operation = record {
   refused = Refused;
   status = status_of;
   names = λ args. Nothing;
+  brings = brought_by no_data;
+  kept = λ mask brought. mask_len mask;
   IsShort = IsShortAnswer AreFewAttributes Any Any;
 }

@@ -1,6 +1,8 @@
--- Each operation as a record: its number, its forms, what it names, and how long its result may be.
+-- Each operation as a record: its number, class and profile, its forms, what it names, how long its result may be, and
+-- how many bytes its entry counts.
 pub mod Names
 pub mod Short
+pub mod Kept
 pub mod Operation
 pub mod Failure
 pub mod FileType

@@ -1,6 +1,6 @@
--- LOCKT (RFC 7530, section 16.11): its arguments are bytes of a file, how they would be locked and for whom; its result
+-- LOCKT (RFC 7530, section 16.11): its arguments are bytes of a file, how they would be locked and for whom. Its result
 -- is a status, with NFS4ERR_DENIED a lock that would be in the way.
-use Rattle.std.specs.Prelude.{true}
+use Rattle.std.specs.Prelude.{true, length}
 use Rattle.std.proofs.Common.{refl}
 use Rattle.nfs_forms.specs.declared.answer.Answer.{Answer}
 use Rattle.nfs_forms.specs.declared.lock_denied.LockDenied.{LockDenied}
@@ -11,6 +11,7 @@ use Rattle.nfs_forms.specs.LockOwner.{lock_owner}
 use Rattle.nfs_forms.specs.LockType.{lock_type}
 use Rattle.xdr.specs.Form.{Form, ◌and◌, of, nothing, u64}
 use Rattle.nfs_forms.specs.declared.answer.Answer.TheVariants.{Refused}
+use Rattle.nfs_operations.specs.Kept.{brought_by, no_data}
 use Rattle.nfs_operations.specs.Names.{Client}
 use Rattle.nfs_operations.specs.Operation.{Operation, usual_limit}
 use Rattle.nfs_operations.specs.Short.{Any, HasShortName, IsShortAnswer}
@@ -39,5 +40,7 @@ operation = record {
   refused = Refused;
   status = status_of;
   names = λ args. Client args.owner.client;
+  brings = brought_by no_data;
+  kept = λ args brought. length args.owner.name;
   IsShort = IsShortAnswer Any HasShortName Any;
 }

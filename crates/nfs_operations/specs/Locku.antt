@@ -9,6 +9,7 @@ use Rattle.nfs_forms.specs.LockType.{lock_type}
 use Rattle.nfs_forms.specs.Stateid.{stateid}
 use Rattle.xdr.specs.Form.{Form, ◌and◌, of, u32, u64}
 use Rattle.nfs_forms.specs.declared.answer.Answer.TheVariants.{Refused}
+use Rattle.nfs_operations.specs.Kept.{brought_by, no_bytes, no_data}
 use Rattle.nfs_operations.specs.Names.{Owned}
 use Rattle.nfs_operations.specs.Operation.{Operation, usual_limit}
 use Rattle.nfs_operations.specs.Short.{Any}
@@ -43,5 +44,7 @@ operation = record {
   refused = Refused;
   status = status_of;
   names = λ args. Owned args.stateid args.seqid;
+  brings = brought_by no_data;
+  kept = no_bytes;
   IsShort = Any;
 }

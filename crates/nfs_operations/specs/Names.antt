@@ -21,7 +21,7 @@ pub data Names : Type 0 where
   -- a stateid alone, of an operation that goes by no sequence id
   State : Stateid → Names
 
--- A LOCK for a new lock owner names an open, with the sequence id of the open's owner; one for a lock owner that is
+-- A LOCK for a new lock owner names an open, with the sequence id of the open's owner. A LOCK for a lock owner that is
 -- known names a lock state, with the sequence id of the lock owner.
 abbrev pub locker_names : Locker → Names
 locker_names (lockers.New locker) = Owned locker.open_stateid locker.open_seqid

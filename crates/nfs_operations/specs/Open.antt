@@ -1,7 +1,13 @@
--- OPEN (RFC 7530, section 16.16): its arguments name a file, and how it is opened and by whom; its result is a stateid,
+-- OPEN (RFC 7530, section 16.16): its arguments name a file, and how it is opened and by whom. Its result is a stateid,
 -- and what came of the creation and of the delegation.
-use Rattle.std.specs.Prelude.{◌≡◌, [], true}
+use Rattle.std.specs.Prelude.{◌≡◌, ℕ, ◌+◌, [], length, true}
 use Rattle.std.proofs.Common.{refl}
+use Rattle.nfs_forms.specs.declared.claim.Claim.{Claim}
+use Rattle.nfs_forms.specs.declared.claim.Claim.TheVariants as claims
+use Rattle.nfs_forms.specs.declared.create_how.CreateHow.{CreateHow}
+use Rattle.nfs_forms.specs.declared.create_how.CreateHow.TheVariants as creates
+use Rattle.nfs_forms.specs.declared.open_how.OpenHow.{OpenHow}
+use Rattle.nfs_forms.specs.declared.open_how.OpenHow.TheVariants as hows
 use Rattle.nfs_operations.specs.declared.«open».Open.{Open}
 use Rattle.nfs_operations.specs.declared.«open».OpenOk.{OpenOk}
 use Rattle.nfs_forms.specs.Answer.{PlainAnswer, plain_answer, status_of}
@@ -14,6 +20,7 @@ use Rattle.nfs_forms.specs.OpenOwner.{open_owner}
 use Rattle.nfs_forms.specs.Stateid.{stateid}
 use Rattle.xdr.specs.Form.{Form, ◌and◌, of, u32}
 use Rattle.nfs_forms.specs.declared.answer.Answer.TheVariants.{Refused}
+use Rattle.nfs_operations.specs.Kept.{attributes_len, brought_by, no_data}
 use Rattle.nfs_operations.specs.Names.{Opener}
 use Rattle.nfs_operations.specs.Operation.{Operation, usual_limit}
 use Rattle.nfs_operations.specs.Short.{Any, IsShortAnswer}
@@ -57,6 +64,23 @@ result = plain_answer open_ok
 abbrev pub SetsNothing : OpenOk → Type 0
 SetsNothing answer = answer.attrset ≡ []
 
+-- the name of the file that is to be opened
+abbrev pub claim_len : Claim → ℕ
+claim_len (claims.Null name) = length name
+claim_len (claims.Previous delegation) = 0
+claim_len (claims.DelegateCur id name) = length name
+claim_len (claims.DelegatePrev name) = length name
+
+-- the attributes that a file is to be created with
+abbrev pub create_len : CreateHow → ℕ
+create_len (creates.Unchecked given) = attributes_len given
+create_len (creates.Guarded given) = attributes_len given
+create_len (creates.Exclusive verifier) = 0
+
+abbrev pub how_len : OpenHow → ℕ
+how_len hows.Nocreate = 0
+how_len (hows.Create how) = create_len how
+
 abbrev pub operation : Operation Open (PlainAnswer OpenOk)
 operation = record {
   number = 18;
@@ -68,5 +92,7 @@ operation = record {
   refused = Refused;
   status = status_of;
   names = λ args. Opener args.owner args.seqid;
+  brings = brought_by no_data;
+  kept = λ args brought. length args.owner.name + claim_len args.claim + how_len args.how;
   IsShort = IsShortAnswer SetsNothing Any Any;
 }

@@ -1,5 +1,5 @@
 -- OPEN_DOWNGRADE (RFC 7530, section 16.19): its arguments are an open, a sequence id, and the access and deny that the
--- open is to have; its result is the open's new stateid.
+-- open is to have. Its result is the open's new stateid.
 use Rattle.std.specs.Prelude.{true}
 use Rattle.std.proofs.Common.{refl}
 use Rattle.nfs_operations.specs.declared.open_downgrade.OpenDowngrade.{OpenDowngrade}
@@ -8,6 +8,7 @@ use Rattle.nfs_forms.specs.Answer.{PlainAnswer, plain_answer, status_of}
 use Rattle.nfs_forms.specs.Stateid.{stateid}
 use Rattle.xdr.specs.Form.{Form, ◌and◌, of, u32}
 use Rattle.nfs_forms.specs.declared.answer.Answer.TheVariants.{Refused}
+use Rattle.nfs_operations.specs.Kept.{brought_by, no_bytes, no_data}
 use Rattle.nfs_operations.specs.Names.{Owned}
 use Rattle.nfs_operations.specs.Operation.{Operation, usual_limit}
 use Rattle.nfs_operations.specs.Short.{Any}
@@ -36,5 +37,7 @@ operation = record {
   refused = Refused;
   status = status_of;
   names = λ args. Owned args.stateid args.seqid;
+  brings = brought_by no_data;
+  kept = no_bytes;
   IsShort = Any;
 }

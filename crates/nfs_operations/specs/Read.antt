@@ -1,6 +1,6 @@
--- READ (RFC 7530, section 16.23): its arguments are a stateid, and which bytes of the file are asked for; its result is
+-- READ (RFC 7530, section 16.23): its arguments are a stateid, and which bytes of the file are asked for. Its result is
 -- the bytes, and whether the file ends with them. No limit is given for the bytes.
-use Rattle.std.specs.Prelude.{◌≤◌, length, true}
+use Rattle.std.specs.Prelude.{ℕ, ◌*◌, ◌≤◌, ◌==◌, true, if◌then◌else◌, length, Option, Some, None}
 use Rattle.std.proofs.Common.{refl}
 use Rattle.nfs_operations.specs.declared.read.Read.{Read}
 use Rattle.nfs_operations.specs.declared.read.ReadOk.{ReadOk}
@@ -8,9 +8,11 @@ use Rattle.nfs_forms.specs.Answer.{PlainAnswer, plain_answer, status_of}
 use Rattle.nfs_forms.specs.Stateid.{stateid}
 use Rattle.xdr.specs.Form.{Form, ◌and◌, of, bytes as opaque_bytes, flag, u32, u64}
 use Rattle.nfs_forms.specs.declared.answer.Answer.TheVariants.{Refused}
+use Rattle.nfs_operations.specs.Kept.{brought_by, pages_of}
 use Rattle.nfs_operations.specs.Names.{State}
 use Rattle.nfs_operations.specs.Operation.{Operation}
 use Rattle.nfs_operations.specs.Short.{Any, IsShortAnswer}
+use Rattle.nfs_operations.specs.declared.kept.TheConstants.{PART_LEN}
 use Rattle.nfs_operations.specs.declared.class.Class.TheVariants.{OnState}
 
 -- struct READ4args { stateid4 stateid; offset4 offset; count4 count; };
@@ -34,6 +36,11 @@ result = plain_answer read_ok
 abbrev pub AreFewBytes : ReadOk → Type 0
 AreFewBytes answer = length answer.bytes ≤ 65_536
 
+-- a part of each page that has some of the bytes, and nothing of the page itself
+abbrev pub parts_len : ℕ → Option ℕ → ℕ
+parts_len offset None = 0
+parts_len offset (Some len) = if len == 0 then 0 else pages_of offset len * PART_LEN
+
 abbrev pub operation : Operation Read (PlainAnswer ReadOk)
 operation = record {
   number = 25;
@@ -45,5 +52,7 @@ operation = record {
   refused = Refused;
   status = status_of;
   names = λ args. State args.stateid;
+  brings = brought_by (λ a. length a.bytes);
+  kept = λ args brought. parts_len args.offset brought;
   IsShort = IsShortAnswer AreFewBytes Any Any;
 }

@@ -1,7 +1,8 @@
--- READDIR (RFC 7530, section 16.24): its arguments say behind which entry of the directory the listing begins, how long
--- the answer may be, and which attributes of each entry are asked for; its result is entries, and whether they are the
--- last ones. No limit is given for names, and none for the entries.
-use Rattle.std.specs.Prelude.{◌≤◌, length, false}
+-- READDIR (RFC 7530, section 16.24): its arguments say behind which entry of the directory the listing begins, and how
+-- long the answer may be. They ask for attributes of each entry. Its result is entries, and whether they are the last
+-- ones. No limit is given for names, and none for the entries.
+use Rattle.std.specs.Prelude.{ℕ, ◌+◌, ◌-◌, ◌^◌, ◌≤◌, length, false, min, unwrap_or}
+use Rattle.std.specs.List.{sum_by}
 use Rattle.std.proofs.Common.{refl}
 use Rattle.nfs_operations.specs.declared.readdir.DirectoryEntry.{DirectoryEntry}
 use Rattle.nfs_operations.specs.declared.readdir.Readdir.{Readdir}
@@ -12,9 +13,11 @@ use Rattle.nfs_forms.specs.Fattr.{fattr}
 use Rattle.nfs_forms.specs.Verifier.{verifier}
 use Rattle.xdr.specs.Form.{Form, ◌and◌, of, bytes as opaque_bytes, chain, flag, u32, u64}
 use Rattle.nfs_forms.specs.declared.answer.Answer.TheVariants.{Refused}
+use Rattle.nfs_operations.specs.Kept.{attributes_len, brought_by, mask_len}
 use Rattle.nfs_operations.specs.Names.{Nothing}
 use Rattle.nfs_operations.specs.Operation.{Operation}
 use Rattle.nfs_operations.specs.Short.{Any, IsShortAnswer}
+use Rattle.nfs_operations.specs.declared.kept.TheConstants.{LISTED_LEN}
 use Rattle.nfs_operations.specs.declared.class.Class.TheVariants.{OnState}
 
 -- struct READDIR4args
@@ -55,6 +58,14 @@ result = plain_answer readdir_ok
 abbrev pub AreFewEntries : ReaddirOk → Type 0
 AreFewEntries answer = readdir_ok.Fits answer × (length (readdir_ok.encoding answer) ≤ 65_536)
 
+-- An entry counts its name, its attributes, and what it takes beside these; a listing, its entries, as far as a u64
+-- counts.
+abbrev pub listed_len : DirectoryEntry → ℕ
+listed_len e = LISTED_LEN + length e.name + attributes_len e.attributes
+
+abbrev pub listing_len : ReaddirOk → ℕ
+listing_len answer = min (sum_by listed_len answer.entries) (2 ^ 64 - 1)
+
 abbrev pub operation : Operation Readdir (PlainAnswer ReaddirOk)
 operation = record {
   number = 26;
@@ -66,5 +77,7 @@ operation = record {
   refused = Refused;
   status = status_of;
   names = λ args. Nothing;
+  brings = brought_by listing_len;
+  kept = λ args brought. mask_len args.mask + unwrap_or brought 0;
   IsShort = IsShortAnswer AreFewEntries Any Any;
 }

@@ -1,9 +1,10 @@
--- READLINK (RFC 7530, section 16.25): it has no arguments, and its result a status other than
--- NFS4_OK, because no operation changes the tree.
+-- READLINK (RFC 7530, section 16.25): it has no arguments. Its result is a status other than NFS4_OK, because the tree
+-- has no symbolic link.
 use Rattle.std.specs.Prelude.{false}
 use Rattle.xdr.specs.Form.{Form, nothing}
+use Rattle.nfs_operations.specs.Kept.{no_bytes}
 use Rattle.nfs_operations.specs.Names.{Nothing}
-use Rattle.nfs_operations.specs.Failure.{failure, status_of}
+use Rattle.nfs_operations.specs.Failure.{brings_nothing, failure, status_of}
 use Rattle.nfs_operations.specs.Operation.{Operation, usual_limit}
 use Rattle.nfs_operations.specs.Short.{Any}
 use Rattle.nfs_operations.specs.declared.class.Class.TheVariants.{OnTree}
@@ -29,5 +30,7 @@ operation = record {
   refused = Refused;
   status = status_of;
   names = λ args. Nothing;
+  brings = brings_nothing;
+  kept = no_bytes;
   IsShort = Any;
 }

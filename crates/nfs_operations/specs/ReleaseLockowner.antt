@@ -1,11 +1,12 @@
 -- RELEASE_LOCKOWNER (RFC 7530, section 16.37): its argument is a lock owner, and its result a status.
-use Rattle.std.specs.Prelude.{true}
+use Rattle.std.specs.Prelude.{true, length}
 use Rattle.std.proofs.Common.{refl}
 use Rattle.nfs_operations.specs.declared.release_lockowner.ReleaseLockowner.{ReleaseLockowner}
 use Rattle.nfs_forms.specs.Answer.{PlainAnswer, plain_answer, status_of}
 use Rattle.nfs_forms.specs.LockOwner.{lock_owner}
 use Rattle.xdr.specs.Form.{Form, of, nothing}
 use Rattle.nfs_forms.specs.declared.answer.Answer.TheVariants.{Refused}
+use Rattle.nfs_operations.specs.Kept.{brought_by, no_data}
 use Rattle.nfs_operations.specs.Names.{Client}
 use Rattle.nfs_operations.specs.Operation.{Operation, usual_limit}
 use Rattle.nfs_operations.specs.Short.{Any}
@@ -30,5 +31,7 @@ operation = record {
   refused = Refused;
   status = status_of;
   names = λ args. Client args.owner.client;
+  brings = brought_by no_data;
+  kept = λ args brought. length args.owner.name;
   IsShort = Any;
 }

@@ -2,8 +2,9 @@
 -- NFS4_OK, because no operation changes the tree.
 use Rattle.std.specs.Prelude.{ℕ, List, false}
 use Rattle.xdr.specs.Form.{Form, bytes}
+use Rattle.nfs_operations.specs.Kept.{no_bytes}
 use Rattle.nfs_operations.specs.Names.{Nothing}
-use Rattle.nfs_operations.specs.Failure.{failure, status_of}
+use Rattle.nfs_operations.specs.Failure.{brings_nothing, failure, status_of}
 use Rattle.nfs_operations.specs.Operation.{Operation, usual_limit}
 use Rattle.nfs_operations.specs.Short.{Any}
 use Rattle.nfs_operations.specs.declared.class.Class.TheVariants.{OnTree}
@@ -29,5 +30,7 @@ operation = record {
   refused = Refused;
   status = status_of;
   names = λ args. Nothing;
+  brings = brings_nothing;
+  kept = no_bytes;
   IsShort = Any;
 }

@@ -4,8 +4,9 @@ use Rattle.std.specs.Prelude.{false}
 use Rattle.std.proofs.Common.{refl}
 use Rattle.nfs_operations.specs.declared.rename.Rename.{Rename}
 use Rattle.xdr.specs.Form.{Form, ◌and◌, of, bytes}
+use Rattle.nfs_operations.specs.Kept.{no_bytes}
 use Rattle.nfs_operations.specs.Names.{Nothing}
-use Rattle.nfs_operations.specs.Failure.{failure, status_of}
+use Rattle.nfs_operations.specs.Failure.{brings_nothing, failure, status_of}
 use Rattle.nfs_operations.specs.Operation.{Operation, usual_limit}
 use Rattle.nfs_operations.specs.Short.{Any}
 use Rattle.nfs_operations.specs.declared.class.Class.TheVariants.{OnTree}
@@ -33,5 +34,7 @@ operation = record {
   refused = Refused;
   status = status_of;
   names = λ args. Nothing;
+  brings = brings_nothing;
+  kept = no_bytes;
   IsShort = Any;
 }

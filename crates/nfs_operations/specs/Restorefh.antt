@@ -3,6 +3,7 @@ use Rattle.std.specs.Prelude.{true}
 use Rattle.nfs_forms.specs.Answer.{PlainAnswer, plain_answer, status_of}
 use Rattle.xdr.specs.Form.{Form, nothing}
 use Rattle.nfs_forms.specs.declared.answer.Answer.TheVariants.{Refused}
+use Rattle.nfs_operations.specs.Kept.{brought_by, no_bytes, no_data}
 use Rattle.nfs_operations.specs.Names.{Nothing}
 use Rattle.nfs_operations.specs.Operation.{Operation, usual_limit}
 use Rattle.nfs_operations.specs.Short.{Any}
@@ -27,5 +28,7 @@ operation = record {
   refused = Refused;
   status = status_of;
   names = λ args. Nothing;
+  brings = brought_by no_data;
+  kept = no_bytes;
   IsShort = Any;
 }

@@ -6,6 +6,7 @@ use Rattle.nfs_forms.specs.Answer.{PlainAnswer, plain_answer, status_of}
 use Rattle.xdr.specs.Form.{Form, bytes, many, some_of, u32}
 use Rattle.xdr.specs.Layout.{NO_LIMIT}
 use Rattle.nfs_forms.specs.declared.answer.Answer.TheVariants.{Refused}
+use Rattle.nfs_operations.specs.Kept.{brought_by, no_bytes, no_data}
 use Rattle.nfs_operations.specs.Names.{Nothing}
 use Rattle.nfs_operations.specs.Operation.{Operation, usual_limit}
 use Rattle.nfs_operations.specs.Short.{IsShortAnswer, Any}
@@ -20,6 +21,7 @@ arguments = bytes
 abbrev pub are_flavors : List ℕ → Bool
 are_flavors numbers = list_all (λ n. nat_le n AUTH_SYS) numbers
 
+-- all flavors that the server accepts
 abbrev pub both : List ℕ
 both = AUTH_SYS ∷ AUTH_NONE ∷ []
 
@@ -61,5 +63,7 @@ operation = record {
   refused = Refused;
   status = status_of;
   names = λ args. Nothing;
+  brings = brought_by no_data;
+  kept = no_bytes;
   IsShort = IsShortAnswer AreFewFlavors Any Any;
 }

@@ -1,5 +1,5 @@
 -- SETCLIENTID (RFC 7530, section 16.33): its arguments introduce a client, and its result has to be confirmed.
-use Rattle.std.specs.Prelude.{◌≤◌, length, true}
+use Rattle.std.specs.Prelude.{◌+◌, ◌≤◌, length, true}
 use Rattle.std.proofs.Common.{refl}
 use Rattle.nfs_forms.specs.declared.answer.Answer.{Answer}
 use Rattle.nfs_forms.specs.declared.callback.Address.{Address}
@@ -12,6 +12,7 @@ use Rattle.nfs_forms.specs.Verifier.{verifier}
 use Rattle.nfs_operations.specs.SetclientidConfirm as setclientid_confirm
 use Rattle.xdr.specs.Form.{Form, ◌and◌, of, nothing, opaque}
 use Rattle.nfs_forms.specs.declared.answer.Answer.TheVariants.{Refused}
+use Rattle.nfs_operations.specs.Kept.{brought_by, no_data}
 use Rattle.nfs_operations.specs.Names.{Nothing}
 use Rattle.nfs_operations.specs.Operation.{Operation, usual_limit}
 use Rattle.nfs_operations.specs.Short.{Any, IsShortAnswer}
@@ -46,5 +47,7 @@ operation = record {
   refused = Refused;
   status = status_of;
   names = λ args. Nothing;
+  brings = brought_by no_data;
+  kept = λ args brought. length args.id + length args.callback.address.netid + length args.callback.address.addr;
   IsShort = IsShortAnswer Any Any IsShortAddress;
 }

@@ -1,7 +1,7 @@
--- WRITE (RFC 7530, section 16.36): its arguments are a stateid, bytes, where in the file they go, and how much of them
--- has to be in stable storage before the answer; its result is how many were written, how much is in stable storage,
--- and a verifier of this start of the server.
-use Rattle.std.specs.Prelude.{true}
+-- WRITE (RFC 7530, section 16.36): its arguments are a stateid, bytes, and where in the file they go. They say how much
+-- has to be in stable storage before the answer. Its result is how many bytes were written, how much is in stable
+-- storage, and a verifier of this start of the server.
+use Rattle.std.specs.Prelude.{ℕ, ◌+◌, ◌-◌, ◌*◌, ◌%◌, ◌==◌, ◌&&◌, nat_lt, not, true, if◌then◌else◌, length}
 use Rattle.std.proofs.Common.{refl}
 use Rattle.nfs_operations.specs.declared.write.Write.{Write}
 use Rattle.nfs_operations.specs.declared.write.WriteOk.{WriteOk}
@@ -11,9 +11,12 @@ use Rattle.nfs_forms.specs.Stateid.{stateid}
 use Rattle.nfs_forms.specs.Verifier.{verifier}
 use Rattle.xdr.specs.Form.{Form, ◌and◌, of, bytes as opaque_bytes, u32, u64}
 use Rattle.nfs_forms.specs.declared.answer.Answer.TheVariants.{Refused}
+use Rattle.nfs_operations.specs.Kept.{brought_by, if_done, is_covered, no_data}
 use Rattle.nfs_operations.specs.Names.{State}
 use Rattle.nfs_operations.specs.Operation.{Operation, usual_limit}
 use Rattle.nfs_operations.specs.Short.{Any}
+use Rattle.nfs_operations.specs.declared.kept.TheConstants.{PAGE_LEN}
+use Rattle.xdr.specs.declared.message.TheConstants.{SHARED_LEN}
 use Rattle.nfs_operations.specs.declared.class.Class.TheVariants.{OnState}
 
 -- struct WRITE4args { stateid4 stateid; offset4 offset; stable_how4 stable; opaque data<>; };
@@ -34,6 +37,21 @@ write_ok =
 abbrev pub result : Form (PlainAnswer WriteOk)
 result = plain_answer write_ok
 
+-- The bytes of a WRITE. From so many on they may keep the memory of their whole record, which is at most twice as long.
+abbrev pub bytes_len : ℕ → ℕ
+bytes_len len = if nat_lt len SHARED_LEN then len else len * 2
+
+-- The pages that a WRITE of so many bytes at the offset makes: the first that it touches, and the last, if that is
+-- another one. Of those that it covers whole none is made.
+abbrev pub pages_made : ℕ → ℕ → ℕ
+pages_made offset len =
+    let within = offset % PAGE_LEN in
+    (if is_covered within len then 0 else PAGE_LEN)
+    + (if nat_lt (PAGE_LEN - within) len && not ((within + len) % PAGE_LEN == 0) then PAGE_LEN else 0)
+
+abbrev pub made_len : ℕ → ℕ → ℕ
+made_len offset len = if len == 0 then 0 else pages_made offset len
+
 abbrev pub operation : Operation Write (PlainAnswer WriteOk)
 operation = record {
   number = 38;
@@ -45,5 +63,7 @@ operation = record {
   refused = Refused;
   status = status_of;
   names = λ args. State args.stateid;
+  brings = brought_by no_data;
+  kept = λ args brought. bytes_len (length args.bytes) + if_done brought (made_len args.offset (length args.bytes));
   IsShort = Any;
 }

@@ -1,13 +1,25 @@
 //! ACCESS's arguments and result.
 
+ghost use Rattle.nfs_operations.specs.Kept.{no_data};
 ghost use Rattle.nfs_operations.specs.Access as forms;
 ghost use Rattle.xdr.specs.Reading.{Answers};
 ghost use Rattle.nfs_operations.specs.Short.{Any};
 
-use crate::Data;
+use crate::facts::{Facts, USUAL_LIMIT};
+use crate::{Class, Data};
 use nfs_forms::Answer;
 use std::alloc::Global;
 use xdr::{Measure, Wire, WireError, write_two};
+
+/// The number of ACCESS.
+pub const NUMBER: u32 = 3;
+
+/// What there is to say of ACCESS beside its number, its forms and its rule.
+pub const FACTS: Facts = Facts {
+    class: Class::OnTree,
+    is_plain: true,
+    limit: USUAL_LIMIT,
+};
 
 /// The access rights that the client asks about (RFC 7530, section 16.1).
 pub type Arguments = u32;
@@ -53,10 +65,16 @@ impl Data for AccessBits {
 
     ghost IsShort = { Any };
 
+    ghost size = { no_data };
+
     #[tactic(auto, unfolding(crate::specs::Access::access_bits))]
     fn fits(&self) {
         self.supported.fits();
         self.access.fits();
+    }
+
+    fn data_len(&self) -> u64 {
+        0
     }
 
     fn is_same(&self, other: &AccessBits) -> bool {

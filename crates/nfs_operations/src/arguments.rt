@@ -1,9 +1,12 @@
-//! What the arguments of all operations have in common: what they name of the state, and when two are the same.
+//! What the arguments of all operations have in common: what they name of the state, how many bytes an entry counts for
+//! them, and when two are the same.
 
-ghost use Rattle.std.specs.Prelude.{◌≡◌, ◌≢◌, MatchBool};
+ghost use Rattle.std.specs.Prelude.{◌≡◌, ◌≢◌, ℕ, ◌-◌, ◌^◌, MatchBool, Option, min};
+ghost use Rattle.nfs_operations.specs.Kept.{mask_len, no_bytes};
 ghost use Rattle.nfs_operations.specs.Names.{Nothing, names_seen};
 
 use crate::Names;
+use crate::kept::mask_len;
 use nfs_forms::{Bitmap, FileHandle};
 use xdr::Bytes;
 
@@ -13,9 +16,16 @@ pub trait Arguments {
 
     ghost named: { Self → Names };
 
+    ghost counted: { Self → Option ℕ → ℕ };
+
     /// What they name of the state.
     fn names(&self) -> Names<'_>
         ensures { names_seen result ≡ named self.now };
+
+    /// How many bytes the operation's entry in the journal counts for them and a result that brings so much. Those that
+    /// each entry counts are left out.
+    fn kept(&self, brought: Option<u64>) -> u64
+        ensures { result ≡ min (counted self.now brought) (2 ^ 64 - 1) };
 
     /// Whether the others are the same.
     fn is_same(&self, other: &Self) -> bool
@@ -27,8 +37,14 @@ pub trait Arguments {
 impl Arguments for u32 {
     ghost named = { λ args. Nothing };
 
+    ghost counted = { no_bytes };
+
     fn names(&self) -> Names<'_> {
         Names::Nothing
+    }
+
+    fn kept(&self, _: Option<u64>) -> u64 {
+        0
     }
 
     fn is_same(&self, other: &u32) -> bool {
@@ -39,8 +55,14 @@ impl Arguments for u32 {
 impl Arguments for Bytes {
     ghost named = { λ args. Nothing };
 
+    ghost counted = { no_bytes };
+
     fn names(&self) -> Names<'_> {
         Names::Nothing
+    }
+
+    fn kept(&self, _: Option<u64>) -> u64 {
+        0
     }
 
     fn is_same(&self, other: &Bytes) -> bool {
@@ -51,8 +73,14 @@ impl Arguments for Bytes {
 impl Arguments for Bitmap {
     ghost named = { λ args. Nothing };
 
+    ghost counted = { λ mask brought. mask_len mask };
+
     fn names(&self) -> Names<'_> {
         Names::Nothing
+    }
+
+    fn kept(&self, _: Option<u64>) -> u64 {
+        mask_len(self)
     }
 
     fn is_same(&self, other: &Bitmap) -> bool {
@@ -63,8 +91,14 @@ impl Arguments for Bitmap {
 impl Arguments for FileHandle {
     ghost named = { λ args. Nothing };
 
+    ghost counted = { no_bytes };
+
     fn names(&self) -> Names<'_> {
         Names::Nothing
+    }
+
+    fn kept(&self, _: Option<u64>) -> u64 {
+        0
     }
 
     fn is_same(&self, other: &FileHandle) -> bool {

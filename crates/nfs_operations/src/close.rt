@@ -3,10 +3,21 @@
 ghost use Rattle.nfs_operations.specs.Close as forms;
 ghost use Rattle.xdr.specs.Reading.{Answers};
 
-use crate::Names;
+use crate::facts::{Facts, USUAL_LIMIT};
+use crate::{Class, Names};
 use nfs_forms::{Answer, Stateid};
 use std::alloc::Global;
 use xdr::{Wire, WireError, write_two};
+
+/// The number of CLOSE.
+pub const NUMBER: u32 = 4;
+
+/// What there is to say of CLOSE beside its number, its forms and its rule.
+pub const FACTS: Facts = Facts {
+    class: Class::OnState,
+    is_plain: true,
+    limit: USUAL_LIMIT,
+};
 
 /// An open that is given up (RFC 7530, section 16.2).
 pub type Arguments = Close;
@@ -25,8 +36,14 @@ pub type Outcome = Answer<Stateid>;
 impl crate::Arguments for Close {
     ghost named = { forms.operation.names };
 
+    ghost counted = { forms.operation.kept };
+
     fn names(&self) -> Names<'_> {
         Names::Owned(self.stateid, self.seqid)
+    }
+
+    fn kept(&self, _: Option<u64>) -> u64 {
+        0
     }
 
     fn is_same(&self, other: &Close) -> bool {

@@ -3,10 +3,21 @@
 ghost use Rattle.nfs_operations.specs.Commit as forms;
 ghost use Rattle.xdr.specs.Reading.{Answers};
 
-use crate::Names;
+use crate::facts::{Facts, USUAL_LIMIT};
+use crate::{Class, Names};
 use nfs_forms::{Answer, Verifier};
 use std::alloc::Global;
 use xdr::{Wire, WireError, write_two};
+
+/// The number of COMMIT.
+pub const NUMBER: u32 = 5;
+
+/// What there is to say of COMMIT beside its number, its forms and its rule.
+pub const FACTS: Facts = Facts {
+    class: Class::OnTree,
+    is_plain: false,
+    limit: USUAL_LIMIT,
+};
 
 /// The bytes of a file that are to be in stable storage (RFC 7530, section 16.3).
 pub type Arguments = Commit;
@@ -26,8 +37,14 @@ pub type Outcome = Answer<Verifier>;
 impl crate::Arguments for Commit {
     ghost named = { forms.operation.names };
 
+    ghost counted = { forms.operation.kept };
+
     fn names(&self) -> Names<'_> {
         Names::Nothing
+    }
+
+    fn kept(&self, _: Option<u64>) -> u64 {
+        0
     }
 
     fn is_same(&self, other: &Commit) -> bool {

@@ -1,13 +1,25 @@
 //! CREATE's arguments and result.
 
 ghost use Rattle.std.specs.Prelude.{◌≡◌, ◌≢◌, MatchBool};
+ghost use Rattle.nfs_operations.specs.Kept.{no_bytes};
 ghost use Rattle.nfs_operations.specs.Create as forms;
 ghost use Rattle.nfs_operations.specs.Names.{Nothing};
 
-use crate::{CreateType, Failure, Names};
+use crate::facts::{Facts, USUAL_LIMIT};
+use crate::{Class, CreateType, Failure, Names};
 use nfs_forms::{Boxed, Fattr};
 use std::alloc::Global;
 use xdr::{Bytes, Wire, WireError, write_three};
+
+/// The number of CREATE.
+pub const NUMBER: u32 = 6;
+
+/// What there is to say of CREATE beside its number, its forms and its rule.
+pub const FACTS: Facts = Facts {
+    class: Class::OnTree,
+    is_plain: false,
+    limit: USUAL_LIMIT,
+};
 
 /// What is to be made in the current directory, under which name, with which attributes (RFC 7530, section 16.4). They
 /// are large and seldom there, so they have memory of their own.
@@ -38,8 +50,14 @@ pub type Outcome = Failure;
 impl crate::Arguments for Boxed<Create> {
     ghost named = { λ args. Nothing };
 
+    ghost counted = { no_bytes };
+
     fn names(&self) -> Names<'_> {
         Names::Nothing
+    }
+
+    fn kept(&self, _: Option<u64>) -> u64 {
+        0
     }
 
     fn is_same(&self, other: &Boxed<Create>) -> bool {

@@ -3,10 +3,21 @@
 ghost use Rattle.nfs_operations.specs.Delegreturn as forms;
 ghost use Rattle.xdr.specs.Reading.{Answers};
 
-use crate::Names;
+use crate::facts::{Facts, USUAL_LIMIT};
+use crate::{Class, Names};
 use nfs_forms::{Answer, Stateid};
 use std::alloc::Global;
 use xdr::{Wire, WireError};
+
+/// The number of DELEGRETURN.
+pub const NUMBER: u32 = 8;
+
+/// What there is to say of DELEGRETURN beside its number, its forms and its rule.
+pub const FACTS: Facts = Facts {
+    class: Class::OnState,
+    is_plain: true,
+    limit: USUAL_LIMIT,
+};
 
 /// A delegation that is given back (RFC 7530, section 16.6).
 pub type Arguments = Delegreturn;
@@ -23,8 +34,14 @@ pub type Outcome = Answer<()>;
 impl crate::Arguments for Delegreturn {
     ghost named = { forms.operation.names };
 
+    ghost counted = { forms.operation.kept };
+
     fn names(&self) -> Names<'_> {
         Names::State(self.stateid)
+    }
+
+    fn kept(&self, _: Option<u64>) -> u64 {
+        0
     }
 
     fn is_same(&self, other: &Delegreturn) -> bool {

@@ -1,7 +1,8 @@
-//! The result of an operation that can't succeed on a tree that no operation changes.
+//! The result of an operation that never succeeds on this server's tree.
 
 ghost use Rattle.std.specs.Prelude.{◌≡◌};
 ghost use Rattle.nfs_operations.specs.Failure as forms;
+ghost use Rattle.nfs_operations.specs.Kept.{no_data};
 
 use crate::{Data, Outcome};
 use nfs_forms::{Refusal, Status};
@@ -70,6 +71,8 @@ impl Data for Failure {
 
     ghost IsShort = { Any };
 
+    ghost size = { no_data };
+
     #[tactic(auto, using(crate::proofs::Refusals::refusal_fits), unfolding(crate::specs::Failure::failure, nfs_forms::specs::Status::status, xdr::specs::Writing::written_number))]
     fn fits(&self) {
         match self {
@@ -77,6 +80,10 @@ impl Data for Failure {
             Failure::ClidInUse => {}
             Failure::Refused(_) => {}
         }
+    }
+
+    fn data_len(&self) -> u64 {
+        0
     }
 
     fn is_same(&self, other: &Failure) -> bool {
@@ -91,11 +98,17 @@ impl Outcome for Failure {
 
     ghost state = { forms.status_of };
 
+    ghost brought = { forms.brings_nothing };
+
     fn refused(refused: Refusal) -> Failure {
         Failure::Refused(refused)
     }
 
     fn status(&self) -> Status {
         Failure::status(*self)
+    }
+
+    fn brings(&self) -> Option<u64> {
+        None
     }
 }

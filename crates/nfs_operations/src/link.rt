@@ -1,7 +1,18 @@
 //! LINK's arguments and result.
 
-use crate::Failure;
+use crate::facts::{Facts, USUAL_LIMIT};
+use crate::{Class, Failure};
 use xdr::Bytes;
+
+/// The number of LINK.
+pub const NUMBER: u32 = 11;
+
+/// What there is to say of LINK beside its number, its forms and its rule.
+pub const FACTS: Facts = Facts {
+    class: Class::OnTree,
+    is_plain: false,
+    limit: USUAL_LIMIT,
+};
 
 /// The name of a new link to the saved file, in the current directory (RFC 7530, section 16.9).
 pub type Arguments = Bytes;

@@ -2,11 +2,23 @@
 
 ghost use Rattle.std.specs.Prelude.{◌≡◌, ◌≢◌, MatchBool};
 ghost use Rattle.nfs_operations.specs.Lock as forms;
+ghost use Rattle.nfs_operations.specs.Lock.{locker_len};
 
-use crate::Names;
+use crate::facts::{Facts, USUAL_LIMIT};
+use crate::{Class, Names};
 use nfs_forms::{Answer, LockDenied, LockType, Locker, Stateid};
 use std::alloc::Global;
 use xdr::{Wire, WireError, write_five};
+
+/// The number of LOCK.
+pub const NUMBER: u32 = 12;
+
+/// What there is to say of LOCK beside its number, its forms and its rule.
+pub const FACTS: Facts = Facts {
+    class: Class::OnState,
+    is_plain: true,
+    limit: USUAL_LIMIT,
+};
 
 /// The bytes that are to be locked, how and for whom (RFC 7530, section 16.10).
 pub type Arguments = Lock;
@@ -43,6 +55,8 @@ pub type Outcome = Answer<Stateid, LockDenied>;
 impl crate::Arguments for Lock {
     ghost named = { forms.operation.names };
 
+    ghost counted = { forms.operation.kept };
+
     fn names(&self) -> Names<'_> {
         match &self.locker {
             Locker::New(locker) => Names::Owned(locker.open_stateid, locker.open_seqid),
@@ -50,8 +64,22 @@ impl crate::Arguments for Lock {
         }
     }
 
+    fn kept(&self, _: Option<u64>) -> u64 {
+        locker_len(&self.locker)
+    }
+
     fn is_same(&self, other: &Lock) -> bool {
         self.is_same(other)
+    }
+}
+
+// The name of an owner that locks for the first time.
+fn locker_len(locker: &Locker) -> u64
+    ensures { result ≡ locker_len locker.now }
+{
+    match locker {
+        Locker::New(locker) => locker.lock_owner.name.as_slice().len() as u64,
+        Locker::Known(_) => 0,
     }
 }
 

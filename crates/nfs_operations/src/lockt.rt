@@ -2,10 +2,21 @@
 
 ghost use Rattle.nfs_operations.specs.Lockt as forms;
 
-use crate::Names;
+use crate::facts::{Facts, USUAL_LIMIT};
+use crate::{Class, Names};
 use nfs_forms::{Answer, LockDenied, LockOwner, LockType};
 use std::alloc::Global;
 use xdr::{Wire, WireError, write_four};
+
+/// The number of LOCKT.
+pub const NUMBER: u32 = 13;
+
+/// What there is to say of LOCKT beside its number, its forms and its rule.
+pub const FACTS: Facts = Facts {
+    class: Class::OnState,
+    is_plain: true,
+    limit: USUAL_LIMIT,
+};
 
 /// The lock that is asked about (RFC 7530, section 16.11).
 pub type Arguments = Lockt;
@@ -28,8 +39,14 @@ pub type Outcome = Answer<(), LockDenied>;
 impl crate::Arguments for Lockt {
     ghost named = { forms.operation.names };
 
+    ghost counted = { forms.operation.kept };
+
     fn names(&self) -> Names<'_> {
         Names::Client(self.owner.client)
+    }
+
+    fn kept(&self, _: Option<u64>) -> u64 {
+        self.owner.name.as_slice().len() as u64
     }
 
     fn is_same(&self, other: &Lockt) -> bool {

@@ -3,10 +3,21 @@
 ghost use Rattle.nfs_operations.specs.Locku as forms;
 ghost use Rattle.xdr.specs.Reading.{Answers};
 
-use crate::Names;
+use crate::facts::{Facts, USUAL_LIMIT};
+use crate::{Class, Names};
 use nfs_forms::{Answer, LockType, Stateid};
 use std::alloc::Global;
 use xdr::{Wire, WireError, write_five};
+
+/// The number of LOCKU.
+pub const NUMBER: u32 = 14;
+
+/// What there is to say of LOCKU beside its number, its forms and its rule.
+pub const FACTS: Facts = Facts {
+    class: Class::OnState,
+    is_plain: true,
+    limit: USUAL_LIMIT,
+};
 
 /// The bytes that are given up, and whose they are (RFC 7530, section 16.12).
 pub type Arguments = Locku;
@@ -32,8 +43,14 @@ pub type Outcome = Answer<Stateid>;
 impl crate::Arguments for Locku {
     ghost named = { forms.operation.names };
 
+    ghost counted = { forms.operation.kept };
+
     fn names(&self) -> Names<'_> {
         Names::Owned(self.stateid, self.seqid)
+    }
+
+    fn kept(&self, _: Option<u64>) -> u64 {
+        0
     }
 
     fn is_same(&self, other: &Locku) -> bool {

@@ -1,13 +1,28 @@
 //! OPEN's arguments and result.
 
-ghost use Rattle.std.specs.Prelude.{◌≡◌, ◌≢◌, MatchBool};
+ghost use Rattle.std.specs.Prelude.{◌≡◌, ◌≢◌, ◌-◌, ◌^◌, MatchBool, min};
+ghost use Rattle.nfs_operations.specs.Kept.{no_data};
 ghost use Rattle.nfs_operations.specs.Open as forms;
-ghost use Rattle.nfs_operations.specs.Open.{SetsNothing};
+ghost use Rattle.nfs_operations.specs.Open.{SetsNothing, claim_len, create_len, how_len};
 
-use crate::{Data, Names};
-use nfs_forms::{Answer, Bitmap, ChangeInfo, Claim, OpenDelegation, OpenHow, OpenOwner, Stateid};
+use crate::facts::{Facts, USUAL_LIMIT};
+use crate::kept::attributes_len;
+use crate::{Class, Data, Names};
+use nfs_forms::{
+    Answer, Bitmap, ChangeInfo, Claim, CreateHow, OpenDelegation, OpenHow, OpenOwner, Stateid,
+};
 use std::alloc::Global;
 use xdr::{Measure, Wire, WireError, write_five, write_four, write_two};
+
+/// The number of OPEN.
+pub const NUMBER: u32 = 18;
+
+/// What there is to say of OPEN beside its number, its forms and its rule.
+pub const FACTS: Facts = Facts {
+    class: Class::OnState,
+    is_plain: true,
+    limit: USUAL_LIMIT,
+};
 
 /// Which file is opened, how and by whom (RFC 7530, section 16.16).
 pub type Arguments = Open;
@@ -59,12 +74,53 @@ pub struct OpenOk {
 impl crate::Arguments for Open {
     ghost named = { forms.operation.names };
 
+    ghost counted = { forms.operation.kept };
+
     fn names(&self) -> Names<'_> {
         Names::Opener(&self.owner, self.seqid)
     }
 
+    fn kept(&self, _: Option<u64>) -> u64 {
+        let owner = self.owner.name.as_slice().len() as u64;
+        owner
+            .saturating_add(claim_len(&self.claim))
+            .saturating_add(how_len(&self.how))
+    }
+
     fn is_same(&self, other: &Open) -> bool {
         self.is_same(other)
+    }
+}
+
+// The name of the file that is to be opened.
+fn claim_len(claim: &Claim) -> u64
+    ensures { result ≡ claim_len claim.now }
+{
+    match claim {
+        Claim::Null(name) | Claim::DelegateCur { name, .. } | Claim::DelegatePrev(name) => {
+            name.as_slice().len() as u64
+        }
+        Claim::Previous(_) => 0,
+    }
+}
+
+// How a file is to be created.
+fn how_len(how: &OpenHow) -> u64
+    ensures { result ≡ min (how_len how.now) (2 ^ 64 - 1) }
+{
+    match how {
+        OpenHow::Nocreate => 0,
+        OpenHow::Create(how) => create_len(how.get()),
+    }
+}
+
+// The attributes that a file is to be created with.
+fn create_len(how: &CreateHow) -> u64
+    ensures { result ≡ min (create_len how.now) (2 ^ 64 - 1) }
+{
+    match how {
+        CreateHow::Unchecked(given) | CreateHow::Guarded(given) => attributes_len(given),
+        CreateHow::Exclusive(_) => 0,
     }
 }
 
@@ -153,6 +209,8 @@ impl Data for OpenOk {
 
     ghost IsShort = { SetsNothing };
 
+    ghost size = { no_data };
+
     #[tactic(auto, unfolding(crate::specs::Open::open_ok, nfs_forms::specs::ChangeInfo::change_info, xdr::specs::Writing::written_number))]
     fn fits(&self) {
         self.stateid.fits();
@@ -160,6 +218,10 @@ impl Data for OpenOk {
         self.change.after.fits();
         self.rflags.fits();
         self.delegation.fits();
+    }
+
+    fn data_len(&self) -> u64 {
+        0
     }
 
     fn is_same(&self, other: &OpenOk) -> bool {

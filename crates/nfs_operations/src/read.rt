@@ -1,13 +1,27 @@
 //! READ's arguments and result, whose bytes the journal and the reply share.
 
+ghost use Rattle.std.specs.Prelude.{◌≡◌, ◌+◌, ◌/◌, ◌≤◌, length};
+ghost use Rattle.nfs_operations.specs.Kept.{pages_of};
 ghost use Rattle.nfs_operations.specs.Read as forms;
 ghost use Rattle.xdr.specs.Reading.{Answers};
-ghost use Rattle.nfs_operations.specs.Read.{AreFewBytes};
+ghost use Rattle.nfs_operations.specs.Read.{AreFewBytes, parts_len};
 
-use crate::{Data, Names};
+use crate::facts::Facts;
+use crate::kept::{PAGE_LEN, PART_LEN};
+use crate::{Class, Data, Names};
 use nfs_forms::{Answer, Stateid};
 use std::alloc::Global;
 use xdr::{ByteParts, Measure, Wire, WireError, write_three, write_two};
+
+/// The number of READ.
+pub const NUMBER: u32 = 25;
+
+/// What there is to say of READ beside its number, its forms and its rule.
+pub const FACTS: Facts = Facts {
+    class: Class::OnState,
+    is_plain: true,
+    limit: 67_572,
+};
 
 /// The bytes of a file that are asked for, and by which right (RFC 7530, section 16.23).
 pub type Arguments = Read;
@@ -37,13 +51,38 @@ pub struct ReadOk {
 impl crate::Arguments for Read {
     ghost named = { forms.operation.names };
 
+    ghost counted = { forms.operation.kept };
+
     fn names(&self) -> Names<'_> {
         Names::State(self.stateid)
+    }
+
+    fn kept(&self, brought: Option<u64>) -> u64 {
+        parts_len(self.offset, brought)
     }
 
     fn is_same(&self, other: &Read) -> bool {
         self == other
     }
+}
+
+// A part of each page that has some of the bytes, and nothing of the page itself.
+fn parts_len(offset: u64, brought: Option<u64>) -> u64
+    ensures { result ≡ parts_len offset brought }
+{
+    match brought {
+        None | Some(0) => 0,
+        Some(len) => pages_of(offset, len) * PART_LEN,
+    }
+}
+
+// How many pages have some of so many bytes from the offset on, if there are any.
+fn pages_of(offset: u64, len: u64) -> u64
+    ensures value { result ≡ pages_of offset len }
+    ensures few { result ≤ len / PAGE_LEN + 2 }
+{
+    let page = PAGE_LEN as u64;
+    len / page + (offset % page + len % page).div_ceil(page)
 }
 
 impl Wire for Read {
@@ -98,8 +137,14 @@ impl Data for ReadOk {
 
     ghost IsShort = { AreFewBytes };
 
+    ghost size = { λ a. length a.bytes };
+
     #[tactic(auto, unfolding(crate::specs::Read::read_ok, xdr::specs::Writing::written_opaque, xdr::specs::Writing::written_number))]
     fn fits(&self) {}
+
+    fn data_len(&self) -> u64 {
+        self.bytes.len() as u64
+    }
 
     fn is_same(&self, other: &ReadOk) -> bool {
         self == other

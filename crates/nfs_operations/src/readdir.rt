@@ -1,17 +1,30 @@
 //! READDIR's arguments and result, whose entries the journal and the reply share.
 
-ghost use Rattle.std.specs.Prelude.{◌≡◌, ◌≢◌, IfOk, MatchBool};
+ghost use Rattle.std.specs.Prelude.{◌≡◌, ◌≢◌, ◌-◌, ◌^◌, IfOk, MatchBool, min};
+ghost use Rattle.std.specs.List.{sum_by};
 ghost use Rattle.nfs_operations.specs.Readdir as forms;
 ghost use Rattle.xdr.specs.Form.{chain};
-ghost use Rattle.nfs_operations.specs.Readdir.{AreFewEntries};
+ghost use Rattle.nfs_operations.specs.Readdir.{AreFewEntries, listed_len, listing_len};
 
-use crate::{Data, Names};
+use crate::facts::Facts;
+use crate::kept::{LISTED_LEN, attributes_len, mask_len};
+use crate::{Class, Data, Names};
 use nfs_forms::{Answer, Bitmap, Fattr, Verifier};
 use std::alloc::{AllocError, Global};
 use std::marker::Model;
 use std::sync::ArcSlice;
 use xdr::{
     Bytes, Measure, Wire, WireError, chain_len, read_chain, write_chain, write_five, write_three,
+};
+
+/// The number of READDIR.
+pub const NUMBER: u32 = 26;
+
+/// What there is to say of READDIR beside its number, its forms and its rule.
+pub const FACTS: Facts = Facts {
+    class: Class::OnState,
+    is_plain: false,
+    limit: 67_572,
 };
 
 /// Which entries of a directory are asked for, and how many (RFC 7530, section 16.24).
@@ -126,13 +139,39 @@ impl ReaddirOk {
 impl crate::Arguments for Readdir {
     ghost named = { forms.operation.names };
 
+    ghost counted = { forms.operation.kept };
+
     fn names(&self) -> Names<'_> {
         Names::Nothing
+    }
+
+    fn kept(&self, brought: Option<u64>) -> u64 {
+        mask_len(&self.mask).saturating_add(brought.unwrap_or(0))
     }
 
     fn is_same(&self, other: &Readdir) -> bool {
         self == other
     }
+}
+
+// What the entries of a listing count.
+fn listing_len(entries: &[DirectoryEntry]) -> u64
+    ensures { result ≡ min (sum_by listed_len entries.now) (2 ^ 64 - 1) }
+{
+    let mut len: u64 = 0;
+    for entry in entries {
+        len = len.saturating_add(listed_len(entry));
+    }
+    len
+}
+
+// An entry of a directory, as it stands in a listing.
+fn listed_len(entry: &DirectoryEntry) -> u64
+    ensures { result ≡ min (listed_len entry.now) (2 ^ 64 - 1) }
+{
+    LISTED_LEN
+        .saturating_add(entry.name.as_slice().len() as u64)
+        .saturating_add(attributes_len(&entry.attributes))
 }
 
 impl Wire for Readdir {
@@ -250,7 +289,13 @@ impl Data for ReaddirOk {
 
     ghost IsShort = { AreFewEntries };
 
+    ghost size = { listing_len };
+
     fn fits(&self) {}
+
+    fn data_len(&self) -> u64 {
+        listing_len(self.entries.as_slice())
+    }
 
     fn is_same(&self, other: &ReaddirOk) -> bool {
         self.verifier == other.verifier

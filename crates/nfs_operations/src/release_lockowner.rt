@@ -2,10 +2,21 @@
 
 ghost use Rattle.nfs_operations.specs.ReleaseLockowner as forms;
 
-use crate::Names;
+use crate::facts::{Facts, USUAL_LIMIT};
+use crate::{Class, Names};
 use nfs_forms::{Answer, LockOwner};
 use std::alloc::Global;
 use xdr::{Wire, WireError};
+
+/// The number of RELEASE_LOCKOWNER.
+pub const NUMBER: u32 = 39;
+
+/// What there is to say of RELEASE_LOCKOWNER beside its number, its forms and its rule.
+pub const FACTS: Facts = Facts {
+    class: Class::OnState,
+    is_plain: true,
+    limit: USUAL_LIMIT,
+};
 
 /// The lock owner that the client doesn't need any more (RFC 7530, section 16.37).
 pub type Arguments = ReleaseLockowner;
@@ -21,8 +32,14 @@ pub type Outcome = Answer<()>;
 impl crate::Arguments for ReleaseLockowner {
     ghost named = { forms.operation.names };
 
+    ghost counted = { forms.operation.kept };
+
     fn names(&self) -> Names<'_> {
         Names::Client(self.owner.client)
+    }
+
+    fn kept(&self, _: Option<u64>) -> u64 {
+        self.owner.name.as_slice().len() as u64
     }
 
     fn is_same(&self, other: &ReleaseLockowner) -> bool {

@@ -3,9 +3,20 @@
 ghost use Rattle.nfs_operations.specs.Names.{Nothing};
 ghost use Rattle.nfs_operations.specs.Rename as forms;
 
-use crate::{Failure, Names};
+use crate::facts::{Facts, USUAL_LIMIT};
+use crate::{Class, Failure, Names};
 use std::alloc::Global;
 use xdr::{Bytes, Wire, WireError, write_two};
+
+/// The number of RENAME.
+pub const NUMBER: u32 = 29;
+
+/// What there is to say of RENAME beside its number, its forms and its rule.
+pub const FACTS: Facts = Facts {
+    class: Class::OnTree,
+    is_plain: false,
+    limit: USUAL_LIMIT,
+};
 
 /// Which name is to become which other (RFC 7530, section 16.27).
 pub type Arguments = Rename;
@@ -25,8 +36,14 @@ pub type Outcome = Failure;
 impl crate::Arguments for Rename {
     ghost named = { λ args. Nothing };
 
+    ghost counted = { forms.operation.kept };
+
     fn names(&self) -> Names<'_> {
         Names::Nothing
+    }
+
+    fn kept(&self, _: Option<u64>) -> u64 {
+        0
     }
 
     fn is_same(&self, other: &Rename) -> bool {

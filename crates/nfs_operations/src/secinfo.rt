@@ -1,15 +1,27 @@
 //! SECINFO's arguments and result.
 
 ghost use Rattle.std.specs.Prelude.{◌≡◌, [], ◌∷◌};
+ghost use Rattle.nfs_operations.specs.Kept.{no_data};
 ghost use Rattle.nfs_operations.specs.Secinfo as forms;
 ghost use Rattle.nfs_operations.specs.Secinfo.{AreFewFlavors, are_flavors, both};
 
-use crate::Data;
+use crate::facts::{Facts, USUAL_LIMIT};
+use crate::{Class, Data};
 use nfs_forms::Answer;
 use smallvec::SmallVec;
 use std::alloc::{AllocError, Global};
 use std::marker::Model;
 use xdr::{Bytes, Measure, NO_LIMIT, Wire, WireError, read_few, write_many};
+
+/// The number of SECINFO.
+pub const NUMBER: u32 = 33;
+
+/// What there is to say of SECINFO beside its number, its forms and its rule.
+pub const FACTS: Facts = Facts {
+    class: Class::OnTree,
+    is_plain: false,
+    limit: USUAL_LIMIT,
+};
 
 /// A name in the current directory (RFC 7530, section 16.31).
 pub type Arguments = Bytes;
@@ -120,9 +132,15 @@ impl Data for Flavors {
 
     ghost IsShort = { AreFewFlavors };
 
+    ghost size = { no_data };
+
     #[tactic(auto, using(crate::proofs::Refusals::flavors_fit, crate::proofs::Refusals::flavors_len))]
     fn fits(&self) {
         let _numbers = &self.numbers;
+    }
+
+    fn data_len(&self) -> u64 {
+        0
     }
 
     fn is_same(&self, other: &Flavors) -> bool {

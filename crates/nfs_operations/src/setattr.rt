@@ -1,16 +1,32 @@
 //! SETATTR's arguments and result, which with each status has the attributes that were set.
 
 ghost use Rattle.std.specs.Prelude.{◌≡◌, []};
+ghost use Rattle.nfs_operations.specs.Kept.{no_data};
 ghost use Rattle.nfs_operations.specs.Setattr as forms;
-ghost use Rattle.nfs_operations.specs.Setattr.{refused};
+ghost use Rattle.nfs_operations.specs.Setattr.{end_len, has_size, refused, size_in};
 ghost use Rattle.nfs_forms.specs.Bitmap.{bitmap};
 ghost use Rattle.nfs_operations.specs.Setattr.{SetsFew};
 
-use crate::{Data, Names};
+use crate::facts::{Facts, USUAL_LIMIT};
+use crate::kept::{PAGE_LEN, attributes_len};
+use crate::{Class, Data, Names};
 use nfs_forms::{Bitmap, Fattr, Refusal, Stateid, Status};
 use std::alloc::{AllocError, Global};
 use std::marker::Model;
-use xdr::{Measure, NO_LIMIT, Wire, WireError, write_many, write_two};
+use xdr::{Measure, NO_LIMIT, Wire, WireError, read_u64, write_many, write_two};
+
+// The bit of the size in the first word of a mask.
+const SIZE: u32 = 0x0000_0010;
+
+/// The number of SETATTR.
+pub const NUMBER: u32 = 34;
+
+/// What there is to say of SETATTR beside its number, its forms and its rule.
+pub const FACTS: Facts = Facts {
+    class: Class::OnState,
+    is_plain: false,
+    limit: USUAL_LIMIT,
+};
 
 /// The attributes that a file is to have, and by which right its size (RFC 7530, section 16.32).
 pub type Arguments = Setattr;
@@ -124,12 +140,54 @@ impl Clone for AttributesSet {
 impl crate::Arguments for Setattr {
     ghost named = { forms.operation.names };
 
+    ghost counted = { forms.operation.kept };
+
     fn names(&self) -> Names<'_> {
         Names::State(self.stateid)
     }
 
+    fn kept(&self, brought: Option<u64>) -> u64 {
+        let made = match brought {
+            Some(_) => end_len(size_in(&self.attributes)),
+            None => 0,
+        };
+        attributes_len(&self.attributes).saturating_add(made)
+    }
+
     fn is_same(&self, other: &Setattr) -> bool {
         self == other
+    }
+}
+
+// The size that a SETATTR of these attributes sets if it is done.
+fn size_in(given: &Fattr) -> Option<u64>
+    ensures { result ≡ size_in given.now }
+{
+    if !has_size(given.mask.as_slice()) {
+        return None;
+    }
+    match read_u64(given.values.as_slice()) {
+        Ok((size, _)) => Some(size),
+        Err(_) => None,
+    }
+}
+
+fn has_size(mask: &[u32]) -> bool
+    ensures { result ≡ has_size mask.now }
+{
+    match mask.first() {
+        Some(word) => *word & SIZE != 0,
+        None => false,
+    }
+}
+
+// The page in which a file of this size ends, unless it ends with a page.
+fn end_len(size: Option<u64>) -> u64
+    ensures { result ≡ end_len size }
+{
+    match size {
+        Some(size) if size % PAGE_LEN as u64 != 0 => PAGE_LEN as u64,
+        _ => 0,
     }
 }
 
@@ -204,12 +262,21 @@ impl crate::Outcome for SetattrResult {
 
     ghost state = { λ r. r.status };
 
+    ghost brought = { forms.operation.brings };
+
     fn refused(refusal: Refusal) -> SetattrResult {
         SetattrResult::refused(refusal)
     }
 
     fn status(&self) -> Status {
         self.status
+    }
+
+    fn brings(&self) -> Option<u64> {
+        match self.status {
+            Status::Ok => Some(0),
+            _ => None,
+        }
     }
 }
 
@@ -218,8 +285,14 @@ impl Data for SetattrResult {
 
     ghost IsShort = { SetsFew };
 
+    ghost size = { no_data };
+
     #[tactic(auto, using(crate::proofs::Refusals::set_len, crate::proofs::Refusals::status_fits), unfolding(crate::specs::Setattr::result, nfs_forms::specs::Status::status))]
     fn fits(&self) {}
+
+    fn data_len(&self) -> u64 {
+        0
+    }
 
     fn is_same(&self, other: &SetattrResult) -> bool {
         self == other

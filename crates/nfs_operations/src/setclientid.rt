@@ -2,14 +2,25 @@
 
 ghost use Rattle.nfs_operations.specs.Setclientid as forms;
 
-use crate::Names;
+use crate::facts::{Facts, USUAL_LIMIT};
 use crate::setclientid_confirm::SetclientidConfirm;
+use crate::{Class, Names};
 use nfs_forms::{Address, Answer, Callback, Verifier};
 use std::alloc::Global;
 use xdr::{Opaque, Wire, WireError, write_three};
 
 /// The greatest length of a client's id in bytes (NFS4_OPAQUE_LIMIT).
 pub const ID_LIMIT: u32 = 1024;
+
+/// The number of SETCLIENTID.
+pub const NUMBER: u32 = 35;
+
+/// What there is to say of SETCLIENTID beside its number, its forms and its rule.
+pub const FACTS: Facts = Facts {
+    class: Class::OnState,
+    is_plain: true,
+    limit: USUAL_LIMIT,
+};
 
 /// The client that introduces itself, and where it is called back (RFC 7530, section 16.33).
 pub type Arguments = Setclientid;
@@ -31,8 +42,16 @@ pub type Outcome = Answer<SetclientidConfirm, (), Address>;
 impl crate::Arguments for Setclientid {
     ghost named = { forms.operation.names };
 
+    ghost counted = { forms.operation.kept };
+
     fn names(&self) -> Names<'_> {
         Names::Nothing
+    }
+
+    fn kept(&self, _: Option<u64>) -> u64 {
+        let (id, address) = (self.id.as_slice().len() as u64, &self.callback.address);
+        id.saturating_add(address.netid.as_slice().len() as u64)
+            .saturating_add(address.addr.as_slice().len() as u64)
     }
 
     fn is_same(&self, other: &Setclientid) -> bool {

@@ -1,13 +1,25 @@
 //! SETCLIENTID_CONFIRM's arguments, which SETCLIENTID returns, and its result.
 
+ghost use Rattle.nfs_operations.specs.Kept.{no_data};
 ghost use Rattle.nfs_operations.specs.SetclientidConfirm as forms;
 ghost use Rattle.xdr.specs.Reading.{Answers};
 ghost use Rattle.nfs_operations.specs.Short.{Any};
 
-use crate::{Data, Names};
+use crate::facts::{Facts, USUAL_LIMIT};
+use crate::{Class, Data, Names};
 use nfs_forms::{Answer, ClientId};
 use std::alloc::Global;
 use xdr::{Measure, Wire, WireError, write_two};
+
+/// The number of SETCLIENTID_CONFIRM.
+pub const NUMBER: u32 = 36;
+
+/// What there is to say of SETCLIENTID_CONFIRM beside its number, its forms and its rule.
+pub const FACTS: Facts = Facts {
+    class: Class::OnState,
+    is_plain: true,
+    limit: USUAL_LIMIT,
+};
 
 /// The values that SETCLIENTID returned (RFC 7530, section 16.34).
 pub type Arguments = SetclientidConfirm;
@@ -26,8 +38,14 @@ pub type Outcome = Answer<()>;
 impl crate::Arguments for SetclientidConfirm {
     ghost named = { forms.operation.names };
 
+    ghost counted = { forms.operation.kept };
+
     fn names(&self) -> Names<'_> {
         Names::Nothing
+    }
+
+    fn kept(&self, _: Option<u64>) -> u64 {
+        0
     }
 
     fn is_same(&self, other: &SetclientidConfirm) -> bool {
@@ -65,10 +83,16 @@ impl Data for SetclientidConfirm {
 
     ghost IsShort = { Any };
 
+    ghost size = { no_data };
+
     #[tactic(auto, unfolding(crate::specs::SetclientidConfirm::arguments))]
     fn fits(&self) {
         self.client.fits();
         self.confirm.fits();
+    }
+
+    fn data_len(&self) -> u64 {
+        0
     }
 
     fn is_same(&self, other: &SetclientidConfirm) -> bool {

@@ -1,14 +1,29 @@
 //! WRITE's arguments and result.
 
+ghost use Rattle.nfs_operations.specs.Kept.{no_data};
+ghost use Rattle.std.specs.Prelude.{◌≡◌, ◌-◌, ◌^◌, min};
 ghost use Rattle.nfs_operations.specs.Write as forms;
+ghost use Rattle.nfs_operations.specs.Write.{bytes_len, made_len, pages_made};
 ghost use Rattle.xdr.specs.Reading.{Answers, Gives};
 ghost use Rattle.xdr.specs.Unread.{left_of};
 ghost use Rattle.nfs_operations.specs.Short.{Any};
 
-use crate::{Data, Names};
+use crate::facts::{Facts, USUAL_LIMIT};
+use crate::kept::PAGE_LEN;
+use crate::{Class, Data, Names};
 use nfs_forms::{Answer, StableHow, Stateid, Verifier};
 use std::alloc::Global;
-use xdr::{Measure, SharedBytes, Unread, Wire, WireError, write_four, write_three};
+use xdr::{Measure, SHARED_LEN, SharedBytes, Unread, Wire, WireError, write_four, write_three};
+
+/// The number of WRITE.
+pub const NUMBER: u32 = 38;
+
+/// What there is to say of WRITE beside its number, its forms and its rule.
+pub const FACTS: Facts = Facts {
+    class: Class::OnState,
+    is_plain: true,
+    limit: USUAL_LIMIT,
+};
 
 /// The bytes that are put into a file, where, and by which right (RFC 7530, section 16.36).
 pub type Arguments = Write;
@@ -63,13 +78,53 @@ impl Write {
 impl crate::Arguments for Write {
     ghost named = { forms.operation.names };
 
+    ghost counted = { forms.operation.kept };
+
     fn names(&self) -> Names<'_> {
         Names::State(self.stateid)
+    }
+
+    fn kept(&self, brought: Option<u64>) -> u64 {
+        let len = self.bytes.as_slice().len() as u64;
+        let made = match brought {
+            Some(_) => made_len(self.offset, len),
+            None => 0,
+        };
+        bytes_len(len).saturating_add(made)
     }
 
     fn is_same(&self, other: &Write) -> bool {
         self == other
     }
+}
+
+// The bytes of a WRITE, which may keep the memory of their whole record.
+fn bytes_len(len: u64) -> u64
+    ensures { result ≡ min (bytes_len len) (2 ^ 64 - 1) }
+{
+    if len < SHARED_LEN as u64 {
+        len
+    } else {
+        len.saturating_mul(2)
+    }
+}
+
+// The pages that a WRITE of so many bytes at the offset makes, if there are any.
+fn made_len(offset: u64, len: u64) -> u64
+    ensures { result ≡ made_len offset len }
+{
+    if len == 0 { 0 } else { pages_made(offset, len) }
+}
+
+// The first page that a WRITE touches and the last, unless it covers them whole.
+fn pages_made(offset: u64, len: u64) -> u64
+    ensures { result ≡ pages_made offset len }
+{
+    let page = PAGE_LEN as u64;
+    let within = offset % page;
+    let first = if within == 0 && len >= page { 0 } else { page };
+    let has_last = len > page - within && (within + len % page) % page != 0;
+    first + if has_last { page } else { 0 }
 }
 
 impl Wire for Write {
@@ -132,11 +187,17 @@ impl Data for WriteOk {
 
     ghost IsShort = { Any };
 
+    ghost size = { no_data };
+
     #[tactic(auto, unfolding(crate::specs::Write::write_ok))]
     fn fits(&self) {
         self.count.fits();
         self.committed.fits();
         self.verifier.fits();
+    }
+
+    fn data_len(&self) -> u64 {
+        0
     }
 
     fn is_same(&self, other: &WriteOk) -> bool {

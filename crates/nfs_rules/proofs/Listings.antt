@@ -18,7 +18,7 @@ use Rattle.nfs_operations.specs.Readdir.{entry, readdir_ok}
 use Rattle.nfs_operations.specs.declared.readdir.DirectoryEntry.{DirectoryEntry}
 use Rattle.nfs_operations.specs.declared.readdir.Readdir.{Readdir}
 use Rattle.nfs_operations.specs.declared.readdir.ReaddirOk.{ReaddirOk}
-use Rattle.nfs_rules.specs.Listings.{AreLongest, Ask, EachChildIsListedOnce, IsRoomy, Told, args_of, child_seen, going_on, last_cookie, linked_len, seen, told_by}
+use Rattle.nfs_rules.specs.operations.Listings.{AreLongest, Ask, EachChildIsListedOnce, IsRoomy, Told, args_of, child_seen, going_on, last_cookie, linked_len, seen, told_by}
 use Rattle.nfs_rules.specs.Refusing.{first_refusal}
 use Rattle.nfs_rules.specs.declared.operations.readdir.TheConstants.{LISTING_LIMIT}
 use Rattle.nfs_rules.specs.operations.Readdir.{answer_of, beginning, directory_for, entries_for, entry_of, fits, greatest, listed, listing, listing_with, no_verifier}

@@ -7,7 +7,6 @@ pub mod Judging
 pub mod Lending
 pub mod Locking
 pub mod Transfers
-pub mod Listings
 pub mod operations
 pub mod Deciding
 pub mod Finding

@@ -2,22 +2,6 @@
 use Rattle.std.specs.Prelude.{◌≡◌, Option, None}
 use Rattle.nfs_rules.specs.declared.decision.Decision.{Decision}
 use Rattle.nfs_state.specs.declared.request.Request.{Request}
-use Rattle.nfs_rules.specs.operations.Close as close
-use Rattle.nfs_rules.specs.operations.Delegreturn as delegreturn
-use Rattle.nfs_rules.specs.operations.Getattr as getattr
-use Rattle.nfs_rules.specs.operations.Lock as lock
-use Rattle.nfs_rules.specs.operations.Lockt as lockt
-use Rattle.nfs_rules.specs.operations.Locku as locku
-use Rattle.nfs_rules.specs.operations.Open as opening
-use Rattle.nfs_rules.specs.operations.OpenConfirm as open_confirm
-use Rattle.nfs_rules.specs.operations.OpenDowngrade as open_downgrade
-use Rattle.nfs_rules.specs.operations.Read as read
-use Rattle.nfs_rules.specs.operations.Readdir as readdir
-use Rattle.nfs_rules.specs.operations.ReleaseLockowner as release
-use Rattle.nfs_rules.specs.operations.Setattr as setattr
-use Rattle.nfs_rules.specs.operations.Setclientid as setclientid
-use Rattle.nfs_rules.specs.operations.SetclientidConfirm as confirm
-use Rattle.nfs_rules.specs.operations.Write as write
 use Rattle.nfs_rules.specs.Sequences.{IsSequenced, Own, requester_of_open, requester_of_stateid}
 use Rattle.nfs_state.specs.State.{State, History}
 use Rattle.nfs_operations.specs.Names.{Names, Opener, Owned}
@@ -27,6 +11,7 @@ use Rattle.nfs_xdr.specs.declared.op.Op.TheVariants as ops
 pub mod Close
 pub mod Delegreturn
 pub mod Getattr
+pub mod Listings
 pub mod Lock
 pub mod Lockt
 pub mod Locku
@@ -44,36 +29,36 @@ pub mod Write
 
 -- the own rule of a sequenced operation
 abbrev pub own_of : Op → History → State → Own
-own_of (ops.Open args) journal state = opening.own journal state args
-own_of (ops.OpenConfirm args) journal state = open_confirm.own journal state args
-own_of (ops.OpenDowngrade args) journal state = open_downgrade.own journal state args
-own_of (ops.Close args) journal state = close.own journal state args
-own_of (ops.Lock args) journal state = lock.own journal state args
-own_of (ops.Locku args) journal state = locku.own journal state args
+own_of (ops.Open args) journal state = Open.own journal state args
+own_of (ops.OpenConfirm args) journal state = OpenConfirm.own journal state args
+own_of (ops.OpenDowngrade args) journal state = OpenDowngrade.own journal state args
+own_of (ops.Close args) journal state = Close.own journal state args
+own_of (ops.Lock args) journal state = Lock.own journal state args
+own_of (ops.Locku args) journal state = Locku.own journal state args
 own_of op journal state = λ request node passage ruling. ⊥
 
 -- what the rule of an operation decides that goes by no sequence id
 abbrev pub IsPlain : Op → History → State → Request → Option Decision → Type 0
 IsPlain (ops.Delegreturn args) journal state request decision =
-    decision ≡ delegreturn.rule journal state request.filehandle args
+    decision ≡ Delegreturn.rule journal state request.filehandle args
 IsPlain (ops.Getattr mask) journal state request decision =
-    decision ≡ getattr.rule journal state request.filehandle mask
+    decision ≡ Getattr.rule journal state request.filehandle mask
 IsPlain (ops.Setclientid args) journal state request decision =
-    decision ≡ setclientid.rule journal state request args
+    decision ≡ Setclientid.rule journal state request args
 IsPlain (ops.SetclientidConfirm args) journal state request decision =
-    decision ≡ confirm.rule journal state request args
+    decision ≡ SetclientidConfirm.rule journal state request args
 IsPlain (ops.Lockt args) journal state request decision =
-    lockt.IsRuled journal state request.filehandle args decision
+    Lockt.IsRuled journal state request.filehandle args decision
 IsPlain (ops.Read args) journal state request decision =
-    decision ≡ read.rule journal state request args
+    decision ≡ Read.rule journal state request args
 IsPlain (ops.Readdir args) journal state request decision =
-    decision ≡ readdir.rule journal state request.filehandle args
+    decision ≡ Readdir.rule journal state request.filehandle args
 IsPlain (ops.Setattr args) journal state request decision =
-    decision ≡ setattr.rule journal state request args
+    decision ≡ Setattr.rule journal state request args
 IsPlain (ops.Write args) journal state request decision =
-    decision ≡ write.rule journal state request args
+    decision ≡ Write.rule journal state request args
 IsPlain (ops.ReleaseLockowner args) journal state request decision =
-    decision ≡ release.rule state args
+    decision ≡ ReleaseLockowner.rule state args
 IsPlain op journal state request decision = decision ≡ None
 
 -- the rule of any operation decides so, by what the operation names

@@ -2,7 +2,7 @@
 
 ghost use Rattle.std.specs.Prelude.{◌≡◌};
 ghost use Rattle.nfs_rules.specs.Judging.{JudgedAsSequenced};
-ghost use Rattle.nfs_rules.specs.Listings.{EachChildIsListedOnce};
+ghost use Rattle.nfs_rules.specs.operations.Listings.{EachChildIsListedOnce};
 ghost use Rattle.nfs_rules.specs.operations.{AtMostOneDecision};
 
 use crate::operations::LISTING_LIMIT;

@@ -5,7 +5,7 @@ use Rattle.std.specs.List.{concat}
 use Rattle.std.proofs.Math.Seq.{take-add}
 use Rattle.std.proofs.lemmas.List.{drop-append-le, drop-replicate, drop-take, drop_all, length-replicate, length-take-le, take-append-drop, take-replicate, take-take, take_at}
 use Rattle.nfs_state.specs.Pages.{AreFilledUp, AreWhole, page_start, replaced, zero_page}
-use Rattle.nfs_state.specs.declared.pages.TheConstants.{PAGE_LEN}
+use Rattle.nfs_operations.specs.declared.kept.TheConstants.{PAGE_LEN}
 use Rattle.nfs_state.proofs.PageLists.{drop-append, length-concat, length-zero_page, take-concat}
 
 -- so many zeros behind the bytes

@@ -5,8 +5,9 @@ use Rattle.std.specs.List.{concat}
 use Rattle.std.proofs.Math.Seq.{drop-append-add, take-add, take-append-add}
 use Rattle.std.proofs.lemmas.Bool.{and_parts, cases_lt, eqb-true, leb-true}
 use Rattle.std.proofs.lemmas.List.{append-nil, drop-append-le, drop-drop, drop_all, drop_more, get_or-append_right, get_or-drop, get_or-take, get_or_append_left, length-replicate, length-take, length-take-le, replicate-append-replicate, same_lists, take-append-drop, take-append-le, take-take, take_all, take_at, take_min}
-use Rattle.nfs_state.specs.Pages.{AreFilledUp, AreWhole, is_covered, replaced, zero_page}
-use Rattle.nfs_state.specs.declared.pages.TheConstants.{PAGE_LEN}
+use Rattle.nfs_operations.specs.Kept.{is_covered}
+use Rattle.nfs_state.specs.Pages.{AreFilledUp, AreWhole, replaced, zero_page}
+use Rattle.nfs_operations.specs.declared.kept.TheConstants.{PAGE_LEN}
 
 -- Bytes in pages
 

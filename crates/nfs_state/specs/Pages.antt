@@ -1,8 +1,7 @@
 -- The bytes of a file in pages of PAGE_LEN bytes each, of which the last may be filled up with zeros.
-use Rattle.std.specs.Prelude.{ℕ, ◌≡◌, ◌+◌, ◌-◌, ◌*◌, ◌/◌, ◌%◌, ◌==◌, Bool, ◌&&◌, nat_le, List, ◌++◌, drop, length, replicate, take}
-use Rattle.std.specs.Int.{div_ceil}
+use Rattle.std.specs.Prelude.{ℕ, ◌≡◌, ◌+◌, ◌-◌, ◌*◌, ◌/◌, List, ◌++◌, drop, length, replicate, take}
 use Rattle.std.specs.List.{AllByRecursion}
-use Rattle.nfs_state.specs.declared.pages.TheConstants.{PAGE_LEN}
+use Rattle.nfs_operations.specs.declared.kept.TheConstants.{PAGE_LEN}
 
 -- each of these pages has all of its bytes
 abbrev pub AreWhole : List (List ℕ) → Type 0
@@ -11,14 +10,6 @@ AreWhole pages = AllByRecursion (λ page. length page ≡ PAGE_LEN) pages
 -- where the page begins in which the byte at the offset stands
 abbrev pub page_start : ℕ → ℕ
 page_start offset = offset / PAGE_LEN * PAGE_LEN
-
--- how many pages have some of so many bytes from the offset on, if there are any
-abbrev pub pages_of : ℕ → ℕ → ℕ
-pages_of offset len = div_ceil (offset % PAGE_LEN + len) PAGE_LEN
-
--- so many bytes cover a page whole if they come into it at this place
-abbrev pub is_covered : ℕ → ℕ → Bool
-is_covered at len = at == 0 && nat_le PAGE_LEN len
 
 -- the bytes, with the block in the place of as many of them from the offset on
 abbrev pub replaced : ℕ → List ℕ → List ℕ → List ℕ

@@ -2,14 +2,13 @@
 
 ghost use Rattle.std.specs.Prelude.{◌≡◌, ◌≢◌, ◌%◌, ◌+◌, ◌-◌, ◌*◌, ◌≤◌, ◌<◌, ◌^◌, ◌++◌, [], IfOk, OnOk, drop, length, take};
 ghost use Rattle.std.specs.List.{concat};
-ghost use Rattle.nfs_state.specs.Pages.{AreFilledUp, AreWhole, is_covered, page_start, replaced, zero_page};
+ghost use Rattle.nfs_operations.specs.Kept.{is_covered};
+ghost use Rattle.nfs_state.specs.Pages.{AreFilledUp, AreWhole, page_start, replaced, zero_page};
 
+use nfs_operations::PAGE_LEN;
 use std::alloc::{AllocError, Global};
 use std::marker::Model;
 use xdr::{ByteParts, SharedBytes};
-
-/// How many bytes a page has.
-pub(crate) const PAGE_LEN: usize = 4_096;
 
 /// Bytes in pages, from which they can be read without a copy. A page is never written: another one comes in its place.
 /// Contracts see the list of the bytes.
@@ -179,7 +178,7 @@ impl Pages {
 }
 
 /// Whether so many bytes cover a page whole if they come into it at this place.
-pub(crate) fn is_covered(at: usize, len: usize) -> bool
+fn is_covered(at: usize, len: usize) -> bool
     ensures { result ≡ is_covered at len }
 {
     at == 0 && len >= PAGE_LEN

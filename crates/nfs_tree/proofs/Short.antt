@@ -23,6 +23,7 @@ use Rattle.nfs_xdr.specs.OpResult.{IsShort}
 use Rattle.nfs_xdr.specs.declared.op_result.OpResult.TheVariants as results
 use Rattle.nfs_xdr.specs.declared.op.Op.{Op}
 use Rattle.nfs_xdr.specs.declared.op.Op.TheVariants as ops
+use Rattle.nfs_xdr.specs.declared.opnum.Bare.TheVariants as bares
 use Rattle.nfs_xdr.specs.declared.opnum.Opnum.{Opnum}
 use Rattle.nfs_xdr.specs.declared.opnum.Opnum.TheVariants as opnums
 
@@ -49,19 +50,19 @@ putfh_answers : (old : Filehandles) (node : Option ℕ) → Answers opnums.Putfh
 putfh_answers old None = (tt, refl)
 putfh_answers old (Some node) = (tt, refl)
 
-restorefh_answers : (old : Filehandles) (saved : Option ℕ) → Answers opnums.Restorefh (restorefh_of old saved)
+restorefh_answers : (old : Filehandles) (saved : Option ℕ) → Answers (opnums.Bare bares.Restorefh) (restorefh_of old saved)
 restorefh_answers old None = (tt, refl)
 restorefh_answers old (Some node) = (tt, refl)
 
-savefh_answers : (old : Filehandles) (current : Option ℕ) → Answers opnums.Savefh (savefh_of old current)
+savefh_answers : (old : Filehandles) (current : Option ℕ) → Answers (opnums.Bare bares.Savefh) (savefh_of old current)
 savefh_answers old None = (tt, refl)
 savefh_answers old (Some node) = (tt, refl)
 
-lookupp_found_answers : (old : Filehandles) (found : Result ℕ Refusal) → Answers opnums.Lookupp (lookupp_found old found)
+lookupp_found_answers : (old : Filehandles) (found : Result ℕ Refusal) → Answers (opnums.Bare bares.Lookupp) (lookupp_found old found)
 lookupp_found_answers old (Err refusal) = (tt, refl)
 lookupp_found_answers old (Ok parent) = (tt, refl)
 
-lookupp_answers : (nodes : List Node) (old : Filehandles) (current : Option ℕ) → Answers opnums.Lookupp (lookupp_at nodes old current)
+lookupp_answers : (nodes : List Node) (old : Filehandles) (current : Option ℕ) → Answers (opnums.Bare bares.Lookupp) (lookupp_at nodes old current)
 lookupp_answers nodes old None = (tt, refl)
 lookupp_answers nodes old (Some node) = lookupp_found_answers old (parent_of nodes node)
 
@@ -82,17 +83,17 @@ of_some o made e answers is = subst (Answers o) (some_same made e is) answers
 pub effect_answers : (export : Exported) (old : Filehandles) (op : Op) (e : Effect) → effect_of export old op ≡ Some e → Answers (opnum_of op) e
 effect_answers export old (ops.Access requested) e is = of_some _ _ e (tt, refl) is
 effect_answers export old (ops.Commit args) e is = of_some _ _ e (commit_answers export old old.current) is
-effect_answers export old ops.Getfh e is = of_some _ _ e (tt, refl) is
+effect_answers export old (ops.Bare bares.Getfh) e is = of_some _ _ e (tt, refl) is
 effect_answers export old (ops.Lookup name) e is = of_some _ _ e (lookup_answers export.nodes old old.current name) is
 effect_answers export old (ops.Putfh handle) e is = of_some _ _ e (putfh_answers old (node_of export.nodes handle)) is
-effect_answers export old ops.Putrootfh e is = of_some _ _ e (tt, refl) is
-effect_answers export old ops.Restorefh e is = of_some _ _ e (restorefh_answers old old.saved) is
-effect_answers export old ops.Savefh e is = of_some _ _ e (savefh_answers old old.current) is
+effect_answers export old (ops.Bare bares.Putrootfh) e is = of_some _ _ e (tt, refl) is
+effect_answers export old (ops.Bare bares.Restorefh) e is = of_some _ _ e (restorefh_answers old old.saved) is
+effect_answers export old (ops.Bare bares.Savefh) e is = of_some _ _ e (savefh_answers old old.current) is
 effect_answers export old (ops.Create args) e is = of_some _ _ e (tt, refl) is
 effect_answers export old (ops.Link name) e is = of_some _ _ e (tt, refl) is
-effect_answers export old ops.Lookupp e is = of_some _ _ e (lookupp_answers export.nodes old old.current) is
-effect_answers export old ops.Putpubfh e is = of_some _ _ e (tt, refl) is
-effect_answers export old ops.Readlink e is = of_some _ _ e (tt, refl) is
+effect_answers export old (ops.Bare bares.Lookupp) e is = of_some _ _ e (lookupp_answers export.nodes old old.current) is
+effect_answers export old (ops.Bare bares.Putpubfh) e is = of_some _ _ e (tt, refl) is
+effect_answers export old (ops.Bare bares.Readlink) e is = of_some _ _ e (tt, refl) is
 effect_answers export old (ops.Remove name) e is = of_some _ _ e (tt, refl) is
 effect_answers export old (ops.Rename args) e is = of_some _ _ e (tt, refl) is
 effect_answers export old (ops.Secinfo name) e is = of_some _ _ e (secinfo_answers export.nodes old old.current name) is

@@ -9,7 +9,7 @@ refused_change None = refusals.NoFileHandle
 refused_change (Some node) = refusals.Rofs
 
 -- The same of a change that the saved filehandle takes part in (RFC 7530, sections 16.9 and 16.27):
--- NFS4ERR_NOFILEHANDLE without both filehandles.
+-- NFS4ERR_NOFILEHANDLE unless both filehandles are set.
 abbrev pub refused_move : Option ℕ → Option ℕ → Refusal
 refused_move None current = refusals.NoFileHandle
 refused_move (Some node) current = refused_change current

@@ -29,7 +29,7 @@ use crate::{Export, Filehandles};
 pub use access::{
     ACCESS_DELETE, ACCESS_EXECUTE, ACCESS_EXTEND, ACCESS_LOOKUP, ACCESS_MODIFY, ACCESS_READ,
 };
-use nfs_xdr::{Op, OpResult};
+use nfs_xdr::{Bare, Op, OpResult};
 
 impl Filehandles {
     /// Runs an operation that needs only the tree and the filehandles (`Op::is_on_tree`), and returns its answer. It
@@ -60,18 +60,18 @@ impl Filehandles {
             Op::Access(bits) => self.access(export, *bits),
             Op::Commit(_) => self.commit(export),
             Op::Create(_) => self.create(),
-            Op::Getfh => self.getfh(export.tree),
+            Op::Bare(Bare::Getfh) => self.getfh(export.tree),
             Op::Link(_) => self.link(),
             Op::Lookup(name) => self.lookup(export.tree, name.as_slice()),
-            Op::Lookupp => self.lookupp(export.tree),
+            Op::Bare(Bare::Lookupp) => self.lookupp(export.tree),
             Op::Putfh(handle) => self.putfh(export.tree, handle.as_slice()),
-            Op::Putpubfh => self.putpubfh(export.tree),
-            Op::Putrootfh => self.putrootfh(export.tree),
-            Op::Readlink => self.readlink(),
+            Op::Bare(Bare::Putpubfh) => self.putpubfh(export.tree),
+            Op::Bare(Bare::Putrootfh) => self.putrootfh(export.tree),
+            Op::Bare(Bare::Readlink) => self.readlink(),
             Op::Remove(_) => self.remove(),
             Op::Rename(_) => self.rename(),
-            Op::Restorefh => self.restorefh(export.tree),
-            Op::Savefh => self.savefh(export.tree),
+            Op::Bare(Bare::Restorefh) => self.restorefh(export.tree),
+            Op::Bare(Bare::Savefh) => self.savefh(export.tree),
             Op::Secinfo(name) => self.secinfo(export.tree, name.as_slice()),
             _ => unreachable!(),
         }

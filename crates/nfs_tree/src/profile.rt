@@ -10,7 +10,8 @@ use nfs_xdr::{Class, Op, Opnum, Refusal};
 pub enum Profile {
     /// What a client needs to open, lock, read and write files whose names it knows.
     Plain,
-    /// What programs and operating systems use besides: listings, more attributes, COMMIT, and SETATTR of a size.
+    /// What programs and operating systems use besides: listings, more attributes, COMMIT, SETATTR of a size, LOOKUPP,
+    /// PUTPUBFH and SECINFO, and the refusals of CREATE, LINK, READLINK, REMOVE and RENAME.
     Clients,
 }
 

@@ -103,7 +103,8 @@ bad_read : (bytes rest : List ℕ) (o : Opnum) → IsRuled o → Begins (U32 (nu
 bad_read bytes rest opnums.Illegal ruled begins none = absurd (ruled refl)
 bad_read bytes rest (opnums.Unsupported o) ruled begins none = absurd (ruled refl)
 bad_read bytes rest o ruled begins none =
-    no_arguments bytes rest o (case_at (op_case o) rest) (op_read bytes rest (number_of o) o (by_begins bytes rest (number_of o) begins) (known o)) none
+    ap (λ (found : Option Opnum). by_opnum (number_of o) found rest) (known o)
+    ∙ no_arguments bytes rest o (case_at (op_case o) rest) (op_read bytes rest (number_of o) o (by_begins bytes rest (number_of o) begins) (known o)) none
 
 illegal_read : (number : ℕ) (rest : List ℕ) (found : Option Opnum) → opnum_of number ≡ found → ((o : Opnum) → number_of o ≡ number → o ≡ opnums.Illegal) → by_opnum number found rest ≡ (Illegal number, rest)
 illegal_read number rest None e none = refl

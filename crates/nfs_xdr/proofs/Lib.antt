@@ -2,5 +2,4 @@ pub mod ArgOps
 pub mod CompoundLists
 pub mod Compounds
 pub mod Refusals
-pub mod Opnums
 pub mod UnreadOps

@@ -6,3 +6,4 @@ pub mod OpResult
 pub mod ArgOp
 pub mod Compound
 pub mod Names
+pub mod Kept

@@ -3,6 +3,7 @@ use Rattle.std.specs.Prelude.{Bool}
 use Rattle.std.proofs.Common.{refl}
 use Rattle.nfs_xdr.specs.declared.op.Op.{Op}
 use Rattle.nfs_xdr.specs.declared.op.Op.TheVariants as ops
+use Rattle.nfs_xdr.specs.declared.opnum.Bare.TheVariants as bares
 use Rattle.nfs_xdr.specs.declared.opnum.Opnum.{Opnum}
 use Rattle.nfs_xdr.specs.declared.opnum.Opnum.TheVariants as opnums
 use Rattle.nfs_xdr.specs.declared.opnum.Unsupported.TheVariants as without
@@ -26,16 +27,20 @@ pub op_agrees : (o : Opnum) → Agrees opnum_of op_arm o (op_case o)
 op_agrees opnums.Illegal = tt
 op_agrees (opnums.Unsupported without.Delegpurge) = tt
 op_agrees (opnums.Unsupported o) = tt
+op_agrees (opnums.Bare bares.Getfh) = λ v. (refl, refl)
+op_agrees (opnums.Bare o) = λ v. (refl, refl)
 op_agrees o = λ v. (refl, refl)
 
 pub op_is_read : (o : Op) → IsRead op_case opnum_of op_arm o
 op_is_read (ops.Access v) = record { is = refl; reads = λ bytes. refl }
+op_is_read (ops.Bare bares.Getfh) = record { is = refl; reads = λ bytes. refl }
+op_is_read (ops.Bare o) = record { is = refl; reads = λ bytes. refl }
 op_is_read o = record { is = refl; reads = λ bytes. refl }
 
 unfoldable pub op : Form Op
 op = switch opnum op_case opnum_of op_arm op_agrees op_is_read
 
--- every answer of the operation except NFS4ERR_RESOURCE is an entry of the journal
+-- the operation works on the state: if its profile has it, every answer except NFS4ERR_RESOURCE is an entry
 abbrev pub has_entry : Op → Bool
 has_entry o = is_on_state (class_of (opnum_of o))
 

@@ -4,6 +4,7 @@ use Rattle.nfs_forms.specs.declared.status.Refusal.{Refusal}
 use Rattle.nfs_forms.specs.declared.status.Status.{Status}
 use Rattle.nfs_xdr.specs.declared.op_result.OpResult.{OpResult}
 use Rattle.nfs_xdr.specs.declared.op_result.OpResult.TheVariants as results
+use Rattle.nfs_xdr.specs.declared.opnum.Bare.TheVariants as bares
 use Rattle.nfs_xdr.specs.declared.opnum.Opnum.{Opnum}
 use Rattle.nfs_xdr.specs.declared.opnum.Opnum.TheVariants as opnums
 use Rattle.nfs_xdr.specs.declared.opnum.Unsupported.TheVariants as without
@@ -34,6 +35,8 @@ pub result_agrees : (o : Opnum) → Agrees opnum_of result_arm o (result_case o)
 result_agrees opnums.Illegal = λ a. (refl, refl)
 result_agrees (opnums.Unsupported without.Delegpurge) = λ a. (refl, refl)
 result_agrees (opnums.Unsupported o) = λ a. (refl, refl)
+result_agrees (opnums.Bare bares.Getfh) = λ a. (refl, refl)
+result_agrees (opnums.Bare o) = λ a. (refl, refl)
 result_agrees o = λ a. (refl, refl)
 
 pub result_is_read : (r : OpResult) → IsRead result_case opnum_of result_arm r

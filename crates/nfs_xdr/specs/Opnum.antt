@@ -1,11 +1,12 @@
 -- The operations of NFSv4.0: the number of each, what it works on, and the room of its reply (RFC 7530, section 16; RFC
 -- 7531, nfs_opnum4).
-use Rattle.std.specs.Prelude.{◌≡◌, ℕ, ◌+◌, Bool, true, false, Option, Some, None, ◌==◌}
+use Rattle.std.specs.Prelude.{◌≡◌, ℕ, ◌+◌, Bool, true, false, Option, Some, ◌==◌}
 use Rattle.std.proofs.Common.{refl}
 use Rattle.std.specs.List.{find}
 use Rattle.nfs_operations.specs.declared.class.Class.{Class}
 use Rattle.nfs_operations.specs.declared.class.Class.TheVariants.{OnTree, OnState, OnLeases, OnNothing}
 use Rattle.nfs_xdr.specs.Table.{row_of}
+use Rattle.nfs_xdr.specs.declared.opnum.Bare.TheVariants as bares
 use Rattle.nfs_xdr.specs.declared.opnum.Opnum.{Opnum}
 use Rattle.nfs_xdr.specs.declared.opnum.Opnum.TheVariants as op
 use Rattle.nfs_xdr.specs.declared.opnum.TheConstants.{OPNUMS}
@@ -51,6 +52,8 @@ pub known : (o : Opnum) → opnum_of (number_of o) ≡ Some o
 known op.Illegal = refl
 known (op.Unsupported without.Delegpurge) = refl
 known (op.Unsupported o) = refl
+known (op.Bare bares.Getfh) = refl
+known (op.Bare o) = refl
 known o = refl
 
 unfoldable pub opnum : Form Opnum

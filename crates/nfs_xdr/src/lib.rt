@@ -4,6 +4,7 @@
 mod arg_op;
 mod bounded;
 mod compound;
+mod kept;
 mod limits;
 mod named_calls;
 mod names;
@@ -27,4 +28,4 @@ pub use nfs_forms::{
 pub use nfs_operations::{Class, Failure, Names};
 pub use op::Op;
 pub use op_result::OpResult;
-pub use opnum::{OPNUMS, Opnum, Unsupported};
+pub use opnum::{Bare, OPNUMS, Opnum, Unsupported};

@@ -6,8 +6,8 @@ ghost use Rattle.nfs_xdr.specs.Op as ops;
 use crate::{Class, Op};
 
 impl Op {
-    /// Whether the operation works on the state, so that every answer except NFS4ERR_RESOURCE is an entry of the
-    /// journal.
+    /// Whether the operation works on the state. If the profile has it, every answer except NFS4ERR_RESOURCE is then an
+    /// entry of the journal.
     pub fn has_entry(&self) -> bool
         ensures { result ≡ ops.has_entry self.now }
     {

@@ -9,10 +9,10 @@ use crate::{Names, Op};
 use nfs_operations::Arguments;
 
 macro_rules! names_of_op {
-    ([$($X:ident = $n:literal $c:ident $p:literal,)*] [$($Y:ident = $m:literal $d:ident $q:literal,)*] $op:expr) => {
+    ([$($X:ident = $x:ident,)*] $bare:tt $unsupported:tt $op:expr) => {
         match $op {
             $(Op::$X(args) => args.names(),)*
-            $(Op::$Y => Names::Nothing,)*
+            Op::Bare(_) => Names::Nothing,
         }
     };
 }

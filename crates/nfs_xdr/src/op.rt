@@ -8,33 +8,33 @@ ghost use Rattle.xdr.specs.Switch.{case_at};
 ghost use Rattle.xdr.specs.Unread.{left_of};
 
 use crate::opnum::each_operation;
-use crate::{Class, Opnum};
+use crate::{Bare, Class, Opnum};
 use nfs_operations as of;
 use std::alloc::Global;
 use xdr::{Unread, Wire, WireError, write_two};
 
 macro_rules! opnum_of_op {
     (
-        [$($With:ident = $n:literal $c:ident $p:literal,)*]
-        [$($Without:ident = $m:literal $d:ident $q:literal,)*]
+        [$($X:ident = $x:ident,)*] $bare:tt $unsupported:tt
         $op:expr
     ) => {
         match $op {
-            $(Op::$With(_) => Opnum::$With,)*
-            $(Op::$Without => Opnum::$Without,)*
+            $(Op::$X(_) => Opnum::$X,)*
+            Op::Bare(op) => Opnum::Bare(*op),
         }
     };
 }
 
 macro_rules! read_arguments_of {
     (
-        [$($With:ident = $n:literal $c:ident $p:literal,)*]
-        [$($Without:ident = $m:literal $d:ident $q:literal,)*]
+        [$($X:ident = $x:ident,)*]
+        [$($Y:ident = $y:ident,)*]
+        $unsupported:tt
         $opnum:expr, $alloc:expr, $bytes:expr
     ) => {
         match $opnum {
-            $(Opnum::$With => Wire::read($alloc, $bytes).map(|(v, rest)| (Op::$With(v), rest)),)*
-            $(Opnum::$Without => Ok((Op::$Without, $bytes)),)*
+            $(Opnum::$X => Wire::read($alloc, $bytes).map(|(v, rest)| (Op::$X(v), rest)),)*
+            $(Opnum::Bare(Bare::$Y) => Ok((Op::Bare(Bare::$Y), $bytes)),)*
             Opnum::Unsupported(_) | Opnum::Illegal => Err(WireError::Short),
         }
     };
@@ -42,13 +42,12 @@ macro_rules! read_arguments_of {
 
 macro_rules! write_op_of {
     (
-        [$($With:ident = $n:literal $c:ident $p:literal,)*]
-        [$($Without:ident = $m:literal $d:ident $q:literal,)*]
+        [$($X:ident = $x:ident,)*] $bare:tt $unsupported:tt
         $op:expr, $out:expr
     ) => {
         match $op {
-            $(Op::$With(v) => write_two($out, &Opnum::$With, v),)*
-            $(Op::$Without => write_two($out, &Opnum::$Without, &()),)*
+            $(Op::$X(v) => write_two($out, &Opnum::$X, v),)*
+            Op::Bare(op) => write_two($out, &Opnum::Bare(*op), &()),
         }
     };
 }
@@ -62,33 +61,28 @@ pub enum Op {
     Create(of::create::Arguments),
     Delegreturn(of::delegreturn::Arguments),
     Getattr(of::getattr::Arguments),
-    Getfh,
     Link(of::link::Arguments),
     Lock(of::lock::Arguments),
     Lockt(of::lockt::Arguments),
     Locku(of::locku::Arguments),
     Lookup(of::lookup::Arguments),
-    Lookupp,
     Open(of::open::Arguments),
     OpenConfirm(of::open_confirm::Arguments),
     OpenDowngrade(of::open_downgrade::Arguments),
     Putfh(of::putfh::Arguments),
-    Putpubfh,
-    Putrootfh,
     Read(of::read::Arguments),
     Readdir(of::readdir::Arguments),
-    Readlink,
     Remove(of::remove::Arguments),
     Rename(of::rename::Arguments),
     Renew(of::renew::Arguments),
-    Restorefh,
-    Savefh,
     Secinfo(of::secinfo::Arguments),
     Setattr(of::setattr::Arguments),
     Setclientid(of::setclientid::Arguments),
     SetclientidConfirm(of::setclientid_confirm::Arguments),
     Write(of::write::Arguments),
     ReleaseLockowner(of::release_lockowner::Arguments),
+    /// An operation without arguments.
+    Bare(Bare),
 }
 
 const _: () = prove!(size_of::<Op>() == 128);

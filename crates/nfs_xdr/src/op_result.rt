@@ -11,7 +11,7 @@ ghost use Rattle.xdr.specs.Switch.{case_at};
 ghost use Rattle.xdr.specs.Writing.{Writes};
 
 use crate::opnum::each_operation;
-use crate::{Answer, Opnum, Refusal, Status, Unsupported};
+use crate::{Answer, Bare, Opnum, Refusal, Status, Unsupported};
 use nfs_operations as of;
 use nfs_operations::Outcome;
 use std::alloc::{AllocError, Global};
@@ -20,8 +20,9 @@ use xdr::{Measure, Wire, WireError, read_constant, write_two};
 // Matches a result, and evaluates an expression over the answer inside it.
 macro_rules! of_answer {
     (
-        [$($X:ident = $n:literal $c:ident $p:literal,)*]
-        [$($Y:ident = $m:literal $d:ident $q:literal,)*]
+        [$($X:ident = $x:ident,)*]
+        [$($Y:ident = $y:ident,)*]
+        $unsupported:tt
         $result:expr, $answer:ident => $value:expr; $($rest:tt)*
     ) => {
         match $result {
@@ -36,13 +37,14 @@ pub(crate) use of_answer;
 
 macro_rules! opnum_of_result {
     (
-        [$($X:ident = $n:literal $c:ident $p:literal,)*]
-        [$($Y:ident = $m:literal $d:ident $q:literal,)*]
+        [$($X:ident = $x:ident,)*]
+        [$($Y:ident = $y:ident,)*]
+        $unsupported:tt
         $result:expr
     ) => {
         match $result {
             $(OpResult::$X(_) => Opnum::$X,)*
-            $(OpResult::$Y(_) => Opnum::$Y,)*
+            $(OpResult::$Y(_) => Opnum::Bare(Bare::$Y),)*
             OpResult::Unsupported(op) => Opnum::Unsupported(*op),
             OpResult::Illegal(_) => Opnum::Illegal,
         }
@@ -51,13 +53,14 @@ macro_rules! opnum_of_result {
 
 macro_rules! read_answer_of {
     (
-        [$($X:ident = $n:literal $c:ident $p:literal,)*]
-        [$($Y:ident = $m:literal $d:ident $q:literal,)*]
+        [$($X:ident = $x:ident,)*]
+        [$($Y:ident = $y:ident,)*]
+        $unsupported:tt
         $opnum:expr, $alloc:expr, $bytes:expr
     ) => {
         match $opnum {
             $(Opnum::$X => Wire::read($alloc, $bytes).map(|(v, r)| (OpResult::$X(v), r)),)*
-            $(Opnum::$Y => Wire::read($alloc, $bytes).map(|(v, r)| (OpResult::$Y(v), r)),)*
+            $(Opnum::Bare(Bare::$Y) => Wire::read($alloc, $bytes).map(|(v, r)| (OpResult::$Y(v), r)),)*
             Opnum::Unsupported(op) => read_unsupported(op, $bytes),
             Opnum::Illegal => Wire::read($alloc, $bytes).map(|(v, r)| (OpResult::Illegal(v), r)),
         }
@@ -66,13 +69,14 @@ macro_rules! read_answer_of {
 
 macro_rules! write_result_of {
     (
-        [$($X:ident = $n:literal $c:ident $p:literal,)*]
-        [$($Y:ident = $m:literal $d:ident $q:literal,)*]
+        [$($X:ident = $x:ident,)*]
+        [$($Y:ident = $y:ident,)*]
+        $unsupported:tt
         $result:expr, $out:expr
     ) => {
         match $result {
             $(OpResult::$X(answer) => write_two($out, &Opnum::$X, answer),)*
-            $(OpResult::$Y(answer) => write_two($out, &Opnum::$Y, answer),)*
+            $(OpResult::$Y(answer) => write_two($out, &Opnum::Bare(Bare::$Y), answer),)*
             OpResult::Unsupported(op) => write_unsupported($out, *op),
             OpResult::Illegal(answer) => write_two($out, &Opnum::Illegal, answer),
         }
@@ -81,13 +85,14 @@ macro_rules! write_result_of {
 
 macro_rules! refusal_of_opnum {
     (
-        [$($X:ident = $n:literal $c:ident $p:literal,)*]
-        [$($Y:ident = $m:literal $d:ident $q:literal,)*]
+        [$($X:ident = $x:ident,)*]
+        [$($Y:ident = $y:ident,)*]
+        $unsupported:tt
         $opnum:expr, $refusal:expr
     ) => {
         match $opnum {
             $(Opnum::$X => OpResult::$X(Outcome::refused($refusal)),)*
-            $(Opnum::$Y => OpResult::$Y(Outcome::refused($refusal)),)*
+            $(Opnum::Bare(Bare::$Y) => OpResult::$Y(Outcome::refused($refusal)),)*
             Opnum::Unsupported(op) => OpResult::Unsupported(op),
             Opnum::Illegal => OpResult::Illegal(Answer::Refused($refusal)),
         }
@@ -96,8 +101,9 @@ macro_rules! refusal_of_opnum {
 
 macro_rules! copy_of_result {
     (
-        [$($X:ident = $n:literal $c:ident $p:literal,)*]
-        [$($Y:ident = $m:literal $d:ident $q:literal,)*]
+        [$($X:ident = $x:ident,)*]
+        [$($Y:ident = $y:ident,)*]
+        $unsupported:tt
         $result:expr
     ) => {
         match $result {

@@ -1,56 +1,65 @@
 //! The list of operations: their numbers, what they work on, and the room of their replies.
 
-ghost use Rattle.std.specs.Prelude.{◌≡◌};
+ghost use Rattle.std.specs.Prelude.{◌≡◌, ◌≤◌};
+ghost use Rattle.nfs_operations.specs.Operation.{usual_limit};
+ghost use Rattle.nfs_operations.specs.declared.class.Class.TheVariants.{OnNothing};
 ghost use Rattle.nfs_xdr.specs.Opnum as opnums;
 ghost use Rattle.nfs_xdr.specs.Opnum.{answer_limit, class_of, is_plain, number_of, opnum_of, room_of};
-ghost use Rattle.nfs_xdr.specs.Table.{number_of_unsupported};
 ghost use Rattle.xdr.specs.Reading.{Answers};
 
-use nfs_operations::Class;
+use nfs_operations as of;
+use nfs_operations::{Class, Facts, USUAL_LIMIT};
 use std::alloc::Global;
 use xdr::{Wire, WireError, read_u32, write_u32};
 
-// The implemented operations, one row each: the name, the number, what it works on, and whether the profile "plain" has
-// it, too. Those with arguments come first.
+// The operations that this server implements, a row each: the name, and the module of `nfs_operations` that has its
+// number, facts and forms. Those with arguments come first, then those without. The third list has the operations that
+// this server doesn't implement, with their numbers.
 macro_rules! each_operation {
     ($then:ident $($given:tt)*) => {
         $then!(
             [
-                Access = 3 OnTree true,
-                Close = 4 OnState true,
-                Commit = 5 OnTree false,
-                Create = 6 OnTree false,
-                Delegreturn = 8 OnState true,
-                Getattr = 9 OnState true,
-                Link = 11 OnTree false,
-                Lock = 12 OnState true,
-                Lockt = 13 OnState true,
-                Locku = 14 OnState true,
-                Lookup = 15 OnTree true,
-                Open = 18 OnState true,
-                OpenConfirm = 20 OnState true,
-                OpenDowngrade = 21 OnState true,
-                Putfh = 22 OnTree true,
-                Read = 25 OnState true,
-                Readdir = 26 OnState false,
-                Remove = 28 OnTree false,
-                Rename = 29 OnTree false,
-                Renew = 30 OnLeases true,
-                Secinfo = 33 OnTree false,
-                Setattr = 34 OnState false,
-                Setclientid = 35 OnState true,
-                SetclientidConfirm = 36 OnState true,
-                Write = 38 OnState true,
-                ReleaseLockowner = 39 OnState true,
+                Access = access,
+                Close = close,
+                Commit = commit,
+                Create = create,
+                Delegreturn = delegreturn,
+                Getattr = getattr,
+                Link = link,
+                Lock = lock,
+                Lockt = lockt,
+                Locku = locku,
+                Lookup = lookup,
+                Open = open,
+                OpenConfirm = open_confirm,
+                OpenDowngrade = open_downgrade,
+                Putfh = putfh,
+                Read = read,
+                Readdir = readdir,
+                Remove = remove,
+                Rename = rename,
+                Renew = renew,
+                Secinfo = secinfo,
+                Setattr = setattr,
+                Setclientid = setclientid,
+                SetclientidConfirm = setclientid_confirm,
+                Write = write,
+                ReleaseLockowner = release_lockowner,
             ]
             [
-                Getfh = 10 OnTree true,
-                Lookupp = 16 OnTree false,
-                Putpubfh = 23 OnTree false,
-                Putrootfh = 24 OnTree true,
-                Readlink = 27 OnTree false,
-                Restorefh = 31 OnTree true,
-                Savefh = 32 OnTree true,
+                Getfh = getfh,
+                Lookupp = lookupp,
+                Putpubfh = putpubfh,
+                Putrootfh = putrootfh,
+                Readlink = readlink,
+                Restorefh = restorefh,
+                Savefh = savefh,
+            ]
+            [
+                Delegpurge = 7,
+                Nverify = 17,
+                Openattr = 19,
+                Verify = 37,
             ]
             $($given)*
         )
@@ -59,21 +68,25 @@ macro_rules! each_operation {
 
 pub(crate) use each_operation;
 
-/// The operations of NFSv4.0 that this server doesn't implement, with their numbers.
+/// The operations of NFSv4.0 that this server doesn't implement.
 #[derive(Clone, Copy, PartialEq, Eq)]
 pub enum Unsupported {
-    Delegpurge = 7,
-    Nverify = 17,
-    Openattr = 19,
-    Verify = 37,
+    Delegpurge,
+    Nverify,
+    Openattr,
+    Verify,
 }
 
-impl Unsupported {
-    fn number(self) -> u32
-        ensures { result ≡ number_of_unsupported self }
-    {
-        self as u32
-    }
+/// The operations without arguments. They work on the tree of files and the filehandles.
+#[derive(Clone, Copy, PartialEq, Eq)]
+pub enum Bare {
+    Getfh,
+    Lookupp,
+    Putpubfh,
+    Putrootfh,
+    Readlink,
+    Restorefh,
+    Savefh,
 }
 
 /// The operations of NFSv4.0 (nfs_opnum4).
@@ -85,115 +98,114 @@ pub enum Opnum {
     Create,
     Delegreturn,
     Getattr,
-    Getfh,
     Link,
     Lock,
     Lockt,
     Locku,
     Lookup,
-    Lookupp,
     Open,
     OpenConfirm,
     OpenDowngrade,
     Putfh,
-    Putpubfh,
-    Putrootfh,
     Read,
     Readdir,
-    Readlink,
     Remove,
     Rename,
     Renew,
-    Restorefh,
-    Savefh,
     Secinfo,
     Setattr,
     Setclientid,
     SetclientidConfirm,
     Write,
     ReleaseLockowner,
+    /// An operation without arguments.
+    Bare(Bare),
     /// An operation that this server doesn't implement.
     Unsupported(Unsupported),
     /// The operation whose number is written in the answer to an operation that doesn't exist.
     Illegal,
 }
 
+macro_rules! all_opnums {
+    (
+        [$($X:ident = $x:ident,)*]
+        [$($Y:ident = $y:ident,)*]
+        [$($Z:ident = $n:literal,)*]
+    ) => {
+        [
+            $(Opnum::$X,)*
+            $(Opnum::Bare(Bare::$Y),)*
+            $(Opnum::Unsupported(Unsupported::$Z),)*
+            Opnum::Illegal,
+        ]
+    };
+}
+
 macro_rules! number_of_opnum {
-    ([$($X:ident = $n:literal $c:ident $p:literal,)*] [$($Y:ident = $m:literal $d:ident $q:literal,)*] $opnum:expr) => {
+    (
+        [$($X:ident = $x:ident,)*]
+        [$($Y:ident = $y:ident,)*]
+        [$($Z:ident = $n:literal,)*]
+        $opnum:expr
+    ) => {
         match $opnum {
-            $(Opnum::$X => $n,)*
-            $(Opnum::$Y => $m,)*
-            Opnum::Unsupported(op) => op.number(),
-            Opnum::Illegal => 10044,
+            $(Opnum::$X => of::$x::NUMBER,)*
+            $(Opnum::Bare(Bare::$Y) => of::$y::NUMBER,)*
+            $(Opnum::Unsupported(Unsupported::$Z) => $n,)*
+            Opnum::Illegal => ILLEGAL,
         }
     };
 }
 
-macro_rules! is_plain_opnum {
-    ([$($X:ident = $n:literal $c:ident $p:literal,)*] [$($Y:ident = $m:literal $d:ident $q:literal,)*] $opnum:expr) => {
-        match $opnum {
-            $(Opnum::$X => $p,)*
-            $(Opnum::$Y => $q,)*
-            Opnum::Unsupported(_) => false,
-            Opnum::Illegal => true,
+macro_rules! opnum_of_number {
+    (
+        [$($X:ident = $x:ident,)*]
+        [$($Y:ident = $y:ident,)*]
+        [$($Z:ident = $n:literal,)*]
+        $number:expr
+    ) => {
+        match $number {
+            $(of::$x::NUMBER => Some(Opnum::$X),)*
+            $(of::$y::NUMBER => Some(Opnum::Bare(Bare::$Y)),)*
+            $($n => Some(Opnum::Unsupported(Unsupported::$Z)),)*
+            ILLEGAL => Some(Opnum::Illegal),
+            _ => None,
         }
     };
 }
 
-macro_rules! class_of_opnum {
-    ([$($X:ident = $n:literal $c:ident $p:literal,)*] [$($Y:ident = $m:literal $d:ident $q:literal,)*] $opnum:expr) => {
+macro_rules! facts_of_opnum {
+    (
+        [$($X:ident = $x:ident,)*]
+        [$($Y:ident = $y:ident,)*]
+        $unsupported:tt
+        $opnum:expr
+    ) => {
         match $opnum {
-            $(Opnum::$X => Class::$c,)*
-            $(Opnum::$Y => Class::$d,)*
-            Opnum::Unsupported(_) | Opnum::Illegal => Class::OnNothing,
+            $(Opnum::$X => of::$x::FACTS,)*
+            $(Opnum::Bare(Bare::$Y) => of::$y::FACTS,)*
+            Opnum::Unsupported(_) => without_rule(false),
+            Opnum::Illegal => without_rule(true),
         }
     };
 }
 
-// The smallest number of an operation.
-const FIRST_NUMBER: u32 = 3;
+// The number that is written in the answer to an operation that doesn't exist.
+const ILLEGAL: u32 = 10_044;
 
-/// Every operation: those with the numbers from 3 to 39 in this order, and then `Illegal`.
-pub const OPNUMS: [Opnum; 38] = [
-    Opnum::Access,
-    Opnum::Close,
-    Opnum::Commit,
-    Opnum::Create,
-    Opnum::Unsupported(Unsupported::Delegpurge),
-    Opnum::Delegreturn,
-    Opnum::Getattr,
-    Opnum::Getfh,
-    Opnum::Link,
-    Opnum::Lock,
-    Opnum::Lockt,
-    Opnum::Locku,
-    Opnum::Lookup,
-    Opnum::Lookupp,
-    Opnum::Unsupported(Unsupported::Nverify),
-    Opnum::Open,
-    Opnum::Unsupported(Unsupported::Openattr),
-    Opnum::OpenConfirm,
-    Opnum::OpenDowngrade,
-    Opnum::Putfh,
-    Opnum::Putpubfh,
-    Opnum::Putrootfh,
-    Opnum::Read,
-    Opnum::Readdir,
-    Opnum::Readlink,
-    Opnum::Remove,
-    Opnum::Rename,
-    Opnum::Renew,
-    Opnum::Restorefh,
-    Opnum::Savefh,
-    Opnum::Secinfo,
-    Opnum::Setattr,
-    Opnum::Setclientid,
-    Opnum::SetclientidConfirm,
-    Opnum::Unsupported(Unsupported::Verify),
-    Opnum::Write,
-    Opnum::ReleaseLockowner,
-    Opnum::Illegal,
-];
+// What there is to say of an operation that isn't run.
+fn without_rule(is_plain: bool) -> Facts
+    ensures { result ≡ record { class = OnNothing; is_plain = is_plain; limit = usual_limit } }
+{
+    Facts {
+        class: Class::OnNothing,
+        is_plain,
+        limit: USUAL_LIMIT,
+    }
+}
+
+/// Every operation.
+pub const OPNUMS: [Opnum; 38] = each_operation!(all_opnums);
 
 impl Opnum {
     /// The operation's number on the wire.
@@ -207,16 +219,24 @@ impl Opnum {
     pub fn from_number(number: u32) -> Option<Opnum>
         ensures { result ≡ opnum_of number }
     {
-        let place = number.saturating_sub(FIRST_NUMBER) as usize;
-        let opnum = OPNUMS[place.min(OPNUMS.len() - 1)];
-        (opnum.number() == number).then_some(opnum)
+        each_operation!(opnum_of_number number)
+    }
+
+    // What its own file says of the operation.
+    fn facts(self) -> Facts
+        ensures class { result.class ≡ class_of self }
+        ensures plain { result.is_plain ≡ is_plain self }
+        ensures limit { result.limit ≡ answer_limit self }
+        ensures few { result.limit ≤ 67_572 }
+    {
+        each_operation!(facts_of_opnum self)
     }
 
     /// What the operation works on.
     pub fn class(self) -> Class
         ensures { result ≡ class_of self }
     {
-        each_operation!(class_of_opnum self)
+        self.facts().class
     }
 
     /// Whether the profile "plain" has the operation, too. An operation that doesn't exist is refused by its number,
@@ -224,17 +244,7 @@ impl Opnum {
     pub fn is_plain(self) -> bool
         ensures { result ≡ is_plain self }
     {
-        each_operation!(is_plain_opnum self)
-    }
-
-    // No result of the operation is longer than this.
-    fn answer_limit(self) -> usize
-        ensures { result ≡ answer_limit self }
-    {
-        match self {
-            Opnum::Read | Opnum::Readdir => 67_572,
-            _ => 2_036,
-        }
+        self.facts().is_plain
     }
 
     /// The room that has to be left in the reply for the operation to be run: that of its result, and of a refusal of
@@ -242,7 +252,7 @@ impl Opnum {
     pub fn room(self) -> usize
         ensures { result ≡ room_of self }
     {
-        self.answer_limit() + 12
+        self.facts().limit + 12
     }
 }
 

@@ -8,13 +8,12 @@ use nfs_operations::{Arguments, Data};
 
 macro_rules! is_same_op {
     (
-        [$($With:ident = $n:literal $c:ident $p:literal,)*]
-        [$($Without:ident = $m:literal $d:ident $q:literal,)*]
+        [$($X:ident = $x:ident,)*] $bare:tt $unsupported:tt
         $op:expr, $other:expr
     ) => {
         match ($op, $other) {
-            $((Op::$With(args), Op::$With(other)) => Arguments::is_same(args, other),)*
-            $((Op::$Without, Op::$Without) => true,)*
+            $((Op::$X(args), Op::$X(other)) => Arguments::is_same(args, other),)*
+            (Op::Bare(op), Op::Bare(other)) => op == other,
             _ => false,
         }
     };
@@ -22,8 +21,9 @@ macro_rules! is_same_op {
 
 macro_rules! is_same_result {
     (
-        [$($X:ident = $n:literal $c:ident $p:literal,)*]
-        [$($Y:ident = $m:literal $d:ident $q:literal,)*]
+        [$($X:ident = $x:ident,)*]
+        [$($Y:ident = $y:ident,)*]
+        $unsupported:tt
         $result:expr, $other:expr
     ) => {
         match ($result, $other) {

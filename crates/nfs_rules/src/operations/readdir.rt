@@ -3,7 +3,7 @@
 ghost use Rattle.std.specs.Prelude.{◌≡◌, ◌≤◌, IfOk, length, map};
 ghost use Rattle.nfs_operations.specs.Readdir.{entry};
 ghost use Rattle.nfs_rules.specs.Deciding.{Decides};
-ghost use Rattle.nfs_rules.specs.Listings.{AreLongest};
+ghost use Rattle.nfs_rules.specs.operations.Listings.{AreLongest};
 ghost use Rattle.nfs_rules.specs.operations.Readdir as specs;
 ghost use Rattle.nfs_state.specs.Entries.{IsFilehandle};
 ghost use Rattle.nfs_state.specs.Room.{state_of};

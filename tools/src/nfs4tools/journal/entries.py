@@ -38,7 +38,7 @@ MOMENT_LIMIT = 2**40 - 2
 WORD = struct.Struct(">I")
 
 # The statuses that an answer may have; and the operations that are never OK.
-STATUSES = wire.GIVEN_STATUSES
+STATUSES = wire.KNOWN_STATUSES
 NEVER_OK = {Opnum.CREATE, Opnum.LINK, Opnum.READLINK, Opnum.REMOVE, Opnum.RENAME}
 
 # Operations by their numbers.

@@ -172,7 +172,7 @@ from nfs4tools.wire.rpc import (
     records,
     split_records,
 )
-from nfs4tools.wire.statuses import GIVEN_STATUSES, Status
+from nfs4tools.wire.statuses import KNOWN_STATUSES, Status
 from nfs4tools.wire.xdr import Reader, Unreadable, bitmap, opaque, u32, u64
 
 __all__ = [
@@ -225,7 +225,7 @@ __all__ = [
     "Filehandle",
     "Form",
     "GARBAGE_ARGS",
-    "GIVEN_STATUSES",
+    "KNOWN_STATUSES",
     "GUARDED4",
     "Getattr",
     "GivenClientid",

@@ -75,7 +75,7 @@ Status = IntEnum(
 
 
 # The statuses that this server knows. It gives each of them, except SAME and CB_PATH_DOWN.
-GIVEN_STATUSES = set(Status) - {
+KNOWN_STATUSES = set(Status) - {
     Status.PERM,
     Status.IO,
     Status.NXIO,

@@ -1,7 +1,7 @@
 use Rattle.std.proofs.Common.{◌≡◌, ◌-◌, ◌*◌, ◌<◌, ◌++◌, ◌∙◌, [], ◌∷◌, ap, arith, drop, length, rules, take}
 use Rattle.std.specs.Prelude.{min}
 use Rattle.std.specs.List.{concat}
-use Rattle.nfs_state.specs.declared.pages.TheConstants.{PAGE_LEN}
+use Rattle.nfs_operations.specs.declared.kept.TheConstants.{PAGE_LEN}
 use Rattle.nfs_state.proofs.PageLists.{length-concat, parts_more, whole_at}
 use Rattle.nfs_state.proofs.pages.parts_of.Goals as goal
 

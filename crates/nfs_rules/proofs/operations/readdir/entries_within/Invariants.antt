@@ -1,7 +1,7 @@
 use Rattle.std.proofs.Common.{◌≡◌, ◌+◌, map, take}
 use Rattle.std.specs.List.{All, sum_by}
 use Rattle.nfs_operations.specs.Readdir.{entry}
-use Rattle.nfs_rules.specs.Listings.{linked_len}
+use Rattle.nfs_rules.specs.operations.Listings.{linked_len}
 use Rattle.nfs_rules.specs.operations.Readdir.{entry_of}
 use Rattle.nfs_rules.proofs.operations.readdir.entries_within.Given as goal
 use Rattle.nfs_state.specs.Room.{state_of}

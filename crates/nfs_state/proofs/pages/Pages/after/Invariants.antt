@@ -1,7 +1,7 @@
 use Rattle.std.proofs.Common.{◌≡◌, ◌-◌, ◌*◌, drop, take}
 use Rattle.std.specs.List.{concat}
 use Rattle.nfs_state.specs.Pages.{AreWhole, replaced}
-use Rattle.nfs_state.specs.declared.pages.TheConstants.{PAGE_LEN}
+use Rattle.nfs_operations.specs.declared.kept.TheConstants.{PAGE_LEN}
 use Rattle.nfs_state.proofs.pages.Pages.after.Given as goal
 
 -- the pages so far are those of the bytes as they will be

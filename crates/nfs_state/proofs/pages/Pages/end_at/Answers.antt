@@ -1,7 +1,7 @@
 use Rattle.std.proofs.Common.{◌≡◌, ◌∷◌, ◌++◌, ◌∙◌, List, [], ℕ, ap, arith, length, rules, subst, sym, take}
 use Rattle.std.specs.List.{concat}
 use Rattle.nfs_state.specs.Pages.{AreFilledUp, AreWhole, page_start}
-use Rattle.nfs_state.specs.declared.pages.TheConstants.{PAGE_LEN}
+use Rattle.nfs_operations.specs.declared.kept.TheConstants.{PAGE_LEN}
 use Rattle.nfs_state.proofs.PageEnds.{ended, length-end}
 use Rattle.nfs_state.proofs.PageLists.{concat_push, length-concat, whole_push}
 use Rattle.nfs_state.proofs.pages.Pages.end_at.Goals as goal

@@ -2,7 +2,7 @@ use Rattle.std.proofs.Common.{◌≡◌, ◌≢◌, ◌+◌, ◌/◌, ◌%◌, �
 use Rattle.std.specs.Prelude.{IfOk}
 use Rattle.std.specs.List.{concat}
 use Rattle.nfs_state.specs.Pages.{AreWhole, page_start, replaced, zero_page}
-use Rattle.nfs_state.specs.declared.pages.TheConstants.{PAGE_LEN}
+use Rattle.nfs_operations.specs.declared.kept.TheConstants.{PAGE_LEN}
 use Rattle.nfs_state.proofs.PageEnds.{new_end, same_end}
 use Rattle.nfs_state.proofs.PageLists.{length-concat, length-zero_page, page_at, whole_at}
 use Rattle.nfs_state.proofs.pages.Pages.end_page.Goals as goal

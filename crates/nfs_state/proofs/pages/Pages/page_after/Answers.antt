@@ -2,7 +2,7 @@ use Rattle.std.proofs.Common.{◌≡◌, ◌+◌, ◌-◌, ◌*◌, ◌<◌, ◌
 use Rattle.std.specs.Prelude.{IfOk, min}
 use Rattle.std.proofs.lemmas.List.{length-drop, length-take-le}
 use Rattle.nfs_state.specs.Pages.{replaced}
-use Rattle.nfs_state.specs.declared.pages.TheConstants.{PAGE_LEN}
+use Rattle.nfs_operations.specs.declared.kept.TheConstants.{PAGE_LEN}
 use Rattle.nfs_state.proofs.PageLists.{covered_whole, length-concat, page_at, whole_at, whole_page, window}
 use Rattle.nfs_state.proofs.pages.Pages.page_after.Goals as goal
 

@@ -3,7 +3,7 @@ use Rattle.std.specs.Prelude.{IfOk, min}
 use Rattle.std.proofs.lemmas.List.{length-take-le}
 use Rattle.std.specs.List.{concat}
 use Rattle.nfs_state.specs.Pages.{AreWhole}
-use Rattle.nfs_state.specs.declared.pages.TheConstants.{PAGE_LEN}
+use Rattle.nfs_operations.specs.declared.kept.TheConstants.{PAGE_LEN}
 use Rattle.nfs_state.proofs.PageLists.{length-concat, pages_have, whole_at, whole_drop}
 use Rattle.nfs_state.proofs.pages.Pages.parts.Goals as goal
 

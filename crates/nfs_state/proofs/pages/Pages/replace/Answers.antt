@@ -2,7 +2,7 @@ use Rattle.std.proofs.Common.{◌≡◌, ◌+◌, ◌*◌, ◌/◌, ◌≤◌, �
 use Rattle.std.specs.List.{concat}
 use Rattle.std.proofs.lemmas.List.{length-append, length-drop, length-take-le, with_items_is}
 use Rattle.nfs_state.specs.Pages.{replaced}
-use Rattle.nfs_state.specs.declared.pages.TheConstants.{PAGE_LEN}
+use Rattle.nfs_operations.specs.declared.kept.TheConstants.{PAGE_LEN}
 use Rattle.nfs_state.proofs.PageLists.{length-concat, pages_replaced}
 use Rattle.nfs_state.proofs.pages.Pages.replace.Goals as goal
 

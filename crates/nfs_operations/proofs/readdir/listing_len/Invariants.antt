@@ -1,8 +1,8 @@
 use Rattle.std.proofs.Common.{◌≡◌, ◌-◌, take}
 use Rattle.std.specs.Prelude.{◌^◌, min}
 use Rattle.std.specs.List.{sum_by}
-use Rattle.nfs_state.specs.MemoryCount.{listed_len}
-use Rattle.nfs_state.proofs.memory_count.entries_len.Given as goal
+use Rattle.nfs_operations.specs.Readdir.{listed_len}
+use Rattle.nfs_operations.proofs.readdir.listing_len.Given as goal
 
 -- what the entries visited so far count
 abbrev pub invariant-loop-entry : goal.invariant-loop-entry
