@@ -1,7 +1,7 @@
 -- READDIR (RFC 7530, section 16.24): its arguments say behind which entry of the directory the listing begins, and how
 -- long the answer may be. They ask for attributes of each entry. Its result is entries, and whether they are the last
 -- ones. No limit is given for names, and none for the entries.
-use Rattle.std.specs.Prelude.{ℕ, ◌+◌, ◌-◌, ◌^◌, ◌≤◌, length, false, min, unwrap_or}
+use Rattle.std.specs.Prelude.{ℕ, ◌+◌, ◌-◌, ◌^◌, ◌≤◌, length, false, min, Option, unwrap_or}
 use Rattle.std.specs.List.{sum_by}
 use Rattle.std.proofs.Common.{refl}
 use Rattle.nfs_operations.specs.declared.readdir.DirectoryEntry.{DirectoryEntry}

@@ -58,13 +58,13 @@ pub struct WriteOk {
 impl Write {
     /// Reads the arguments as `read` does. If the bytes are many, they share the message's memory.
     #[tactic(auto, unfolding(crate::specs::Write::arguments))]
-    pub fn read_shared(alloc: Global, unread: Unread<'_>) -> Result<(Write, Unread<'_>), WireError>
-        ensures { Gives (λ x. (x.0, left_of x.1)) result (forms.arguments.at (left_of unread.entry)) }
+    pub fn read_shared(alloc: Global, unread: Unread<'_>) -> Result<(Write, &[u8]), WireError>
+        ensures { Gives (λ x. (x.0, x.1.now)) result (forms.arguments.at (left_of unread.entry)) }
     {
-        let (stateid, rest) = unread.read(alloc)?;
-        let (offset, rest) = rest.read(alloc)?;
-        let (stable, rest) = rest.read(alloc)?;
-        let (bytes, rest) = rest.read_shared(alloc)?;
+        let (stateid, rest) = Wire::read(alloc, unread.as_slice())?;
+        let (offset, rest) = Wire::read(alloc, rest)?;
+        let (stable, rest) = Wire::read(alloc, rest)?;
+        let (bytes, rest) = unread.after(rest).read_shared(alloc)?;
         let arguments = Write {
             stateid,
             offset,

@@ -35,7 +35,6 @@ use Rattle.nfs_owners.specs.Kept.{IsAgain, Kept, KeptRequest, kept_seen, next_se
 use Rattle.nfs_owners.specs.Owner as owners
 use Rattle.nfs_xdr.specs.declared.op.Op.{Op}
 use Rattle.nfs_xdr.specs.declared.op.Op.TheVariants as ops
-use Rattle.nfs_xdr.specs.declared.opnum.Bare.TheVariants as bares
 use Rattle.nfs_xdr.specs.declared.op_result.OpResult.{OpResult}
 use Rattle.nfs_xdr.specs.Names.{seqid_of}
 use Rattle.nfs_xdr.specs.Op.{opnum_of}
@@ -142,15 +141,11 @@ same_refusal r s same = cc
 refused_once : (op : Op) (r s : Refusal) → refusal_of (opnum_of op) r ≡ refusal_of (opnum_of op) s → r ≡ s
 refused_once (ops.Open args) r s same = cc
 refused_once (ops.Setattr args) r s same = same_refusal r s (ap results.status_of same)
-refused_once (ops.Bare bares.Getfh) r s same = cc
-refused_once (ops.Bare o) r s same = cc
 refused_once op r s same = cc
 
 refusal_answers : (op : Op) (r : Refusal) → (results.opnum_of (refusal_of (opnum_of op) r) ≡ opnum_of op) × IsShort (refusal_of (opnum_of op) r)
 refusal_answers (ops.Open args) r = (refl, tt)
 refusal_answers (ops.Setattr args) r = (refl, ((omega arith, omega arith, All-nil (λ w. w < 2 ^ 32)), omega arith))
-refusal_answers (ops.Bare bares.Getfh) r = (refl, tt)
-refusal_answers (ops.Bare o) r = (refl, tt)
 refusal_answers op r = (refl, tt)
 
 pub refusal_sendable : (op : Op) (refusal : Refusal) (answer : OpResult) → refusal ≢ refusals.Resource → answer ≡ refusal_of (opnum_of op) refusal → IsSendable op answer

@@ -1,6 +1,6 @@
 -- The operations of NFSv4.0: the number of each, what it works on, and the room of its reply (RFC 7530, section 16; RFC
 -- 7531, nfs_opnum4).
-use Rattle.std.specs.Prelude.{◌≡◌, ℕ, ◌+◌, Bool, true, false, Option, Some, ◌==◌}
+use Rattle.std.specs.Prelude.{◌≡◌, ℕ, ◌+◌, Bool, true, false, Option, Some, None, ◌==◌}
 use Rattle.std.proofs.Common.{refl}
 use Rattle.std.specs.List.{find}
 use Rattle.nfs_operations.specs.declared.class.Class.{Class}

@@ -8,6 +8,7 @@ ghost use Rattle.xdr.specs.Switch.{case_at};
 ghost use Rattle.xdr.specs.Unread.{left_of};
 
 use crate::{Op, Opnum, Unsupported};
+use nfs_operations as of;
 use std::alloc::{AllocError, Global};
 use xdr::{Unread, WireError, read_u32};
 
@@ -35,49 +36,80 @@ impl ArgOp {
     }
 }
 
-/// The entry at the front of the list, and the bytes after it. Fails only if memory runs out: an entry that can't be
-/// read ends the list instead.
-pub fn read_op(alloc: Global, unread: Unread<'_>) -> Result<(ArgOp, Unread<'_>), AllocError>
-    ensures encoded { IfOk result (λ x. IsEncodedAt (left_of unread.entry) x.0 (left_of x.1)) }
-    ensures reads { IfOk result (λ x. (x.0, left_of x.1) ≡ arg_op_at (left_of unread.entry)) }
-{
-    op_from(alloc, unread)
-}
-
-fn op_from(alloc: Global, unread: Unread<'_>) -> Result<(ArgOp, Unread<'_>), AllocError>
-    ensures { IfOk result (λ x. (x.0, left_of x.1) ≡ arg_op_at (left_of unread.entry)) }
-{
+/// Adds the entry at the front of the bytes to the list, and returns the bytes after it, or none if the entry ends the
+/// list. Fails only if memory runs out: an entry that can't be read ends the list instead.
+pub fn push_op<'a>(
+    alloc: Global,
+    ops: &mut Vec<ArgOp>,
+    unread: Unread<'a>,
+) -> Result<Option<&'a [u8]>, AllocError> {
     match read_u32(unread.as_slice()) {
-        Ok((number, rest)) => read_numbered(alloc, number, unread.after(rest)),
-        Err(_) => Ok((ArgOp::BadArgs(Opnum::Illegal), unread)),
+        Ok((number, rest)) => push_numbered(alloc, ops, number, unread.after(rest)),
+        Err(_) => push_bad(ops, Opnum::Illegal),
     }
 }
 
-fn read_numbered(
+fn push_numbered<'a>(
     alloc: Global,
+    ops: &mut Vec<ArgOp>,
     number: u32,
-    unread: Unread<'_>,
-) -> Result<(ArgOp, Unread<'_>), AllocError>
-    ensures { IfOk result (λ x. (x.0, left_of x.1) ≡ arg_op_of number (left_of unread.entry)) }
-{
+    unread: Unread<'a>,
+) -> Result<Option<&'a [u8]>, AllocError> {
     match Opnum::from_number(number) {
-        None | Some(Opnum::Illegal) => Ok((ArgOp::Illegal(number), unread)),
-        Some(Opnum::Unsupported(op)) => Ok((ArgOp::Unsupported(op), unread)),
-        Some(opnum) => read_ruled(alloc, opnum, unread),
+        None | Some(Opnum::Illegal) => push_illegal(ops, number),
+        Some(Opnum::Unsupported(op)) => push_unsupported(ops, op),
+        Some(Opnum::Write) => push_write(alloc, ops, unread),
+        Some(opnum) => push_ruled(alloc, ops, opnum, unread.as_slice()),
     }
 }
 
-fn read_ruled(
+// A WRITE, whose bytes may share the message's memory. It is read apart, so that the slots of its result aren't those of
+// the other operations.
+fn push_write<'a>(
     alloc: Global,
-    opnum: Opnum,
-    unread: Unread<'_>,
-) -> Result<(ArgOp, Unread<'_>), AllocError>
-    ensures { IfOk result (λ x. (x.0, left_of x.1)
-        ≡ or_bad_arguments opnum (left_of unread.entry) (case_at (op_case opnum) (left_of unread.entry))) }
-{
-    match Op::read_shared(alloc, opnum, unread) {
-        Ok((op, rest)) => Ok((ArgOp::Run(op), rest)),
+    ops: &mut Vec<ArgOp>,
+    unread: Unread<'a>,
+) -> Result<Option<&'a [u8]>, AllocError> {
+    match of::write::Write::read_shared(alloc, unread) {
+        Ok((arguments, rest)) => {
+            ops.push(ArgOp::Run(Op::Write(arguments)))?;
+            Ok(Some(rest))
+        }
         Err(WireError::Memory) => Err(AllocError),
-        Err(_) => Ok((ArgOp::BadArgs(opnum), unread)),
+        Err(_) => push_bad(ops, Opnum::Write),
     }
+}
+
+fn push_ruled<'a>(
+    alloc: Global,
+    ops: &mut Vec<ArgOp>,
+    opnum: Opnum,
+    bytes: &'a [u8],
+) -> Result<Option<&'a [u8]>, AllocError> {
+    match Op::read_arguments(alloc, opnum, bytes) {
+        Ok((op, rest)) => {
+            ops.push(ArgOp::Run(op))?;
+            Ok(Some(rest))
+        }
+        Err(WireError::Memory) => Err(AllocError),
+        Err(_) => push_bad(ops, opnum),
+    }
+}
+
+fn push_bad<'a>(ops: &mut Vec<ArgOp>, opnum: Opnum) -> Result<Option<&'a [u8]>, AllocError> {
+    ops.push(ArgOp::BadArgs(opnum))?;
+    Ok(None)
+}
+
+fn push_unsupported<'a>(
+    ops: &mut Vec<ArgOp>,
+    op: Unsupported,
+) -> Result<Option<&'a [u8]>, AllocError> {
+    ops.push(ArgOp::Unsupported(op))?;
+    Ok(None)
+}
+
+fn push_illegal<'a>(ops: &mut Vec<ArgOp>, number: u32) -> Result<Option<&'a [u8]>, AllocError> {
+    ops.push(ArgOp::Illegal(number))?;
+    Ok(None)
 }

@@ -7,7 +7,7 @@ ghost use Rattle.xdr.specs.Reading.{Answers, Gives};
 ghost use Rattle.xdr.specs.Unread.{left_of};
 ghost use Rattle.xdr.specs.Writing.{Writes};
 
-use crate::arg_op::read_op;
+use crate::arg_op::push_op;
 use crate::{ArgOp, OpResult, Status};
 use std::alloc::{AllocError, Global};
 use xdr::{
@@ -114,13 +114,10 @@ fn read_operations(
     let mut ops = Vec::with_capacity(alloc, most)?;
     let mut rest = unread;
     for _ in 0..count {
-        let (op, beyond) = read_op(alloc, rest)?;
-        let is_last = op.ends_list();
-        ops.push(op)?;
-        if is_last {
+        let Some(beyond) = push_op(alloc, &mut ops, rest)? else {
             return Ok(Sequence::new(ops));
-        }
-        rest = beyond;
+        };
+        rest = rest.after(beyond);
     }
     Ok(Sequence::new(ops))
 }

@@ -13,7 +13,7 @@ mod op_result;
 mod opnum;
 mod same;
 
-pub use arg_op::{ArgOp, read_op};
+pub use arg_op::{ArgOp, push_op};
 pub use compound::{
     Compound, CompoundRequest, OPERATION_LIMIT, one_request_is_encoded, read_compound,
     write_results,

@@ -5,13 +5,12 @@ ghost use Rattle.nfs_xdr.specs.Op as ops;
 ghost use Rattle.nfs_xdr.specs.Op.{op_case, opnum_of};
 ghost use Rattle.xdr.specs.Reading.{Gives};
 ghost use Rattle.xdr.specs.Switch.{case_at};
-ghost use Rattle.xdr.specs.Unread.{left_of};
 
 use crate::opnum::each_operation;
 use crate::{Bare, Class, Opnum};
 use nfs_operations as of;
 use std::alloc::Global;
-use xdr::{Unread, Wire, WireError, write_two};
+use xdr::{Wire, WireError, write_two};
 
 macro_rules! opnum_of_op {
     (
@@ -33,8 +32,11 @@ macro_rules! read_arguments_of {
         $opnum:expr, $alloc:expr, $bytes:expr
     ) => {
         match $opnum {
-            $(Opnum::$X => Wire::read($alloc, $bytes).map(|(v, rest)| (Op::$X(v), rest)),)*
-            $(Opnum::Bare(Bare::$Y) => Ok((Op::Bare(Bare::$Y), $bytes)),)*
+            $(Opnum::$X => {
+                let (v, rest) = Wire::read($alloc, $bytes)?;
+                return Ok((Op::$X(v), rest));
+            })*
+            $(Opnum::Bare(Bare::$Y) => return Ok((Op::Bare(Bare::$Y), $bytes)),)*
             Opnum::Unsupported(_) | Opnum::Illegal => Err(WireError::Short),
         }
     };
@@ -110,37 +112,6 @@ impl Op {
         ensures { Gives (λ x. (x.0, x.1.now)) result (case_at (op_case opnum) bytes.now) }
     {
         each_operation!(read_arguments_of opnum, alloc, bytes)
-    }
-
-    /// Reads the arguments of an operation as `read_arguments` does. If the bytes of a WRITE are many, they share the
-    /// message's memory.
-    pub fn read_shared(
-        alloc: Global,
-        opnum: Opnum,
-        unread: Unread<'_>,
-    ) -> Result<(Op, Unread<'_>), WireError>
-        ensures { Gives (λ x. (x.0, left_of x.1)) result
-            (case_at (op_case opnum) (left_of unread.entry)) }
-    {
-        match opnum {
-            Opnum::Write => of::write::Write::read_shared(alloc, unread).map(|(args, rest)| (
-                Op::Write(args),
-                rest,
-            )),
-            _ => Op::read_copied(alloc, opnum, unread),
-        }
-    }
-
-    fn read_copied(
-        alloc: Global,
-        opnum: Opnum,
-        unread: Unread<'_>,
-    ) -> Result<(Op, Unread<'_>), WireError>
-        ensures { Gives (λ x. (x.0, left_of x.1)) result
-            (case_at (op_case opnum) (left_of unread.entry)) }
-    {
-        let (op, rest) = Op::read_arguments(alloc, opnum, unread.as_slice())?;
-        Ok((op, unread.after(rest)))
     }
 }
 

@@ -44,24 +44,19 @@ impl<'a> Unread<'a> {
     }
 
     /// The value at the front of the bytes, and the bytes after it.
-    pub fn read<T: Wire>(self, alloc: Global) -> Result<(T, Unread<'a>), WireError>
-        ensures { Gives (λ x. (x.0, left_of x.1)) result (T.form.at (left_of self.entry)) }
+    pub fn read<T: Wire>(self, alloc: Global) -> Result<(T, &'a [u8]), WireError>
+        ensures { Gives (λ x. (x.0, x.1.now)) result (T.form.at (left_of self.entry)) }
     {
-        let (value, rest) = T::read(alloc, self.as_slice())?;
-        Ok((value, self.after(rest)))
+        T::read(alloc, self.as_slice())
     }
 
     /// The opaque data (opaque<>) at the front of the bytes, and the bytes after them. The data share the memory of a
     /// message that is shared if they are many, and at least half of the message.
-    pub fn read_shared(self, alloc: Global) -> Result<(SharedBytes, Unread<'a>), WireError>
-        ensures { Gives (λ x. (x.0, left_of x.1)) result
-            ((forms.opaque NO_LIMIT).at (left_of self.entry)) }
+    pub fn read_shared(self, alloc: Global) -> Result<(SharedBytes, &'a [u8]), WireError>
+        ensures { Gives (λ x. (x.0, x.1.now)) result ((forms.opaque NO_LIMIT).at (left_of self.entry)) }
     {
         match self {
-            Unread::Own(bytes) => {
-                let (value, rest) = SharedBytes::read(alloc, bytes)?;
-                Ok((value, Unread::Own(rest)))
-            }
+            Unread::Own(bytes) => SharedBytes::read(alloc, bytes),
             Unread::Shared(all, start) => read_part(alloc, all, start),
         }
     }
@@ -71,17 +66,16 @@ fn read_part(
     alloc: Global,
     all: &SharedBytes,
     start: usize,
-) -> Result<(SharedBytes, Unread<'_>), WireError>
-    ensures { Gives (λ x. (x.0, left_of x.1)) result
+) -> Result<(SharedBytes, &[u8]), WireError>
+    ensures { Gives (λ x. (x.0, x.1.now)) result
         ((forms.opaque NO_LIMIT).at (drop start all.now)) }
 {
-    let unread = Unread::Shared(all, start);
-    let left = unread.as_slice();
+    let left = bytes_from(all.as_slice(), start);
     let (value, rest) = read_opaque(left, crate::NO_LIMIT)?;
     // The data are behind the four bytes of their length.
     let start = all.as_slice().len() - (left.len() - 4);
     let part = part_or_copy(alloc, all, start, value.len())?;
-    Ok((part, unread.after(rest)))
+    Ok((part, rest))
 }
 
 // So many of these bytes, from this one on: a part of them if they are many and at least half of all, else a copy.
